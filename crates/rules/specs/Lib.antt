@@ -1,0 +1,3 @@
+pub mod EdgeSet
+pub mod Pair
+pub mod Closing
