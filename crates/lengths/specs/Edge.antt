@@ -1,7 +1,8 @@
 -- Points, edges and their order (01, "Points, lengths, marks").
-use Prim.Native.Nat.{ℕ, zero, suc, _+_, _-_, _*_, _/_, _≤_}
+use Prim.Native.Nat.{ℕ, zero, suc, _+_, _-_, _*_, _/_, _≤_, _<_}
 use mathlib.Core.Path.{_≡_}
 use mathlib.Core.Bool.{Bool, true, false}
+use mathlib.Core.Logic.{_⊎_}
 use mathlib.Core.List.{List, [], _∷_, _++_}
 use lib.Dec.{ltb}
 
@@ -31,3 +32,37 @@ rows a (suc k) = row a (suc a) (suc k) ++ rows (suc a) k
 -- the edges of n points in 01's order: 1-2, 1-3, .., 1-n, 2-3, ..
 unfoldable pub edges : ℕ → List Edge
 edges n = rows 1 (n - 1)
+
+-- how many edges k points have, counted point by point: a further point brings an edge to each point before it
+unfoldable pub tri : ℕ → ℕ
+tri zero = 0
+tri (suc k) = tri k + k
+
+-- the place, from 0, of the edge ab with a < b: first stand the rows of 1 to a - 1, then a's edges to the points below b
+unfoldable pub placeUp : ℕ → ℕ → ℕ → ℕ
+placeUp n a b = tri n - tri (n + 1 - a) + (b - a - 1)
+
+-- the place of the edge ab, in either order of its points
+unfoldable pub place : ℕ → ℕ → ℕ → ℕ
+place n a b = elim (ltb a b) [ true ↦ placeUp n a b | false ↦ placeUp n b a ]
+
+-- ab is an edge of an instance of n points
+pub record IsEdge (n a b : ℕ) : Type 0 where
+  pub first : Point n a
+  pub second : Point n b
+  pub apart : a ≡ b → ⊥
+
+-- ab is an edge, and a its lower point
+pub record IsEdgeUp (n a b : ℕ) : Type 0 where
+  pub low : 1 ≤ a
+  pub up : a < b
+  pub high : b ≤ n
+
+-- 01's order of two edges ab and cd, each with its lower point first: by the lower point, then by the higher
+abbrev pub Before : ℕ → ℕ → ℕ → ℕ → Type 0
+Before a b c d = (a < c) ⊎ ((a ≡ c) × (b < d))
+
+-- what `place` answers: the place of ab, which lies in a table of n points
+pub record Placed (n a b r : ℕ) : Type 0 where
+  pub at : r ≡ place n a b
+  pub inside : r < edgeCount n

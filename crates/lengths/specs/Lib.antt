@@ -1,1 +1,4 @@
+pub mod Distance
 pub mod Edge
+pub mod Instance
+pub mod Table

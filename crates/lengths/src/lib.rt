@@ -1,1 +1,5 @@
-// The first layer.
+// The first layer: the order of edges, TSPLIB's distances, and tables of lengths.
+pub mod distance;
+pub mod edge;
+pub mod instance;
+pub mod table;

@@ -1,0 +1,36 @@
+-- The laws of `lengthOf` that the layers above use: 0 from a point to itself, the same for ab and ba, and where the table holds it.
+-- Assumes nothing.
+use Prim.Native.Nat.{ℕ, _<_}
+use mathlib.Core.Path.{_≡_, refl, sym, _∙_, ap}
+use mathlib.Core.Bool.{Bool, true, false}
+use mathlib.Core.Logic.{_⊎_, ⊎-elim}
+use mathlib.Core.List.{List}
+use native.Mathlib.Omega.{arith}
+use lib.Dec.{eqb}
+use lib.ListN.{getD}
+use borrow.Author.Tests.{eq-eqb, ne-eqb}
+use Rattle.lengths.specs.Edge.{place, placeUp}
+use Rattle.lengths.specs.Table.{lengthOf}
+use Rattle.lengths.proofs.Edges.{place-symmetric, place-up, three-way}
+
+pub length-self : (n : ℕ) (table : List ℕ) (a : ℕ) → lengthOf n table a a ≡ 0
+unfolding lengthOf
+length-self n table a = rw (lengthOf, eq-eqb a a refl)
+
+pub length-apart : (n : ℕ) (table : List ℕ) (a b : ℕ) → (a ≡ b → ⊥) → lengthOf n table a b ≡ getD table (place n a b) 0
+unfolding lengthOf
+length-apart n table a b h = rw (lengthOf, ne-eqb a b h)
+
+pub length-symmetric : (n : ℕ) (table : List ℕ) (a b : ℕ) → lengthOf n table a b ≡ lengthOf n table b a
+length-symmetric n table a b = ⊎-elim (λ h. apart (λ e. omega arith))
+    (⊎-elim (λ h. apart (λ e. omega arith)) (λ h. rw h)) (three-way a b)
+  where
+    apart : (a ≡ b → ⊥) → lengthOf n table a b ≡ lengthOf n table b a
+    apart h =
+        length-apart n table a b h
+        ∙ ap (λ (i : ℕ). getD table i 0) (place-symmetric n a b)
+        ∙ sym (length-apart n table b a (λ e. h (sym e)))
+
+-- the row of a: its edge to b > a stands at `placeUp`
+pub length-up : (n : ℕ) (table : List ℕ) (a b : ℕ) → a < b → lengthOf n table a b ≡ getD table (placeUp n a b) 0
+length-up n table a b h = length-apart n table a b (λ e. omega arith) ∙ ap (λ (i : ℕ). getD table i 0) (place-up n a b h)

@@ -1,0 +1,36 @@
+// The edges of an instance and their places in a table or a set of marks.
+ghost use mathlib.Core.Path.{_≡_};
+ghost use Rattle.lengths.specs.Edge.{edgeCount, IsEdge, IsEdgeUp, Placed, placeUp};
+
+// How many edges n points have.
+pub fn count(n: u16) -> usize
+    ensures { λ r. ⌜ r ≡ edgeCount n ⌝ }
+{
+    let points = n as usize;
+    if points == 0 {
+        return 0;
+    }
+    points * (points - 1) / 2
+}
+
+// The place of the edge ab, in either order of its points.
+pub fn place(n: u16, a: u16, b: u16) -> usize
+    requires { ⌜ IsEdge n a b ⌝ }
+    ensures { λ r. ⌜ Placed n a b r ⌝ }
+{
+    if a < b {
+        return place_up(n, a, b);
+    }
+    place_up(n, b, a)
+}
+
+// The place of the edge ab, where a < b: the rows of 1 to a - 1 have n - 1, n - 2, .. edges.
+fn place_up(n: u16, a: u16, b: u16) -> usize
+    requires { ⌜ IsEdgeUp n a b ⌝ }
+    ensures { λ r. ⌜ r ≡ placeUp n a b ⌝ }
+{
+    let points = n as usize;
+    let low = a as usize;
+    let high = b as usize;
+    (low - 1) * (2 * points - low) / 2 + (high - low - 1)
+}

@@ -1,0 +1,22 @@
+// Tables of lengths: one 32-bit length an edge, in 01's order.
+use crate::edge;
+ghost use mathlib.Core.Path.{_≡_};
+ghost use Rattle.lengths.specs.Table.{Spans, LengthIs};
+
+// The length between a and b by the table of n points: 0 from a point to itself.
+pub fn length_between(n: u16, table: &[u32], a: u16, b: u16) -> u64
+    requires { ⌜ Spans n (now table) a b ⌝ }
+    ensures { λ r. ⌜ LengthIs n (now (table .entry)) a b r ⌝ }
+{
+    if a == b {
+        return 0;
+    }
+    let at = edge::place(n, a, b);
+    wide(table[at])
+}
+
+fn wide(x: u32) -> u64
+    ensures { λ r. ⌜ r ≡ x ⌝ }
+{
+    x as u64
+}
