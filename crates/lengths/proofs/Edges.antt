@@ -127,6 +127,29 @@ placeUp-injective {n} {a} {b} {c} {d} e f h = ⊎-elim
         (λ k. ⊎-elim (λ k. absurd (omega (arith, placeUp-rises f e (inr (sym g, k))))) (λ k. k) k)
         (three-way b d)
 
+-- the edge after ab in 01's order: to the next point of its row, or, where b is n, the first of the next row
+pub next-in-row : {n a b i : ℕ} → IsEdgeUp n a b → placeUp n a b ≡ i → b < n → IsEdgeUp n a (b + 1) × (placeUp n a (b + 1) ≡ i + 1)
+next-in-row {n} {a} {b} {i} e h g =
+    let f : IsEdgeUp n a (b + 1) = record { low = e .low; up = omega (arith, e); high = omega arith } in
+    (f, omega (arith, placeUp-sum e, placeUp-sum f, e))
+
+-- the edge of the last two points is the last
+row-below : {n a b i : ℕ} → IsEdgeUp n a b → placeUp n a b ≡ i → n ≤ b → i + 1 < edgeCount n → a + 1 < n
+row-below {n} {a} {b} {i} e h g k = elim (decLt (a + 1) n) [
+  | yes l ↦ l
+  | no l ↦
+      let m : n - a ≡ 1 = omega (arith, e) in
+      absurd (omega (arith, placeUp-sum e, tri-row n a (omega (arith, e)), ap tri m, tri-suc 0, tri-square 0, edgeCount-tri n, e))
+]
+
+pub next-row : {n a b i : ℕ} → IsEdgeUp n a b → placeUp n a b ≡ i → n ≤ b → i + 1 < edgeCount n
+    → IsEdgeUp n (a + 1) (a + 1 + 1) × (placeUp n (a + 1) (a + 1 + 1) ≡ i + 1)
+next-row {n} {a} {b} {i} e h g k =
+    let t : n + 1 - (a + 1) ≡ n - a = omega (arith, e) in
+    let below : a + 1 < n = row-below e h g k in
+    let f : IsEdgeUp n (a + 1) (a + 1 + 1) = record { low = omega arith; up = omega arith; high = omega arith } in
+    (f, omega (arith, placeUp-sum e, placeUp-sum f, tri-row n a (omega (arith, e)), ap tri t, e))
+
 -- the list of edges
 
 pub length-row : (a b k : ℕ) → length (row a b k) ≡ k

@@ -1,5 +1,9 @@
 pub mod Bisect
+pub mod Coordinates
 pub mod Edges
+pub mod Filling
+pub mod Instances
+pub mod Measuring
 pub mod Products
 pub mod Searching
 pub mod Tables

@@ -1,4 +1,5 @@
 pub mod Distance
 pub mod Edge
 pub mod Instance
+pub mod Measure
 pub mod Table

@@ -2,4 +2,6 @@
 pub mod distance;
 pub mod edge;
 pub mod instance;
+pub mod measure;
+pub mod refusal;
 pub mod table;

@@ -1,0 +1,48 @@
+-- What test 1 says of the number of points. Assumes nothing.
+use Prim.Native.Nat.{ℕ, _≤_}
+use mathlib.Core.Path.{_≡_, refl, sym, _∙_, ap}
+use mathlib.Core.Bool.{Bool, true, false, true≢false}
+use native.Mathlib.Omega.{arith}
+use lib.Dec.{leb}
+use borrow.Author.Tests.{leb-true}
+use Rattle.lengths.specs.Instance.{inRange, admission}
+use Rattle.lengths.specs.declared.instance.Instance.{Instance}
+use Rattle.lengths.specs.declared.instance.Admission.{Admission}
+use Rattle.lengths.specs.declared.instance.Admission.the-variants.{Admitted, OutOfRange}
+
+-- the instance i has n points, 4 to 180
+pub record Admits (n : ℕ) (i : Instance) : Type 0 where
+  pub range : inRange n ≡ true
+  pub points : i .points ≡ n
+  pub least : 4 ≤ n
+  pub most : n ≤ 180
+
+in-range : (n : ℕ) → inRange n ≡ true → (4 ≤ n) × (n ≤ 180)
+unfolding inRange
+in-range n h = go (leb 4 n) refl
+  where
+    go : (b : Bool) → leb 4 n ≡ b → (4 ≤ n) × (n ≤ 180)
+    go true e = (leb-true 4 n e, leb-true n 180 (rw (inRange, e) at h))
+    go false e = absurd (true≢false (sym (rw (inRange, e) at h)))
+
+-- the points of two equal admissions
+points-of : {i j : Instance} → Admitted i ≡ Admitted j → i .points ≡ j .points
+points-of {i} {j} g = let e : i ≡ j = cc in ap (λ (k : Instance). k .points) e
+
+pub admitted : {n : ℕ} {i : Instance} → admission n ≡ Admitted i → Admits n i
+unfolding admission
+admitted {n} {i} h = go (inRange n) refl
+  where
+    go : (b : Bool) → inRange n ≡ b → Admits n i
+    go true e =
+        let g : Admitted (record { points = n }) ≡ Admitted i = rw (admission, e) at h in
+        record { range = e; points = sym (points-of g); least = in-range n e .0; most = in-range n e .1 }
+    go false e = absurd (let z : _≡_ {A = ℕ} 0 1 = let g : OutOfRange ≡ Admitted i = rw (admission, e) at h in cc in omega arith)
+
+pub out-of-range : (n : ℕ) → admission n ≡ OutOfRange → inRange n ≡ false
+unfolding admission
+out-of-range n h = go (inRange n) refl
+  where
+    go : (b : Bool) → inRange n ≡ b → inRange n ≡ false
+    go true e = absurd (let z : _≡_ {A = ℕ} 0 1 = let g : Admitted (record { points = n }) ≡ OutOfRange = rw (admission, e) at h in cc in omega arith)
+    go false e = e

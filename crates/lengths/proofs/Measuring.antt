@@ -1,0 +1,82 @@
+-- `measured` and `tableAfter` at each way out of `measure`, from the tests that led there. Assumes nothing.
+use Prim.Native.Nat.{ℕ, _*_}
+use mathlib.Core.Path.{_≡_, refl, sym, _∙_, ap}
+use mathlib.Core.Bool.{Bool, true, false}
+use mathlib.Core.List.{List}
+use native.Mathlib.Omega.{arith}
+use lib.ListN.{length}
+use borrow.Author.Tests.{eq-eqb, ne-eqb}
+use Rattle.lengths.specs.Distance.{ruleOf}
+use Rattle.lengths.specs.Edge.{edgeCount}
+use Rattle.lengths.specs.Measure.{measured, tableAfter, measuredTable, within, Fillable, MeasuredAs}
+use Rattle.lengths.specs.declared.distance.NamedRule.{NamedRule}
+use Rattle.lengths.specs.declared.distance.NamedRule.the-variants.{Known, Unknown}
+use Rattle.lengths.specs.declared.distance.Rule.{Rule}
+use Rattle.lengths.specs.declared.instance.Admission.the-variants.{Admitted, OutOfRange}
+use Rattle.lengths.specs.declared.instance.Instance.{Instance}
+use Rattle.lengths.specs.Instance.{admission}
+use Rattle.lengths.specs.declared.measure.Measured.{Measured}
+use Rattle.lengths.specs.declared.measure.Measured.the-variants.{Done, Refused}
+use Rattle.lengths.proofs.Coordinates.{within-each}
+use Rattle.lengths.proofs.Instances.{Admits, admitted, out-of-range}
+
+-- tests 1 and 2 are passed
+pub record Sized (n : ℕ) (i : Instance) (cs table : List ℕ) : Type 0 where
+  pub admits : Admits n i
+  pub coordinates : length cs ≡ 2 * n
+  pub whole : length table ≡ edgeCount n
+
+pub sized : {n : ℕ} {i : Instance} {cs table : List ℕ} → Admits n i → length cs ≡ 2 * i .points → length table ≡ edgeCount (i .points) → Sized n i cs table
+sized a c t = record { admits = a; coordinates = omega (arith, a .points); whole = t ∙ ap edgeCount (a .points) }
+
+module _ {n rule : ℕ} {cs table : List ℕ} where
+  refused : {k : ℕ} → measured n rule cs (length table) ≡ Refused k → MeasuredAs n rule cs table (Refused k) table
+  unfolding tableAfter
+  refused h = record { answered = sym h; table-left = rw (tableAfter, h) }
+
+  pub refused-points : admission n ≡ OutOfRange → MeasuredAs n rule cs table (Refused 1) table
+  unfolding measured
+  refused-points h = refused (rw (measured, out-of-range n h))
+
+  pub refused-coordinates : {i : Instance} → Admits n i → (length cs ≡ 2 * i .points → ⊥) → MeasuredAs n rule cs table (Refused 2) table
+  unfolding measured
+  refused-coordinates a h = refused (rw (measured, a .range, ne-eqb (length cs) (2 * n) (λ e. h (omega (arith, a .points)))))
+
+  pub refused-table : {i : Instance} → Admits n i → length cs ≡ 2 * i .points → (length table ≡ edgeCount (i .points) → ⊥)
+      → MeasuredAs n rule cs table (Refused 2) table
+  unfolding measured
+  refused-table a c h = refused
+      (rw (
+        measured,
+        a .range,
+        eq-eqb (length cs) (2 * n) (omega (arith, a .points)),
+        ne-eqb (length table) (edgeCount n) (λ e. h (e ∙ ap edgeCount (sym (a .points)))),
+      ))
+
+  module _ {i : Instance} (s : Sized n i cs table) where
+    pub refused-rule : ruleOf rule ≡ Unknown → MeasuredAs n rule cs table (Refused 3) table
+    unfolding measured
+    refused-rule h = refused
+        (rw (measured, s .admits .range, eq-eqb (length cs) (2 * n) (s .coordinates), eq-eqb (length table) (edgeCount n) (s .whole), h))
+
+    module _ {known : Rule} (k : ruleOf rule ≡ Known known) where
+      pub refused-limit : within cs ≡ false → MeasuredAs n rule cs table (Refused 4) table
+      unfolding measured
+      refused-limit h = refused
+          (rw (measured, s .admits .range, eq-eqb (length cs) (2 * n) (s .coordinates), eq-eqb (length table) (edgeCount n) (s .whole), k, h))
+
+      pub done : {left : List ℕ} → within cs ≡ true → left ≡ measuredTable known cs (i .points) → MeasuredAs n rule cs table Done left
+      unfolding measured tableAfter
+      done {left} w l =
+          let m : measured n rule cs (length table) ≡ Done =
+          rw (measured, s .admits .range, eq-eqb (length cs) (2 * n) (s .coordinates), eq-eqb (length table) (edgeCount n) (s .whole), k, w) in
+          record { answered = sym m; table-left = rw (tableAfter, m, k) (l ∙ ap (measuredTable known cs) (s .admits .points)) }
+
+pub fillable : {n : ℕ} {i : Instance} {cs table : List ℕ} → Sized n i cs table → within cs ≡ true → Fillable (i .points) cs table
+fillable {n} {i} {cs} {table} s w = record {
+  some = omega (arith, s .admits);
+  few = omega (arith, s .admits);
+  located = omega (arith, s .admits .points, s .coordinates);
+  small = within-each cs w;
+  whole = s .whole ∙ ap edgeCount (sym (s .admits .points));
+}

@@ -1,0 +1,104 @@
+use mathlib.Core.Path.{_≡_}
+use borrow.Author.Tests.{not-true, not-false}
+use denote.Ref.{now}
+use Rattle.lengths.specs.Distance.{ruleOf}
+use Rattle.lengths.specs.declared.distance.NamedRule.the-variants.{Known}
+-- `lengths::measure::measure` meets its contract: each way out has its lemma in `Measuring`. Assumes nothing.
+use mathlib.Core.Path.{sym, _∙_}
+use Rattle.lengths.proofs.Instances.{Admits, admitted}
+use Rattle.lengths.proofs.Measuring.{Sized, sized, refused-points, refused-coordinates, refused-table, refused-rule, refused-limit, done, fillable}
+use borrow.Author.Needs.{needs}
+use Rattle.lengths.proofs.measure.measure.Statement.{statement}
+use Rattle.lengths.proofs.measure.measure.Tie as tie
+
+-- test 1 is passed
+admits : (c : tie.After-known-told) → Admits (c .before .before .before .before .before .before .args .n) (c .before .instance .given .0 .0)
+admits c = admitted (sym (c .before .before .before .admit .ensures) ∙ c .before .instance .given .1)
+
+-- and test 2
+sizes : (c : tie.Else2) → let s = c .before .before .before .before .before .before .before .before .before in
+    Sized (s .args .n) (c .before .before .before .before .instance .given .0 .0) (now (s .args .coordinates)) (now (s .args .table))
+sizes c = sized (admits (c .before .before .before)) (c .before .before .if1 .left) (c .if2 .left ∙ c .before .count .ensures)
+
+-- and test 3
+rule-known : (c : tie.After-known-told2) → ruleOf (c .before .before .before .before .before .before .before .before .before .before .before .before .before .args .rule) ≡ Known (c .before .known .given .0 .0)
+rule-known c = sym (c .before .before .before .numbered .ensures) ∙ c .before .known .given .1
+
+admit-requires : tie.Need-admit-requires
+admit-requires c κs = search needs
+
+enum-known-instance : tie.Need-enum-known-instance
+enum-known-instance c = search needs
+
+enum-told : tie.Need-enum-told
+enum-told c = search needs
+
+returns : tie.Need-returns
+returns c = refused-points (sym (c .before .before .admit .ensures) ∙ c .enum-told .given .1)
+
+cast-if1 : tie.Need-cast-if1
+cast-if1 c = search needs
+
+mul-if1 : tie.Need-mul-if1
+mul-if1 c = search needs
+
+returns-2 : tie.Need-returns-2
+returns-2 c = refused-coordinates (admits (c .before)) (c .if1 .taken)
+
+count-requires : tie.Need-count-requires
+count-requires c κs = search needs
+
+returns-3 : tie.Need-returns-3
+returns-3 c = refused-table (admits (c .before .before .before)) (c .before .before .if1 .left) (λ e. c .if2 .taken (e ∙ sym (c .before .count .ensures)))
+
+numbered-requires : tie.Need-numbered-requires
+numbered-requires c κs = search needs
+
+enum-known-known : tie.Need-enum-known-known
+enum-known-known c = search needs
+
+enum-told-2 : tie.Need-enum-told-2
+enum-told-2 c = search needs
+
+returns-4 : tie.Need-returns-4
+returns-4 c = refused-rule (sizes (c .before .before .before)) (sym (c .before .before .numbered .ensures) ∙ c .enum-told2 .given .1)
+
+all-within-requires : tie.Need-all-within-requires
+all-within-requires c κs = search needs
+
+returns-5 : tie.Need-returns-5
+returns-5 c = refused-limit (sizes (c .before .before .before .before .before .before)) (rule-known (c .before .before)) (sym (c .before .all-within .ensures) ∙ not-true _ (c .if3 .taken))
+
+fill-requires : tie.Need-fill-requires
+fill-requires c κs = fillable (sizes (c .before .before .before .before .before .before .before)) (sym (c .before .before .all-within .ensures) ∙ not-false _ (c .before .if3 .left))
+
+same-length : tie.Need-same-length
+same-length c = search needs
+
+returns-6 : tie.Need-returns-6
+returns-6 c =
+    let k = c .before .before .before .before in
+    done (sizes (k .before .before .before .before .before .before)) (rule-known (k .before .before)) (sym (k .before .all-within .ensures) ∙ not-false _ (k .if3 .left)) (c .before .before .fill .ensures)
+
+pub measure-spec : {M : Type 1} → statement M
+measure-spec =
+    tie.close
+    (tie.spec
+    admit-requires
+    enum-known-instance
+    enum-told
+    returns
+    cast-if1
+    mul-if1
+    returns-2
+    count-requires
+    returns-3
+    numbered-requires
+    enum-known-known
+    enum-told-2
+    returns-4
+    all-within-requires
+    returns-5
+    fill-requires
+    same-length
+    returns-6)

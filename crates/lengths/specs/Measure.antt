@@ -1,0 +1,96 @@
+-- The operation "measure" (01, "Each operation and its refusals"): coordinates into a table.
+use Prim.Native.Nat.{ℕ, _+_, _-_, _*_, _≤_, _<_}
+use mathlib.Core.Path.{_≡_}
+use mathlib.Core.Bool.{Bool, true, false, _&&_}
+use mathlib.Core.List.{List, [], _∷_, map}
+use lib.Dec.{leb, eqb}
+use lib.ListN.{length, getD}
+use Rattle.lengths.specs.Distance.{distanceBy, ruleOf}
+use Rattle.lengths.specs.Edge.{Edge, edge, edges, edgeCount}
+use Rattle.lengths.specs.Instance.{inRange}
+use Rattle.lengths.specs.declared.distance.Rule.{Rule}
+use Rattle.lengths.specs.declared.distance.NamedRule.{NamedRule}
+use Rattle.lengths.specs.declared.distance.NamedRule.the-variants.{Known, Unknown}
+use Rattle.lengths.specs.declared.measure.Measured.{Measured}
+use Rattle.lengths.specs.declared.measure.Measured.the-variants.{Done, Refused}
+
+-- the coordinates of point a: x and y of point 1 stand first, then those of point 2
+unfoldable pub xOf : List ℕ → ℕ → ℕ
+xOf coordinates a = getD coordinates (2 * (a - 1)) 0
+
+unfoldable pub yOf : List ℕ → ℕ → ℕ
+yOf coordinates a = getD coordinates (2 * (a - 1) + 1) 0
+
+-- the difference of two numbers, whichever is larger
+unfoldable pub gapOf : ℕ → ℕ → ℕ
+gapOf a b = (a - b) + (b - a)
+
+-- S, the sum of the two squared coordinate differences
+unfoldable pub squares : List ℕ → ℕ → ℕ → ℕ
+squares cs a b = gapOf (xOf cs a) (xOf cs b) * gapOf (xOf cs a) (xOf cs b) + gapOf (yOf cs a) (yOf cs b) * gapOf (yOf cs a) (yOf cs b)
+
+-- the distance of an edge's points
+unfoldable pub edgeDistance : Rule → List ℕ → Edge → ℕ
+edgeDistance rule cs (edge a b) = distanceBy rule (squares cs a b)
+
+-- the table of n points: the distance of each edge, in 01's order
+unfoldable pub measuredTable : Rule → List ℕ → ℕ → List ℕ
+measuredTable rule cs n = map (edgeDistance rule cs) (edges n)
+
+-- no coordinate is above 1,000,000
+unfoldable pub within : List ℕ → Bool
+within [] = true
+within (x ∷ xs) = leb x 1000000 && within xs
+
+-- refused with this number unless the test passes
+abbrev pub unless : Bool → ℕ → Measured → Measured
+unless true number rest = rest
+unless false number rest = Refused number
+
+abbrev pub unlessKnown : NamedRule → ℕ → Measured → Measured
+unlessKnown (Known rule) number rest = rest
+unlessKnown Unknown number rest = Refused number
+
+-- 01's tests in their order: n, the two sizes, the rule, the coordinates
+unfoldable pub measured : ℕ → ℕ → List ℕ → ℕ → Measured
+measured n rule cs size =
+    unless (inRange n) 1
+    (unless (eqb (length cs) (2 * n)) 2
+    (unless (eqb size (edgeCount n)) 2
+    (unlessKnown (ruleOf rule) 3
+    (unless (within cs) 4
+    Done))))
+
+-- the table that is left: filled where nothing is refused, else as it was
+abbrev pub leftBy : Measured → NamedRule → ℕ → List ℕ → List ℕ → List ℕ
+leftBy (Refused number) named n cs table = table
+leftBy Done (Known rule) n cs table = measuredTable rule cs n
+leftBy Done Unknown n cs table = table
+
+unfoldable pub tableAfter : ℕ → ℕ → List ℕ → List ℕ → List ℕ
+tableAfter n rule cs table = leftBy (measured n rule cs (length table)) (ruleOf rule) n cs table
+
+-- no coordinate is above 1,000,000, as a fact of each
+abbrev pub Within : List ℕ → Type 0
+Within cs = (i : ℕ) → i < length cs → getD cs i 0 ≤ 1000000
+
+-- a and b are points whose coordinates are there
+pub record Located (cs : List ℕ) (a b : ℕ) : Type 0 where
+  pub low-a : 1 ≤ a
+  pub high-a : 2 * a ≤ length cs
+  pub low-b : 1 ≤ b
+  pub high-b : 2 * b ≤ length cs
+  pub small : Within cs
+
+-- what `fill` is given: at least two points, their coordinates, and a table of their edges
+pub record Fillable (n : ℕ) (cs table : List ℕ) : Type 0 where
+  pub some : 2 ≤ n
+  pub few : n ≤ 180
+  pub located : length cs ≡ 2 * n
+  pub small : Within cs
+  pub whole : length table ≡ edgeCount n
+
+-- what `measure` ensures: its answer, and the table that it leaves
+pub record MeasuredAs (n rule : ℕ) (cs table : List ℕ) (answer : Measured) (left : List ℕ) : Type 0 where
+  pub answered : answer ≡ measured n rule cs (length table)
+  pub table-left : left ≡ tableAfter n rule cs table

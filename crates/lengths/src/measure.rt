@@ -1,0 +1,97 @@
+// The operation "measure": coordinates into a table of lengths.
+use crate::distance::NamedRule;
+use crate::distance::Rule;
+use crate::distance::distance;
+use crate::edge;
+use crate::instance::Admission;
+use crate::instance::Instance;
+use crate::refusal;
+ghost use mathlib.Core.Path.{_≡_};
+ghost use Rattle.lengths.specs.Distance.{distanceBy};
+ghost use Rattle.lengths.specs.Measure.{gapOf, squares, Located, within, Fillable, measuredTable, MeasuredAs};
+
+// The answer of "measure": the table is filled, or the number of the refusal.
+pub enum Measured {
+    Done,
+    Refused(u8),
+}
+
+// The difference of two coordinates.
+fn gap(a: u32, b: u32) -> u64
+    ensures { λ r. ⌜ r ≡ gapOf a b ⌝ }
+{
+    if a < b {
+        return (b - a) as u64;
+    }
+    (a - b) as u64
+}
+
+// The distance of the points a and b.
+fn between(rule: Rule, coordinates: &[u32], a: u16, b: u16) -> u32
+    requires { ⌜ Located (now coordinates) a b ⌝ }
+    ensures { λ r. ⌜ r ≡ distanceBy rule (squares (now (coordinates .entry)) a b) ⌝ }
+{
+    let i = 2 * (a as usize - 1);
+    let j = 2 * (b as usize - 1);
+    let dx = gap(coordinates[i], coordinates[j]);
+    let dy = gap(coordinates[i + 1], coordinates[j + 1]);
+    distance(rule, dx * dx + dy * dy) as u32
+}
+
+// Is no coordinate above the limit?
+fn all_within(coordinates: &[u32]) -> bool
+    ensures { λ r. ⌜ r ≡ within (now (coordinates .entry)) ⌝ }
+{
+    let mut i = 0;
+    while i < coordinates.len() {
+        if Instance::MOST_COORDINATE < coordinates[i] {
+            return false;
+        }
+        i += 1;
+    }
+    true
+}
+
+// Writes the distance of each edge to its place.
+fn fill(n: u16, rule: Rule, coordinates: &[u32], table: &mut [u32])
+    requires { ⌜ Fillable n (now coordinates) (now table) ⌝ }
+    ensures { λ r. ⌜ now (table .exit) ≡ measuredTable rule (now (coordinates .entry)) n ⌝ }
+{
+    let mut a: u16 = 1;
+    let mut b: u16 = 2;
+    let mut at = 0;
+    while at < table.len() {
+        table[at] = between(rule, coordinates, a, b);
+        at += 1;
+        if b < n {
+            b += 1;
+        } else {
+            a += 1;
+            b = a + 1;
+        }
+    }
+}
+
+// Fills the table of n points with their distances by the rule, from the coordinates x and y of point 1, then of 2, and on.
+pub fn measure(n: u32, rule: u32, coordinates: &[u32], table: &mut [u32]) -> Measured
+    ensures { λ r. ⌜ MeasuredAs n rule (now (coordinates .entry)) (now (table .entry)) r (now (table .exit)) ⌝ }
+{
+    let Admission::Admitted(instance) = Instance::admit(n) else {
+        return Measured::Refused(refusal::POINTS);
+    };
+    let points = instance.points;
+    if coordinates.len() != 2 * (points as usize) {
+        return Measured::Refused(refusal::SIZE);
+    }
+    if table.len() != edge::count(points) {
+        return Measured::Refused(refusal::SIZE);
+    }
+    let NamedRule::Known(known) = Rule::numbered(rule) else {
+        return Measured::Refused(refusal::RULE);
+    };
+    if !all_within(coordinates) {
+        return Measured::Refused(refusal::COORDINATE);
+    }
+    fill(points, known, coordinates, table);
+    Measured::Done
+}
