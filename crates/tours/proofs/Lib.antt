@@ -1,0 +1,15 @@
+pub mod Bit
+pub mod Count
+pub mod Points
+pub mod Edges
+pub mod Segment
+pub mod Turn
+pub mod Cut
+pub mod Opened
+pub mod Neighbours
+pub mod ShortCycle
+pub mod Exchange
+pub mod TwoOpt
+pub mod OrOpt
+pub mod ThreeOpt
+pub mod Optimal

@@ -1,0 +1,158 @@
+-- Shortest tours and, more generally, tours that no exchange of at most three edges shortens: they keep to the rules. Their edges are
+-- compatible, their two edges at a point are a feasible pair, and no closing settles edges that they use. Assumes nothing.
+use Prim.Native.Nat.{ℕ, _≤_, _<_}
+use mathlib.Core.Path.{_≡_, sym, ap, ap₂, subst}
+use mathlib.Core.Bool.{Bool, true}
+use mathlib.Core.Logic.{_⊎_, inl, inr, ⊎-elim}
+use mathlib.Core.List.{List, [], _∷_}
+use lib.ListN.{length}
+use native.Mathlib.Decide.{decLe}
+use native.Mathlib.Omega.{arith}
+use Rattle.lengths.specs.Edge.{Edge, edge, Point}
+use Rattle.rules.specs.EdgeSet.{Joins, Has, closedEdges}
+use Rattle.rules.specs.Pair.{Compatible, withPair, MoveSaves, FeasiblePair}
+use Rattle.rules.specs.Closing.{Ends, Crossing, Closes}
+use Rattle.tours.specs.Tour.{total, Uses, Shortest, Symmetric, ThreeOptimal}
+use Rattle.tours.proofs.Count.{tour-once}
+use Rattle.tours.proofs.Edges.{Inside, inside-cons, joins?}
+use Rattle.tours.proofs.Neighbours.{only-two, at-most-two, Neighbours, neighbours}
+use Rattle.tours.proofs.ShortCycle.{no-short-cycle}
+use Rattle.tours.proofs.Exchange.{Exchanged}
+use Rattle.tours.proofs.TwoOpt.{two-opt}
+use Rattle.tours.proofs.OrOpt.{or-opt}
+use Rattle.tours.proofs.ThreeOpt.{three-opt}
+
+-- No tour of n points at all is shorter than a shortest one, so in particular none is that an exchange makes.
+pub shortest-optimal : {n : ℕ} {l : ℕ → ℕ → ℕ} {t : List ℕ} → Shortest n l t → ThreeOptimal n l t
+shortest-optimal S = record { tour = S .tour; optimal = λ u outs ins T X h. S .least u T }
+
+-- the edges that an exchange of at most three edges puts in are together no shorter than those that it takes out
+no-gain : {n : ℕ} {l : ℕ → ℕ → ℕ} {t : List ℕ} {outs ins : List Edge} → ThreeOptimal n l t → Symmetric l → length outs ≤ 3 → Exchanged n t outs ins → total l outs ≤ total l ins
+no-gain {l = l} {outs = outs} {ins = ins} O y h X = omega (arith, X .exchange .balance l y, O .optimal (X .tour) outs ins (X .is-tour) (X .exchange) h)
+
+-- If pq and xy are one edge, one of the two sums is that edge's length twice, which is l(pq) + l(xy). Otherwise one of the two exchanges of
+-- pq and xy makes a tour (`two-opt`), by px and qy or by py and qx. That tour is no shorter than t, so what was put in is no shorter
+-- than what was taken out: that sum is at least l(pq) + l(xy), and so is the larger of the two. Edges that touch are no special case.
+pub optimal-compatible : {n : ℕ} {l : ℕ → ℕ → ℕ} {t : List ℕ} → ThreeOptimal n l t → Symmetric l → (p q x y : ℕ) → Uses t p q → Uses t x y → Compatible l p q x y
+unfolding total
+optimal-compatible {n} {l} {t} O s p q x y hp hx = go (joins? p q x y)
+  where
+    equal : Joins (edge p q) x y → Compatible l p q x y
+    equal (inl e) = omega (arith, ap₂ l (e .0) (e .1), ap (l p) (e .1), ap (l q) (e .0), s p q)
+    equal (inr e) = omega (arith, ap₂ l (e .1) (e .0), ap (l p) (e .1), ap (l q) (e .0), s p q)
+
+    moved : Exchanged n t (edge p q ∷ edge x y ∷ []) (edge p x ∷ edge q y ∷ []) ⊎ Exchanged n t (edge p q ∷ edge x y ∷ []) (edge p y ∷ edge q x ∷ []) → Compatible l p q x y
+    moved (inl X) = omega (arith, no-gain O s (omega arith) X)
+    moved (inr X) = omega (arith, no-gain O s (omega arith) X)
+
+    go : Dec (Joins (edge p q) x y) → Compatible l p q x y
+    go (yes j) = equal j
+    go (no j) = moved (two-opt (O .tour) p q x y hp hx j)
+
+-- the two edges of t at c as a pair that stands
+pub record Standing (n : ℕ) (l : ℕ → ℕ → ℕ) (open? : ℕ → ℕ → Bool) (K : List Edge) (t : List ℕ) (c : ℕ) : Type 0 where
+  pub x : ℕ
+  pub y : ℕ
+  pub feasible : FeasiblePair n l open? K c x y
+  pub uses-x : Uses t c x
+  pub uses-y : Uses t c y
+
+module _
+    {n : ℕ} {l : ℕ → ℕ → ℕ} {t : List ℕ} (O : ThreeOptimal n l t) (s : Symmetric l) (open? : ℕ → ℕ → Bool) (K : List Edge)
+    (all-open : (a b : ℕ) → Uses t a b → open? a b ≡ true) (uses : (a b : ℕ) → Has K a b → Uses t a b)
+  where
+    -- two edges of t at c, named in rising order, stand
+    stand : (c x y : ℕ) → x < y → Uses t c x → Uses t c y → Point n x → Point n y → (x ≡ c → ⊥) → (y ≡ c → ⊥) → Standing n l open? K t c
+    unfolding withPair total
+    stand c x y rising hx hy px py xc yc =
+        record {
+          x = x;
+          y = y;
+          feasible =
+              record {
+                rising = rising;
+                point-x = px;
+                point-y = py;
+                apart-x = xc;
+                apart-y = yc;
+                one = (all-open c x hx, all-open c y hy);
+                two = at-most-two (withPair K c x y) t (tour-once (O .tour)) with-pair;
+                three = no-short-cycle (O .tour) (withPair K c x y) with-pair;
+                four = λ p q h. (optimal-compatible O s c x p q hx (uses p q h), optimal-compatible O s c y p q hy (uses p q h));
+                five = λ u v h uc vc saves. five u v (uses u v h) uc vc saves;
+              };
+          uses-x = hx;
+          uses-y = hy;
+        }
+      where
+        with-pair : Inside (withPair K c x y) (closedEdges t)
+        with-pair = inside-cons (edge c y ∷ K) (closedEdges t) c x hx (inside-cons K (closedEdges t) c y hy uses)
+
+        five : (u v : ℕ) → Uses t u v → (u ≡ c → ⊥) → (v ≡ c → ⊥) → MoveSaves l c x y u v → ⊥
+        five u v h uc vc saves = omega (arith, no-gain O s (omega arith) (or-opt (O .tour) c x y u v hx hy (omega arith) h uc vc))
+
+    -- The tour has three points or more, so c has two different neighbours in it: name them x < y. They are points, and not c.
+    --   1. cx and cy are edges of t, and those are open.
+    --   2. K with cx and cy is a set of edges of t, and no point has three edges in t (`at-most-two`).
+    --   3. A cycle of edges of t has all n points (`no-short-cycle`).
+    --   4. Any two edges of t are compatible (`optimal-compatible`).
+    --   5. An edge uv of K that does not touch c is an edge of t. Moving c from between x and y to between u and v makes a tour
+    --      (`or-opt`), which is no shorter: the move does not save.
+    -- The exchanges take out two or three edges, so t need only be 3-optimal.
+    pub optimal-feasible : 3 ≤ n → (c : ℕ) → Point n c → Standing n l open? K t c
+    optimal-feasible three c p = go (decLe (N .x) (N .y))
+      where
+        N : Neighbours n t c
+        N = neighbours (O .tour) three c p
+
+        go : Dec (N .x ≤ N .y) → Standing n l open? K t c
+        go (yes h) = stand c (N .x) (N .y) (omega (arith, N .apart)) (N .uses-x) (N .uses-y) (N .point-x) (N .point-y) (N .apart-x) (N .apart-y)
+        go (no h) = stand c (N .y) (N .x) (omega arith) (N .uses-y) (N .uses-x) (N .point-y) (N .point-x) (N .apart-y) (N .apart-x)
+
+-- t uses K, so the two ends x and y of r in K are the two neighbours of r in t, and z and w those of s. If t used rs, s would be x or y,
+-- and rs an edge of K, which it is not. So `three-opt` applies, and one of its two moves makes a tour: pq, rx and sw give way to rs, px and
+-- qw, or pq, ry and sz to rs, pz and qy. Which one it is depends on the tour, but a closing saves on both, so that tour is shorter than
+-- t by an exchange of three edges; and t is 3-optimal.
+pub optimal-not-closed :
+    {n : ℕ} {l : ℕ → ℕ → ℕ} {t : List ℕ} → ThreeOptimal n l t → Symmetric l → (K : List Edge) → ((a b : ℕ) → Has K a b → Uses t a b) → (p q r s : ℕ) → Closes l K p q r s → ⊥
+unfolding total
+optimal-not-closed {n} {l} {t} O y K uses p q r s C =
+    go (three-opt (O .tour) p q r s (C .x) (C .y) (C .z) (C .w) hp (X .r-not-p) (X .r-not-q) (X .s-not-p) (X .s-not-q) (X .centres) hx hy (R .apart) hz hw (S .apart) free)
+  where
+    X : Crossing K p q r s (C .x) (C .y) (C .z) (C .w)
+    X = C .crossing
+
+    R : Ends K r (C .x) (C .y)
+    R = X .ends-r
+
+    S : Ends K s (C .z) (C .w)
+    S = X .ends-s
+
+    hp : Uses t p q
+    hp = uses p q (X .edge-of-K)
+
+    hx : Uses t r (C .x)
+    hx = uses r (C .x) (R .has-x)
+
+    hy : Uses t r (C .y)
+    hy = uses r (C .y) (R .has-y)
+
+    hz : Uses t s (C .z)
+    hz = uses s (C .z) (S .has-x)
+
+    hw : Uses t s (C .w)
+    hw = uses s (C .w) (S .has-y)
+
+    free : Uses t r s → ⊥
+    free h =
+        ⊎-elim
+        (λ e. X .rs-free (subst (λ (v : ℕ). Has K r v) (sym e) (R .has-x)))
+        (λ e. X .rs-free (subst (λ (v : ℕ). Has K r v) (sym e) (R .has-y)))
+        (only-two t r (C .x) (C .y) s (tour-once (O .tour) r) hx hy (R .apart) h)
+
+    go :
+        Exchanged n t (edge p q ∷ edge r (C .x) ∷ edge s (C .w) ∷ []) (edge r s ∷ edge p (C .x) ∷ edge q (C .w) ∷ []) ⊎
+        Exchanged n t (edge p q ∷ edge r (C .y) ∷ edge s (C .z) ∷ []) (edge r s ∷ edge p (C .z) ∷ edge q (C .y) ∷ []) →
+        ⊥
+    go (inl E) = omega (arith, no-gain O y (omega arith) E, C .saves .first)
+    go (inr E) = omega (arith, no-gain O y (omega arith) E, C .saves .second)
