@@ -1,7 +1,7 @@
 -- Coordinates: the test of the limit, one after the other, and the sum of squares that it bounds. Assumes nothing.
 use Prim.Native.Nat.{ℕ, zero, suc, _+_, _-_, _*_, _≤_, _<_}
 use mathlib.Core.Path.{_≡_, refl, sym, _∙_, ap, ap₂, subst}
-use mathlib.Core.Bool.{Bool, true, false, _&&_, true≢false}
+use mathlib.Core.Bool.{Bool, true, false}
 use mathlib.Core.List.{List, [], _∷_}
 use native.Mathlib.Nat.{mul-le-mul, le-of-suc-le-suc, add-comm}
 use native.Mathlib.Numerals.{add-one}
@@ -9,6 +9,7 @@ use native.Mathlib.Omega.{arith}
 use lib.Dec.{leb}
 use lib.ListN.{length, getD, drop, drop-of-length-le}
 use lib.Seq.{drop-cons}
+use Rattle.lengths.proofs.Bools.{and-left, and-right}
 use borrow.Author.Tests.{le-leb, lt-leb, leb-true}
 use Rattle.lengths.specs.Measure.{xOf, yOf, gapOf, squares, within, Within, Located}
 
@@ -26,14 +27,6 @@ within-stop cs i h g = rw (drop-cons cs i 0 h, lt-leb (getD cs i 0) 1000000 g)
 pub within-done : (cs : List ℕ) (i : ℕ) → length cs ≤ i → true ≡ within (drop i cs)
 unfolding within
 within-done cs i h = rw (drop-of-length-le cs h)
-
-and-left : (a b : Bool) → (a && b) ≡ true → a ≡ true
-and-left true b h = refl
-and-left false b h = h
-
-and-right : (a b : Bool) → (a && b) ≡ true → b ≡ true
-and-right true b h = h
-and-right false b h = absurd (true≢false (sym h))
 
 -- the test says that each coordinate is within the limit
 pub within-each : (cs : List ℕ) → within cs ≡ true → Within cs

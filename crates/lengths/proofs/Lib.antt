@@ -1,5 +1,7 @@
 pub mod Bisect
+pub mod Bools
 pub mod Coordinates
+pub mod Distances
 pub mod Edges
 pub mod Filling
 pub mod Instances

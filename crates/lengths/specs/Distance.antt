@@ -44,3 +44,14 @@ pub record Measurable (s d : ℕ) : Type 0 where
 pub record Distance (rule : Rule) (s d : ℕ) : Type 0 where
   pub at : d ≡ distanceBy rule s
   pub bits : d < 2 ^ 21
+
+-- 01's rule 1: (2d - 1)² ≤ 4S < (2d + 1)², and d = 0 for S = 0
+pub record IsEuc2d (s d : ℕ) : Type 0 where
+  pub none : s ≡ 0 → d ≡ 0
+  pub low : 1 ≤ s → (2 * d - 1) * (2 * d - 1) ≤ 4 * s
+  pub high : 4 * s < (2 * d + 1) * (2 * d + 1)
+
+-- 01's rule 2: the least d with d² ≥ S
+pub record IsCeil2d (s d : ℕ) : Type 0 where
+  pub reaches : s ≤ d * d
+  pub least : (e : ℕ) → s ≤ e * e → d ≤ e

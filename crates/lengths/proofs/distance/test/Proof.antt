@@ -24,7 +24,7 @@ add-result-2 : tie.Need-add-result-2
 add-result-2 c = search needs
 
 mul-result-4 : tie.Need-mul-result-4
-mul-result-4 c = product-fits 4194303 4194303 (search needs) (search needs) tt
+mul-result-4 c = product-fits 4194304 4194304 (search needs) (search needs) tt
 
 enum-told-2 : tie.Need-enum-told-2
 enum-told-2 c = search needs
