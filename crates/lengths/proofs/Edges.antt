@@ -2,19 +2,16 @@
 -- one edge, and the list of edges has each edge at its place. Assumes nothing.
 use Prim.Native.Nat.{ℕ, zero, suc, _+_, _-_, _*_, _/_, _^_, _≤_, _<_}
 use mathlib.Core.Path.{_≡_, refl, sym, _∙_, ap, ap₂}
-use mathlib.Core.Bool.{Bool, true, false}
 use mathlib.Core.Logic.{_⊎_, inl, inr, ⊎-elim}
-use mathlib.Core.List.{List, [], _∷_, _++_}
-use native.Mathlib.Nat.{mul-add, add-mul, mul-comm, mul-suc, suc-mul, mul-zero, zero-mul, div-eq-of-eq-mul-left, le-of-suc-le-suc, add-sub-cancel-left, le-dest, eq-or-lt-of-le, mul-le-mul, le-of-lt}
+use mathlib.Core.List.{_++_}
+use native.Mathlib.Nat.{mul-suc, suc-mul, div-eq-of-eq-mul-left, le-of-suc-le-suc, eq-or-lt-of-le, mul-le-mul, le-of-lt}
 use native.Mathlib.Decide.{le-ind}
-use native.Mathlib.Numerals.{add-one}
 use native.Mathlib.Decide.{decLt}
 use native.Mathlib.Omega.{arith}
 use lib.ListN.{length, getD, length-append, List·getD-append}
 use lib.Seq.{getD-append-add}
-use lib.Dec.{ltb}
 use borrow.Author.Tests.{lt-ltb, le-ltb}
-use Rattle.lengths.specs.Edge.{Edge, edge, Point, IsEdge, IsEdgeUp, Before, Placed, edgeCount, row, rows, edges, tri, placeUp, place}
+use Rattle.lengths.specs.Edge.{edge, IsEdge, IsEdgeUp, Before, Placed, edgeCount, row, rows, edges, tri, placeUp, place}
 
 -- 2 tri k = k (k - 1), without subtraction
 pub tri-square : (k : ℕ) → 2 * tri k + k ≡ k * k

@@ -1,8 +1,8 @@
 -- The loop of `fill`: up to a place the table has the distances of its edges, and the edge at that place is at hand.
 -- Assumes nothing.
 use Prim.Native.Nat.{ℕ, zero, suc, _+_, _-_, _≤_, _<_}
-use mathlib.Core.Path.{_≡_, refl, sym, _∙_, ap, subst}
-use mathlib.Core.Logic.{_⊎_, inl, inr, ⊎-elim}
+use mathlib.Core.Path.{_≡_, refl, sym, _∙_, ap}
+use mathlib.Core.Logic.{⊎-elim}
 use mathlib.Core.List.{List, [], _∷_, map}
 use native.Mathlib.Nat.{le-of-suc-le-suc}
 use native.Mathlib.Decide.{decLt}
@@ -11,7 +11,7 @@ use lib.ListN.{length, getD, set, length-set, length-map, List·getD-map}
 use lib.Seq.{ext-getD, getD-set-same, getD-set-other}
 use Rattle.lengths.specs.declared.distance.Rule.{Rule}
 use Rattle.lengths.specs.Distance.{distanceBy}
-use Rattle.lengths.specs.Edge.{Edge, edge, edges, edgeCount, tri, placeUp, IsEdge, IsEdgeUp}
+use Rattle.lengths.specs.Edge.{edge, edges, edgeCount, tri, placeUp, IsEdge, IsEdgeUp}
 use Rattle.lengths.specs.Measure.{squares, edgeDistance, measuredTable, Fillable, Located}
 use Rattle.lengths.specs.Table.{lengthOf}
 use Rattle.lengths.proofs.Coordinates.{squares-symmetric}

@@ -1,13 +1,12 @@
 -- What test 1 says of the number of points. Assumes nothing.
 use Prim.Native.Nat.{ℕ, _≤_}
-use mathlib.Core.Path.{_≡_, refl, sym, _∙_, ap}
+use mathlib.Core.Path.{_≡_, refl, sym, ap}
 use mathlib.Core.Bool.{Bool, true, false, true≢false}
 use native.Mathlib.Omega.{arith}
 use lib.Dec.{leb}
 use borrow.Author.Tests.{leb-true}
 use Rattle.lengths.specs.Instance.{inRange, admission}
 use Rattle.lengths.specs.declared.instance.Instance.{Instance}
-use Rattle.lengths.specs.declared.instance.Admission.{Admission}
 use Rattle.lengths.specs.declared.instance.Admission.the-variants.{Admitted, OutOfRange}
 
 -- the instance i has n points, 4 to 180

@@ -5,6 +5,7 @@ pub mod Distances
 pub mod Edges
 pub mod Filling
 pub mod Instances
+pub mod Limits
 pub mod Measuring
 pub mod Products
 pub mod Searching

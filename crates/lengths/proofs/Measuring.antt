@@ -1,24 +1,23 @@
 -- `measured` and `tableAfter` at each way out of `measure`, from the tests that led there. Assumes nothing.
 use Prim.Native.Nat.{ℕ, _*_}
-use mathlib.Core.Path.{_≡_, refl, sym, _∙_, ap}
-use mathlib.Core.Bool.{Bool, true, false}
+use mathlib.Core.Path.{_≡_, sym, _∙_, ap}
+use mathlib.Core.Bool.{true, false}
 use mathlib.Core.List.{List}
 use native.Mathlib.Omega.{arith}
 use lib.ListN.{length}
 use borrow.Author.Tests.{eq-eqb, ne-eqb}
 use Rattle.lengths.specs.Distance.{ruleOf}
 use Rattle.lengths.specs.Edge.{edgeCount}
-use Rattle.lengths.specs.Measure.{measured, tableAfter, measuredTable, within, Fillable, MeasuredAs}
-use Rattle.lengths.specs.declared.distance.NamedRule.{NamedRule}
+use Rattle.lengths.specs.Measure.{measured, tableAfter, measuredTable, Fillable, MeasuredAs}
 use Rattle.lengths.specs.declared.distance.NamedRule.the-variants.{Known, Unknown}
 use Rattle.lengths.specs.declared.distance.Rule.{Rule}
-use Rattle.lengths.specs.declared.instance.Admission.the-variants.{Admitted, OutOfRange}
+use Rattle.lengths.specs.declared.instance.Admission.the-variants.{OutOfRange}
 use Rattle.lengths.specs.declared.instance.Instance.{Instance}
 use Rattle.lengths.specs.Instance.{admission}
-use Rattle.lengths.specs.declared.measure.Measured.{Measured}
 use Rattle.lengths.specs.declared.measure.Measured.the-variants.{Done, Refused}
-use Rattle.lengths.proofs.Coordinates.{within-each}
-use Rattle.lengths.proofs.Instances.{Admits, admitted, out-of-range}
+use Rattle.lengths.specs.Test.{allAtMost}
+use Rattle.lengths.proofs.Limits.{limit-each}
+use Rattle.lengths.proofs.Instances.{Admits, out-of-range}
 
 -- tests 1 and 2 are passed
 pub record Sized (n : ℕ) (i : Instance) (cs table : List ℕ) : Type 0 where
@@ -59,24 +58,24 @@ module _ {n rule : ℕ} {cs table : List ℕ} where
     refused-rule h = refused
         (rw (measured, s .admits .range, eq-eqb (length cs) (2 * n) (s .coordinates), eq-eqb (length table) (edgeCount n) (s .whole), h))
 
-    module _ {known : Rule} (k : ruleOf rule ≡ Known known) where
-      pub refused-limit : within cs ≡ false → MeasuredAs n rule cs table (Refused 4) table
+    module _ {by : Rule} (k : ruleOf rule ≡ Known by) where
+      pub refused-limit : allAtMost 1000000 cs ≡ false → MeasuredAs n rule cs table (Refused 4) table
       unfolding measured
       refused-limit h = refused
           (rw (measured, s .admits .range, eq-eqb (length cs) (2 * n) (s .coordinates), eq-eqb (length table) (edgeCount n) (s .whole), k, h))
 
-      pub done : {left : List ℕ} → within cs ≡ true → left ≡ measuredTable known cs (i .points) → MeasuredAs n rule cs table Done left
+      pub done : {left : List ℕ} → allAtMost 1000000 cs ≡ true → left ≡ measuredTable by cs (i .points) → MeasuredAs n rule cs table Done left
       unfolding measured tableAfter
       done {left} w l =
           let m : measured n rule cs (length table) ≡ Done =
           rw (measured, s .admits .range, eq-eqb (length cs) (2 * n) (s .coordinates), eq-eqb (length table) (edgeCount n) (s .whole), k, w) in
-          record { answered = sym m; table-left = rw (tableAfter, m, k) (l ∙ ap (measuredTable known cs) (s .admits .points)) }
+          record { answered = sym m; table-left = rw (tableAfter, m, k) (l ∙ ap (measuredTable by cs) (s .admits .points)) }
 
-pub fillable : {n : ℕ} {i : Instance} {cs table : List ℕ} → Sized n i cs table → within cs ≡ true → Fillable (i .points) cs table
+pub fillable : {n : ℕ} {i : Instance} {cs table : List ℕ} → Sized n i cs table → allAtMost 1000000 cs ≡ true → Fillable (i .points) cs table
 fillable {n} {i} {cs} {table} s w = record {
   some = omega (arith, s .admits);
   few = omega (arith, s .admits);
   located = omega (arith, s .admits .points, s .coordinates);
-  small = within-each cs w;
+  small = limit-each 1000000 cs w;
   whole = s .whole ∙ ap edgeCount (sym (s .admits .points));
 }

@@ -1,5 +1,5 @@
 -- Products of bounded numbers fit 64 bits. Assumes nothing.
-use Prim.Native.Nat.{ℕ, _*_, _^_, _≤_, _<_}
+use Prim.Native.Nat.{ℕ, _*_, _^_, _≤_}
 use native.Mathlib.Nat.{mul-le-mul, lt-of-le-of-lt}
 use lib.Dec.{T, ltb, ltb→lt}
 use mir.Val.{Fits}

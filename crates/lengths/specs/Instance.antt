@@ -1,9 +1,7 @@
 -- The limits of an instance (01, "Points, lengths, marks") and test 1.
-use Prim.Native.Nat.{ℕ, _≤_}
-use mathlib.Core.Path.{_≡_}
+use Prim.Native.Nat.{ℕ}
 use mathlib.Core.Bool.{Bool, true, false}
 use lib.Dec.{leb}
-use Rattle.lengths.specs.declared.instance.Instance.{Instance}
 use Rattle.lengths.specs.declared.instance.Admission.{Admission}
 use Rattle.lengths.specs.declared.instance.Admission.the-variants.{Admitted, OutOfRange}
 

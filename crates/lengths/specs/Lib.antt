@@ -3,3 +3,4 @@ pub mod Edge
 pub mod Instance
 pub mod Measure
 pub mod Table
+pub mod Test

@@ -1,13 +1,14 @@
 -- The operation "measure" (01, "Each operation and its refusals"): coordinates into a table.
-use Prim.Native.Nat.{ℕ, _+_, _-_, _*_, _≤_, _<_}
+use Prim.Native.Nat.{ℕ, _+_, _-_, _*_, _≤_}
 use mathlib.Core.Path.{_≡_}
-use mathlib.Core.Bool.{Bool, true, false, _&&_}
-use mathlib.Core.List.{List, [], _∷_, map}
-use lib.Dec.{leb, eqb}
+use mathlib.Core.Bool.{Bool, true, false}
+use mathlib.Core.List.{List, map}
+use lib.Dec.{eqb}
 use lib.ListN.{length, getD}
 use Rattle.lengths.specs.Distance.{distanceBy, ruleOf}
 use Rattle.lengths.specs.Edge.{Edge, edge, edges, edgeCount}
 use Rattle.lengths.specs.Instance.{inRange}
+use Rattle.lengths.specs.Test.{allAtMost, AtMost, unless}
 use Rattle.lengths.specs.declared.distance.Rule.{Rule}
 use Rattle.lengths.specs.declared.distance.NamedRule.{NamedRule}
 use Rattle.lengths.specs.declared.distance.NamedRule.the-variants.{Known, Unknown}
@@ -37,28 +38,19 @@ edgeDistance rule cs (edge a b) = distanceBy rule (squares cs a b)
 unfoldable pub measuredTable : Rule → List ℕ → ℕ → List ℕ
 measuredTable rule cs n = map (edgeDistance rule cs) (edges n)
 
--- no coordinate is above 1,000,000
-unfoldable pub within : List ℕ → Bool
-within [] = true
-within (x ∷ xs) = leb x 1000000 && within xs
-
--- refused with this number unless the test passes
-abbrev pub unless : Bool → ℕ → Measured → Measured
-unless true number rest = rest
-unless false number rest = Refused number
-
-abbrev pub unlessKnown : NamedRule → ℕ → Measured → Measured
-unlessKnown (Known rule) number rest = rest
-unlessKnown Unknown number rest = Refused number
+-- the number names a rule
+abbrev pub known : NamedRule → Bool
+known (Known rule) = true
+known Unknown = false
 
 -- 01's tests in their order: n, the two sizes, the rule, the coordinates
 unfoldable pub measured : ℕ → ℕ → List ℕ → ℕ → Measured
 measured n rule cs size =
-    unless (inRange n) 1
-    (unless (eqb (length cs) (2 * n)) 2
-    (unless (eqb size (edgeCount n)) 2
-    (unlessKnown (ruleOf rule) 3
-    (unless (within cs) 4
+    unless (inRange n) (Refused 1)
+    (unless (eqb (length cs) (2 * n)) (Refused 2)
+    (unless (eqb size (edgeCount n)) (Refused 2)
+    (unless (known (ruleOf rule)) (Refused 3)
+    (unless (allAtMost 1000000 cs) (Refused 4)
     Done))))
 
 -- the table that is left: filled where nothing is refused, else as it was
@@ -70,24 +62,20 @@ leftBy Done Unknown n cs table = table
 unfoldable pub tableAfter : ℕ → ℕ → List ℕ → List ℕ → List ℕ
 tableAfter n rule cs table = leftBy (measured n rule cs (length table)) (ruleOf rule) n cs table
 
--- no coordinate is above 1,000,000, as a fact of each
-abbrev pub Within : List ℕ → Type 0
-Within cs = (i : ℕ) → i < length cs → getD cs i 0 ≤ 1000000
-
 -- a and b are points whose coordinates are there
 pub record Located (cs : List ℕ) (a b : ℕ) : Type 0 where
   pub low-a : 1 ≤ a
   pub high-a : 2 * a ≤ length cs
   pub low-b : 1 ≤ b
   pub high-b : 2 * b ≤ length cs
-  pub small : Within cs
+  pub small : AtMost 1000000 cs
 
 -- what `fill` is given: at least two points, their coordinates, and a table of their edges
 pub record Fillable (n : ℕ) (cs table : List ℕ) : Type 0 where
   pub some : 2 ≤ n
   pub few : n ≤ 180
   pub located : length cs ≡ 2 * n
-  pub small : Within cs
+  pub small : AtMost 1000000 cs
   pub whole : length table ≡ edgeCount n
 
 -- what `measure` ensures: its answer, and the table that it leaves

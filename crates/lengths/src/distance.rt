@@ -1,7 +1,7 @@
 // TSPLIB's distances in whole numbers: the least number that passes the rule's growing test.
 ghost use mathlib.Core.Path.{_≡_};
-ghost use Prim.Native.Nat.{_≤_, _<_, _^_};
-ghost use Rattle.lengths.specs.Distance.{passes, distanceBy, Measurable, Distance, ruleOf};
+ghost use Prim.Native.Nat.{_≤_, _<_};
+ghost use Rattle.lengths.specs.Distance.{passes, Measurable, Distance, ruleOf};
 
 // The rules of 01, under TSPLIB's names.
 pub enum Rule {

@@ -8,7 +8,8 @@ use crate::instance::Instance;
 use crate::refusal;
 ghost use mathlib.Core.Path.{_≡_};
 ghost use Rattle.lengths.specs.Distance.{distanceBy};
-ghost use Rattle.lengths.specs.Measure.{gapOf, squares, Located, within, Fillable, measuredTable, MeasuredAs};
+ghost use Rattle.lengths.specs.Test.{allAtMost};
+ghost use Rattle.lengths.specs.Measure.{gapOf, squares, Located, Fillable, measuredTable, MeasuredAs};
 
 // The answer of "measure": the table is filled, or the number of the refusal.
 pub enum Measured {
@@ -40,7 +41,7 @@ fn between(rule: Rule, coordinates: &[u32], a: u16, b: u16) -> u32
 
 // Is no coordinate above the limit?
 fn all_within(coordinates: &[u32]) -> bool
-    ensures { λ r. ⌜ r ≡ within (now (coordinates .entry)) ⌝ }
+    ensures { λ r. ⌜ r ≡ allAtMost 1000000 (now (coordinates .entry)) ⌝ }
 {
     let mut i = 0;
     while i < coordinates.len() {

@@ -3,13 +3,13 @@ use Prim.Native.Nat.{_≤_, _-_}
 use mathlib.Core.Path.{_≡_, refl, sym, _∙_}
 use borrow.Author.Needs.{needs}
 use lib.ListN.{length, drop}
-use Rattle.lengths.specs.Measure.{within}
-use Rattle.lengths.proofs.Coordinates.{within-pass, within-stop, within-done}
+use Rattle.lengths.specs.Test.{allAtMost}
+use Rattle.lengths.proofs.Limits.{limit-pass, limit-stop, limit-done}
 use Rattle.lengths.proofs.measure.all_within.Statement.{statement}
 use Rattle.lengths.proofs.measure.all_within.Tie as tie
 
 abbrev Inv-loop : tie.InvT-loop
-Inv-loop coordinates i₀ i = (i ≤ length coordinates) × (within (drop i coordinates) ≡ within coordinates)
+Inv-loop coordinates i₀ i = (i ≤ length coordinates) × (allAtMost 1000000 (drop i coordinates) ≡ allAtMost 1000000 coordinates)
 
 abbrev μ-loop : tie.MeasureT-loop
 μ-loop coordinates i₀ i = length coordinates - i
@@ -24,7 +24,7 @@ shared-slice-read-if1 : tie.Need-shared-slice-read-if1 Inv-loop μ-loop
 shared-slice-read-if1 c = search needs
 
 returns : tie.Need-returns Inv-loop μ-loop
-returns c = sym (within-stop _ _ (c .before .before .loop-test .taken) (c .if1 .taken)) ∙ c .before .before .before .loop .inv .1
+returns c = sym (limit-stop 1000000 _ _ (c .before .before .loop-test .taken) (c .if1 .taken)) ∙ c .before .before .before .loop .inv .1
 
 add-i : tie.Need-add-i Inv-loop μ-loop
 add-i c = search needs
@@ -33,10 +33,10 @@ loop-less : tie.Need-loop-less Inv-loop μ-loop
 loop-less c = search needs
 
 loop-again : tie.Need-loop-again Inv-loop μ-loop
-loop-again c = (search needs, sym (within-pass _ _ (c .before .before .loop-test .taken) (c .if1 .left)) ∙ c .before .before .before .loop .inv .1)
+loop-again c = (search needs, sym (limit-pass 1000000 _ _ (c .before .before .loop-test .taken) (c .if1 .left)) ∙ c .before .before .before .loop .inv .1)
 
 returns-2 : tie.Need-returns-2 Inv-loop μ-loop
-returns-2 c = within-done _ _ (c .loop-test .left) ∙ c .before .loop .inv .1
+returns-2 c = limit-done 1000000 _ _ (c .loop-test .left) ∙ c .before .loop .inv .1
 
 pub all-within-spec : {M : Type 1} → statement M
 all-within-spec =

@@ -1,0 +1,28 @@
+// The refusals of 01 that this layer gives, by name, in the order of its numbers; 1 to 4 are in lengths::refusal.
+pub const LENGTH: u8 = 5;
+
+pub const MARKS: u8 = 6;
+
+pub const SHEET: u8 = 7;
+
+pub const INDEX_ABOVE: u8 = 8;
+
+pub const INDEX_NOT_ABOVE: u8 = 9;
+
+pub const KIND: u8 = 10;
+
+pub const POINT: u8 = 11;
+
+pub const STRUCK: u8 = 12;
+
+pub const SEVENTH_SPLIT: u8 = 13;
+
+pub const PAIR: u8 = 14;
+
+pub const CROSSING: u8 = 15;
+
+pub const SAVING: u8 = 16;
+
+pub const TOUR: u8 = 17;
+
+pub const LIST: u8 = 18;
