@@ -1,0 +1,15 @@
+pub mod Verdicts
+pub mod Tests
+pub mod Pairs
+pub mod Steps
+pub mod Fuel
+pub mod Equations
+pub mod Sound
+pub mod Complete
+pub mod Exact
+pub mod Sheet
+pub mod SheetExact
+pub mod Safe
+pub mod Numbers
+pub mod Count
+pub mod Tried

@@ -1,0 +1,108 @@
+-- Each test of the walk against what it means: points, records that fit, the next pair, indices that may be entered.
+use Prim.Native.Nat.{ℕ, _≤_, _<_}
+use mathlib.Core.Path.{_≡_, refl, _∙_, ap, ap₂}
+use mathlib.Core.Bool.{Bool, true, false, not, _&&_, false≢true}
+use mathlib.Core.List.{List, [], _∷_}
+use lib.Dec.{leb}
+use borrow.Author.Tests.{leb-true, le-leb, lt-leb, ltb-true, lt-ltb, le-ltb, eqb-true, eqb-false, eq-eqb, ne-eqb, not-true}
+use Rattle.lengths.specs.Edge.{Edge, edge, Point}
+use Rattle.argument.specs.Verdict.{Verdict, accepted, refused}
+use Rattle.argument.specs.Record.{How, splits, crosses, records, isPoint, howFits, fits}
+use Rattle.argument.specs.Layout.{Enters}
+use Rattle.argument.specs.Walk.{entering, noneLeft, isNext, rest}
+use Rattle.argument.proofs.Verdicts.{guard-passed, pass-guard, fail-guard}
+
+pub both : (a b : Bool) → (a && b) ≡ true → (a ≡ true) × (b ≡ true)
+both true b e = (refl, e)
+both false b e = absurd (false≢true e)
+
+pub and-intro : {a b : Bool} → a ≡ true → b ≡ true → (a && b) ≡ true
+and-intro p q = rw (p, q)
+
+pub is-point : (n a : ℕ) → isPoint n a ≡ true → Point n a
+unfolding isPoint
+is-point n a e = let h = both (leb 1 a) (leb a n) e in record { low = leb-true 1 a (h .0); high = leb-true a n (h .1) }
+
+pub point-is : {n a : ℕ} → Point n a → isPoint n a ≡ true
+unfolding isPoint
+point-is {n} {a} p = and-intro (le-leb 1 a (p .low)) (le-leb a n (p .high))
+
+-- what refusal 11 leaves of a record's points
+abbrev pub HowFits : ℕ → How → Type 0
+HowFits n (splits c first) = Point n c
+HowFits n (crosses p q r s) = Point n p × Point n q × Point n r × Point n s
+
+pub record Fits (n a b : ℕ) (how : How) : Type 0 where
+  pub point-a : Point n a
+  pub point-b : Point n b
+  pub apart : a ≡ b → ⊥
+  pub how-fits : HowFits n how
+
+how-fits : (n : ℕ) (how : How) → howFits n how ≡ true → HowFits n how
+unfolding howFits
+how-fits n (splits c first) e = is-point n c e
+how-fits n (crosses p q r s) e =
+    let h = both _ _ e in
+    let k = both _ _ (h .1) in
+    let l = both _ _ (k .1) in
+    (is-point n p (h .0), is-point n q (k .0), is-point n r (l .0), is-point n s (l .1))
+
+fits-how : (n : ℕ) (how : How) → HowFits n how → howFits n how ≡ true
+unfolding howFits
+fits-how n (splits c first) p = point-is p
+fits-how n (crosses p q r s) h = and-intro (point-is (h .0)) (and-intro (point-is (h .1)) (and-intro (point-is (h .2)) (point-is (h .3))))
+
+pub fits-means : (n a b : ℕ) (how : How) → fits n a b how ≡ true → Fits n a b how
+unfolding fits
+fits-means n a b how e =
+    let h = both _ _ e in
+    let k = both _ _ (h .1) in
+    let l = both _ _ (k .1) in
+    record { point-a = is-point n a (h .0); point-b = is-point n b (k .0); apart = eqb-false a b (not-true _ (l .0)); how-fits = how-fits n how (l .1) }
+
+pub means-fits : {n a b : ℕ} {how : How} → Fits n a b how → fits n a b how ≡ true
+unfolding fits
+means-fits {n} {a} {b} {how} f =
+    and-intro (point-is (f .point-a)) (and-intro (point-is (f .point-b)) (and-intro (ap not (ne-eqb a b (f .apart))) (fits-how n how (f .how-fits))))
+
+pub none-left : (ps : List Edge) → noneLeft ps ≡ true → ps ≡ []
+unfolding noneLeft
+none-left [] e = refl
+none-left (p ∷ ps) e = absurd (false≢true e)
+
+pub left-none : (ps : List Edge) → ps ≡ [] → noneLeft ps ≡ true
+unfolding noneLeft
+left-none ps e = rw e
+
+pub next-is : (ps : List Edge) (a b : ℕ) → isNext ps a b ≡ true → ps ≡ edge a b ∷ rest ps
+unfolding isNext rest
+next-is [] a b e = absurd (false≢true e)
+next-is (edge x y ∷ ps) a b e = let h = both _ _ e in ap (λ (p : Edge). p ∷ ps) (ap₂ edge (eqb-true x a (h .0)) (eqb-true y b (h .1)))
+
+pub is-next : (ps : List Edge) (a b : ℕ) (es : List Edge) → ps ≡ edge a b ∷ es → isNext ps a b ≡ true
+unfolding isNext
+is-next ps a b es e = rw e (and-intro (eq-eqb a a refl) (eq-eqb b b refl))
+
+pub rest-is : (ps : List Edge) (e : Edge) (es : List Edge) → ps ≡ e ∷ es → rest ps ≡ es
+unfolding rest
+rest-is ps e es h = rw h
+
+module _ {A : Type 0} (s : List ℕ) (last high i : ℕ) (k : Unit {0} → Verdict A) where
+  pub entering-passed : (a : A) → entering s last high i k ≡ accepted a → Enters s high i × (k tt ≡ accepted a)
+  unfolding entering
+  entering-passed a e =
+      let h = guard-passed _ _ _ _ a e in
+      let l = guard-passed _ _ _ _ a (h .1) in
+      (record { above = ltb-true high i (l .0); inside = leb-true i (records s) (h .0) }, l .1)
+
+  pub pass-entering : Enters s high i → entering s last high i k ≡ k tt
+  unfolding entering
+  pass-entering h = pass-guard _ _ _ _ (le-leb i (records s) (h .inside)) ∙ pass-guard _ _ _ _ (lt-ltb high i (h .above))
+
+  pub refuse-8 : records s < i → entering s last high i k ≡ refused 8 last
+  unfolding entering
+  refuse-8 h = fail-guard _ 8 last _ (lt-leb i (records s) h)
+
+  pub refuse-9 : i ≤ records s → i ≤ high → entering s last high i k ≡ refused 9 last
+  unfolding entering
+  refuse-9 h l = pass-guard _ 8 last _ (le-leb i (records s) h) ∙ fail-guard _ 9 last k (le-ltb high i l)

@@ -1,0 +1,25 @@
+-- How an argument is set down in records (01, "The sheet").
+-- `high` is the highest record entered before the part that is spoken of, and `after` the highest entered when it is done.
+use Prim.Native.Nat.{ℕ, _≤_, _<_}
+use mathlib.Core.Path.{_≡_}
+use mathlib.Core.List.{List}
+use Rattle.argument.specs.Record.{How, splits, crosses, case, records, recordAt}
+use Rattle.argument.specs.Argument.{Cases, none, pair, Closing, split, crossing}
+
+-- "Each record entered has a higher number than all entered before it in the sheet"
+pub record Enters (s : List ℕ) (high i : ℕ) : Type 0 where
+  pub above : high < i
+  pub inside : i ≤ records s
+
+-- the records from i on set down a chain of cases. "Index 0 ends a chain", and "a split's chain is followed to its end before
+-- the next index of the record that holds the split": `middle` is the highest record entered when the first case is closed.
+unfoldable mutual
+  pub Laid : (s : List ℕ) (high i : ℕ) → Cases → (after : ℕ) → Type 0
+  Laid s high i none after = (i ≡ 0) × (after ≡ high)
+  Laid s high i (pair x y t rest) after =
+      (how : How) × (next : ℕ) × (middle : ℕ) × Enters s high i × (recordAt s i ≡ case x y how next) × Holds s i how t middle × Laid s middle next rest after
+
+  -- what the record i holds as its closing sets down a closing
+  pub Holds : (s : List ℕ) (i : ℕ) → How → Closing → (after : ℕ) → Type 0
+  Holds s i how (split c cs) after = (first : ℕ) × (how ≡ splits c first) × Laid s i first cs after
+  Holds s i how (crossing p q r u) after = (how ≡ crosses p q r u) × (after ≡ i)

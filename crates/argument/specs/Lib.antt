@@ -1,0 +1,10 @@
+pub mod Verdict
+pub mod Record
+pub mod Pairs
+pub mod Rules
+pub mod Argument
+pub mod Layout
+pub mod Walk
+pub mod Line
+pub mod Sheet
+pub mod Safety

@@ -1,0 +1,60 @@
+-- The records of a sheet (01, "The sheet"): `recordAt` says by one equation what a record is.
+-- A further form of closing is one more constructor of `How`, with its kind in `content` and its points in `howFits`.
+use Prim.Native.Nat.{ℕ, _+_, _-_, _*_, _/_}
+use mathlib.Core.Bool.{Bool, true, false, not, _&&_}
+use mathlib.Core.List.{List}
+use lib.Dec.{leb, eqb}
+use lib.ListN.{length, getD}
+
+-- "A sheet has .. records numbered from 1, each of eight 16-bit numbers"
+unfoldable pub records : List ℕ → ℕ
+records s = length s / 8
+
+-- number f of the record i: "kind, a, b, u, v, c, d, next", the kind being number 0
+unfoldable pub field : List ℕ → ℕ → ℕ → ℕ
+field s i f = getD s ((i - 1) * 8 + f) 0
+
+-- how a case is closed: by a split at c whose first case is the record `first`, or by the crossing of pq with the centres r and s
+pub data How : Type 0 where
+  splits : (c first : ℕ) → How
+  crosses : (p q r s : ℕ) → How
+
+-- what a record is: a line, a case, or neither
+pub data Record : Type 0 where
+  line : (a b c first next : ℕ) → Record
+  case : (a b : ℕ) → How → (next : ℕ) → Record
+  other : Record
+
+-- "u and v are 0" in kinds 1 and 2; a record that breaks this is neither
+unfoldable pub bare : (u v : ℕ) → Record → Record
+bare u v r = elim (eqb u 0 && eqb v 0) [ true ↦ r | false ↦ other ]
+
+-- "Kind 1, a line: .. Kind 2, a case with a split: .. Kind 3, a case with a crossing: .."
+unfoldable pub content : (kind a b u v c d next : ℕ) → Record
+content kind a b u v c d next =
+    elim (eqb kind 1) [
+      | true ↦ bare u v (line a b c d next)
+      | false ↦ elim (eqb kind 2) [
+        | true ↦ bare u v (case a b (splits c d) next)
+        | false ↦ elim (eqb kind 3) [
+          | true ↦ case a b (crosses u v c d) next
+          | false ↦ other
+        ]
+      ]
+    ]
+
+unfoldable pub recordAt : List ℕ → ℕ → Record
+recordAt s i = content (field s i 0) (field s i 1) (field s i 2) (field s i 3) (field s i 4) (field s i 5) (field s i 6) (field s i 7)
+
+-- a is one of the points 1 to n
+unfoldable pub isPoint : (n a : ℕ) → Bool
+isPoint n a = leb 1 a && leb a n
+
+-- the point fields of a closing are points
+unfoldable pub howFits : ℕ → How → Bool
+howFits n (splits c first) = isPoint n c
+howFits n (crosses p q r s) = isPoint n p && (isPoint n q && (isPoint n r && isPoint n s))
+
+-- refusal 11 does not apply: no "point field outside 1 to n, or a = b". A line is read as a case with a split.
+unfoldable pub fits : (n a b : ℕ) → How → Bool
+fits n a b how = isPoint n a && (isPoint n b && (not (eqb a b) && howFits n how))

@@ -1,0 +1,26 @@
+-- What keeps a tour in question safe, said of any predicate `Good` on edge sets: "the tour uses every edge of K".
+-- `Upheld` is what the rules owe such a tour, `Kept` stands for "every edge of the tour is open under the marks".
+use Prim.Native.Nat.{ℕ}
+use mathlib.Core.Path.{_≡_}
+use mathlib.Core.Bool.{true}
+use mathlib.Core.List.{List, [], _∷_}
+use Rattle.lengths.specs.Edge.{Edge, edge, Point}
+use Rattle.rules.specs.Pair.{withPair}
+use Rattle.argument.specs.Pairs.{Among}
+use Rattle.argument.specs.Rules.{Rules, Lawful}
+use Rattle.argument.specs.Sheet.{Marking}
+
+pub record Upheld (R : Rules) (Good : List Edge → Type 0) : Type 0 where
+  -- the tour's own pair at a point stands, and the tour uses K with it
+  pub keeps : (K : List Edge) (c : ℕ) → Good K → Point (R .n) c → (x : ℕ) × (y : ℕ) × Among (R .pairs K c) x y × Good (withPair K c x y)
+  -- no crossing settles a set that the tour uses
+  pub unsettled : (K : List Edge) (p q r s : ℕ) → Good K → R .Settles K p q r s → ⊥
+
+pub record Guarded {M : Type 0} (𝓜 : Marking M) (Good : List Edge → Type 0) (Kept : M → Type 0) : Type 0 where
+  pub lawful : (m : M) → Kept m → Lawful (𝓜 .rules m)
+  pub upheld : (m : M) → Kept m → Upheld (𝓜 .rules m) Good
+  -- every edge of the tour is open
+  pub shown : (m : M) (a b : ℕ) → Kept m → Good (edge a b ∷ []) → 𝓜 .open? m a b ≡ true
+  -- striking an open edge that the tour does not use leaves the tour's edges open
+  pub spares : (m : M) (a b : ℕ) → Kept m → Point (𝓜 .rules m .n) a → Point (𝓜 .rules m .n) b → (a ≡ b → ⊥) →
+      𝓜 .open? m a b ≡ true → (Good (edge a b ∷ []) → ⊥) → Kept (𝓜 .strike m a b)

@@ -1,0 +1,98 @@
+-- The walk through an argument's records, with 01's refusals in 01's order ("Each operation and its refusals").
+-- `follow` and `close` are open: they take what to do with a further chain as `go`, and `walk` is the one that goes on as itself.
+use Prim.Native.Nat.{ℕ, zero, suc, _-_}
+use mathlib.Core.Bool.{Bool, true, false, _&&_}
+use mathlib.Core.List.{List, [], _∷_}
+use lib.Dec.{leb, ltb, eqb}
+use Rattle.lengths.specs.Edge.{Edge, edge}
+use Rattle.rules.specs.Pair.{withPair}
+use Rattle.argument.specs.Verdict.{Verdict, accepted, refused, guard, unless, andThen}
+use Rattle.argument.specs.Record.{How, splits, crosses, Record, line, case, other, records, recordAt, fits}
+use Rattle.argument.specs.Rules.{Rules}
+
+-- where a walk stands in a chain of cases: at an index that is yet to be followed
+pub record Spot : Type 0 where
+  -- how many splits may still lie one inside another in a case
+  pub left : ℕ
+  -- the split: K and its point
+  pub known : List Edge
+  pub point : ℕ
+  -- the standing pairs that no case has named yet
+  pub pairs : List Edge
+  -- the record that has the index: the last case, or the owner of the split
+  pub last : ℕ
+  pub index : ℕ
+  -- the highest record entered
+  pub high : ℕ
+
+-- "on each index followed: 8, above the record count; 9, not above the highest record entered; both name the record that has the index"
+unfoldable pub entering : {A : Type 0} → (s : List ℕ) (last high i : ℕ) → (Unit {0} → Verdict A) → Verdict A
+entering s last high i go =
+    guard (leb i (records s)) 8 last λ _.
+    guard (ltb high i) 9 last go
+
+unfoldable pub noneLeft : List Edge → Bool
+noneLeft [] = true
+noneLeft (e ∷ es) = false
+
+-- the pair a, b is the next standing one
+unfoldable pub isNext : List Edge → (a b : ℕ) → Bool
+isNext [] a b = false
+isNext (edge x y ∷ es) a b = eqb x a && eqb y b
+
+unfoldable pub rest : List Edge → List Edge
+rest [] = []
+rest (e ∷ es) = es
+
+-- what a chain does at its next index: it ends, or it takes a case whose pair is the next standing one
+pub data Step : Type 0 where
+  ends : Step
+  takes : (a b : ℕ) → How → (next : ℕ) → Step
+
+-- "10, wrong kind for its chain ..; 11 ..; 14, its pair is not the next standing one"
+unfoldable pub readCase : Rules → Spot → Record → Verdict Step
+readCase R q (line a b c first next) = refused 10 (q .index)
+readCase R q (case a b how next) =
+    guard (fits (R .n) a b how) 11 (q .index) λ _.
+    guard (isNext (q .pairs) a b) 14 (q .index) λ _. accepted (takes a b how next)
+readCase R q other = refused 10 (q .index)
+
+-- "If a chain ends with standing pairs left, 14 names its last record, or the owner of the split if the chain is empty"
+unfoldable pub look : Rules → List ℕ → Spot → Verdict Step
+look R s q =
+    elim (eqb (q .index) 0) [
+      | true ↦ guard (noneLeft (q .pairs)) 14 (q .last) λ _. accepted ends
+      | false ↦ entering s (q .last) (q .high) (q .index) λ _. readCase R q (recordAt s (q .index))
+    ]
+
+-- a split's chain at its beginning, the split being held by record i
+unfoldable pub opening : Rules → (left : ℕ) (K : List Edge) (i c first : ℕ) → Spot
+opening R left K i c first = record { left = left - 1; known = K; point = c; pairs = R .pairs K c; last = i; index = first; high = i }
+
+-- the chain behind a case whose record is the one at q's index
+unfoldable pub behind : Spot → (next high : ℕ) → Spot
+behind q next high = record { left = q .left; known = q .known; point = q .point; pairs = rest (q .pairs); last = q .index; index = next; high = high }
+
+-- the closing that record i holds, under K with its pair: "13, a seventh split; 15, a crossing's edge or centres break a condition
+-- above; 16, no labelling saves". It answers the highest record entered.
+unfoldable pub close : Rules → (go : Spot → Verdict ℕ) (left : ℕ) (K : List Edge) (i : ℕ) → How → Verdict ℕ
+close R go left K i (splits c first) = guard (ltb 0 left) 13 i λ _. go (opening R left K i c first)
+close R go left K i (crosses p q r s) = unless (R .closing K p q r s) i i
+
+-- a chain at its next index, whose further chains are left to `go`
+unfoldable pub act : Rules → (go : Spot → Verdict ℕ) → Spot → Step → Verdict ℕ
+act R go q ends = accepted (q .high)
+act R go q (takes a b how next) =
+    andThen (close R go (q .left) (withPair (q .known) (q .point) a b) (q .index) how) λ high. go (behind q next high)
+
+unfoldable pub follow : Rules → List ℕ → (go : Spot → Verdict ℕ) → Spot → Verdict ℕ
+follow R s go q = andThen (look R s q) (act R go q)
+
+-- the walk of at most so many records
+unfoldable pub walkBy : Rules → List ℕ → (fuel : ℕ) → Spot → Verdict ℕ
+walkBy R s zero q = refused 0 0
+walkBy R s (suc fuel) q = follow R s (walkBy R s fuel) q
+
+-- the walk: no chain enters more records than the sheet has
+unfoldable pub walk : Rules → List ℕ → Spot → Verdict ℕ
+walk R s q = walkBy R s (suc (records s)) q

@@ -1,0 +1,1 @@
+// Case arguments: definitions and theorems, no code.
