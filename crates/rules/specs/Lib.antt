@@ -1,7 +1,10 @@
 pub mod Closing
 pub mod EdgeSet
+pub mod Joined
 pub mod Mark
+pub mod Near
 pub mod Pair
 pub mod PairTest
 pub mod Pairs
 pub mod Shape
+pub mod Stored

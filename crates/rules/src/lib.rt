@@ -1,1 +1,4 @@
-// The second layer.
+// The second layer: edge sets, the tests of feasible pairs, the closings.
+pub mod edge_set;
+pub mod near;
+pub mod shape;
