@@ -1,2 +1,5 @@
-pub mod Laws
+pub mod ClosingExact
+pub mod ClosingExamples
+pub mod Crossings
 pub mod Exact
+pub mod Laws

@@ -1,4 +1,5 @@
 pub mod Closing
+pub mod ClosingTest
 pub mod EdgeSet
 pub mod Joined
 pub mod Mark
