@@ -4,8 +4,11 @@ pub mod EdgeSet
 pub mod Joined
 pub mod Mark
 pub mod Near
+pub mod NextPair
 pub mod Pair
 pub mod PairTest
 pub mod Pairs
+pub mod Rising
 pub mod Shape
+pub mod Split
 pub mod Stored

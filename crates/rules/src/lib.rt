@@ -1,5 +1,8 @@
-// The second layer: edge sets, the tests of feasible pairs, the closings.
+// The second layer: edge sets, the tests of feasible pairs, the search for the next one, the closings.
 pub mod closing;
 pub mod edge_set;
+pub mod marks;
 pub mod near;
+pub mod pairs;
 pub mod shape;
+pub mod split;
