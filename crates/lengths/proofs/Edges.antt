@@ -124,6 +124,28 @@ placeUp-injective {n} {a} {b} {c} {d} e f h = ⊎-elim
         (λ k. ⊎-elim (λ k. absurd (omega (arith, placeUp-rises f e (inr (sym g, k))))) (λ k. k) k)
         (three-way b d)
 
+-- the same of two edges in any order of their points
+pub place-injective : {n a b c d : ℕ} → IsEdge n a b → IsEdge n c d → place n a b ≡ place n c d → ((a ≡ c) × (b ≡ d)) ⊎ ((a ≡ d) × (b ≡ c))
+place-injective {n} {a} {b} {c} {d} e f h =
+    ⊎-elim
+    (λ i.
+    ⊎-elim
+    (λ j. inl (placeUp-injective i j (sym (up i) ∙ h ∙ up j)))
+    (λ j. inr (placeUp-injective i j (sym (up i) ∙ h ∙ down j)))
+    (lower-first f))
+    (λ i.
+    ⊎-elim
+    (λ j. let r = placeUp-injective i j (sym (down i) ∙ h ∙ up j) in inr (r .1, r .0))
+    (λ j. let r = placeUp-injective i j (sym (down i) ∙ h ∙ down j) in inl (r .1, r .0))
+    (lower-first f))
+    (lower-first e)
+  where
+    up : {x y : ℕ} → IsEdgeUp n x y → place n x y ≡ placeUp n x y
+    up {x} {y} i = place-up n x y (i .up)
+
+    down : {x y : ℕ} → IsEdgeUp n y x → place n x y ≡ placeUp n y x
+    down {x} {y} i = place-down n x y (omega (arith, i .up))
+
 -- the edge after ab in 01's order: to the next point of its row, or, where b is n, the first of the next row
 pub next-in-row : {n a b i : ℕ} → IsEdgeUp n a b → placeUp n a b ≡ i → b < n → IsEdgeUp n a (b + 1) × (placeUp n a (b + 1) ≡ i + 1)
 next-in-row {n} {a} {b} {i} e h g =

@@ -16,7 +16,7 @@ pub record Admits (n : ℕ) (i : Instance) : Type 0 where
   pub least : 4 ≤ n
   pub most : n ≤ 180
 
-in-range : (n : ℕ) → inRange n ≡ true → (4 ≤ n) × (n ≤ 180)
+pub in-range : (n : ℕ) → inRange n ≡ true → (4 ≤ n) × (n ≤ 180)
 unfolding inRange
 in-range n h = go (leb 4 n) refl
   where

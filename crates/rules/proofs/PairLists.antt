@@ -7,8 +7,8 @@ use mathlib.Core.Logic.{_⊎_, inl, inr, ⊎-elim, _↔_}
 use mathlib.Core.List.{List, [], _∷_, _++_, List·Memᴰ, List·Memᴰ·head, List·Memᴰ·tail, List·Memᴰ·cases-cons, List·Memᴰ·not-nil}
 use native.Mathlib.Omega.{arith}
 use lib.ListN.{length, getD}
-use Rattle.lengths.specs.Edge.{Edge, edge, Point, IsEdgeUp, Before, edgeCount, row, rows, edges, placeUp}
-use Rattle.lengths.proofs.Edges.{edges-at, placeUp-below, length-edges, edgeCount-tri, length-row}
+use Rattle.lengths.specs.Edge.{Edge, edge, IsEdgeUp, Before, row, rows, edges, placeUp}
+use Rattle.lengths.proofs.Edges.{edges-at, placeUp-below, length-edges, edgeCount-tri}
 use Rattle.rules.specs.PairTest.{feasible?}
 use Rattle.rules.specs.Pairs.{keep, feasiblePairs, pairsAfter, feasibleAfter}
 use Rattle.rules.specs.Rising.{Rising}
@@ -32,20 +32,6 @@ pub pairsAfter-start : (n : ℕ) → pairsAfter n 1 1 ≡ edges n
 unfolding edges
 pairsAfter-start n = sym (rows-after n 1)
 
--- the next pair of the row
-pub pairsAfter-step : (n a b : ℕ) → b < n → pairsAfter n a b ≡ edge a (suc b) ∷ pairsAfter n a (suc b)
-unfolding pairsAfter row
-pairsAfter-step n a b h =
-    let e : n - b ≡ suc (n - suc b) = omega arith in
-    ap (λ (k : ℕ). row a (suc b) k ++ rows (suc a) (n - suc a)) e
-
--- after the row of a comes the row of a + 1
-pub pairsAfter-row : (n a : ℕ) → pairsAfter n a n ≡ pairsAfter n (suc a) (suc a)
-unfolding pairsAfter row
-pairsAfter-row n a =
-    let e : n - n ≡ 0 = omega arith in
-    ap (λ (k : ℕ). row a (suc n) k ++ rows (suc a) (n - suc a)) e ∙ rows-after n (suc a)
-
 -- nothing comes after nn
 pub pairsAfter-end : (n : ℕ) → pairsAfter n n n ≡ []
 unfolding rows
@@ -62,10 +48,11 @@ chain-row : (n a b j : ℕ) → 1 ≤ a → a < b → b + j ≡ suc n → Chain 
 unfolding row pairsAfter
 chain-row n a b zero h1 h2 e r = r
 chain-row n a b (suc j) h1 h2 e r =
-    let f : j ≡ n - b = omega arith in
-    (record { low = h1; up = h2; high = omega arith },
-    ap (λ (k : ℕ). row a (suc b) k ++ rows (suc a) (n - suc a)) f,
-    chain-row n a (suc b) j h1 (omega arith) (omega arith) r)
+    let f : j ≡ n - b = omega arith in (
+      record { low = h1; up = h2; high = omega arith },
+      ap (λ (k : ℕ). row a (suc b) k ++ rows (suc a) (n - suc a)) f,
+      chain-row n a (suc b) j h1 (omega arith) (omega arith) r,
+    )
 
 chain-rows : (n k a : ℕ) → 1 ≤ a → n - a ≡ k → Chain n (rows a k)
 unfolding rows
@@ -143,6 +130,7 @@ kept-in t (edge p q ∷ es) a b m = go (t p q) refl (kept-in t es a b)
   where
     later : (List·Memᴰ (edge a b) (keep t es) → List·Memᴰ (edge a b) es × (t a b ≡ true)) → List·Memᴰ (edge a b) (keep t es) → List·Memᴰ (edge a b) (edge p q ∷ es) × (t a b ≡ true)
     later ih k = let r = ih k in (List·Memᴰ·tail (r .0), r .1)
+
     go : (s : Bool) → t p q ≡ s → (List·Memᴰ (edge a b) (keep t es) → List·Memᴰ (edge a b) es × (t a b ≡ true)) → List·Memᴰ (edge a b) (edge p q ∷ es) × (t a b ≡ true)
     go true e ih = ⊎-elim
         (λ h. (List·Memᴰ·head h, ap₂ t (edge-first h) (edge-second h) ∙ e))
@@ -157,6 +145,7 @@ in-kept t (edge p q ∷ es) a b m h = go (t p q) refl (λ k. in-kept t es a b k 
   where
     clash : edge a b ≡ edge p q → t p q ≡ false → ⊥
     clash g e = let z : true ≡ false = sym h ∙ ap₂ t (edge-first g) (edge-second g) ∙ e in mathlib.Core.Bool.true≢false z
+
     go : (s : Bool) → t p q ≡ s → (List·Memᴰ (edge a b) es → List·Memᴰ (edge a b) (keep t es)) → (edge a b ≡ edge p q) ⊎ List·Memᴰ (edge a b) es → List·Memᴰ (edge a b) (keep t (edge p q ∷ es))
     go true e ih (inl g) = subst (List·Memᴰ (edge a b)) (sym (keep-yes t p q es e)) (List·Memᴰ·head g)
     go true e ih (inr k) = subst (List·Memᴰ (edge a b)) (sym (keep-yes t p q es e)) (List·Memᴰ·tail (ih k))
@@ -232,9 +221,12 @@ at-in (e ∷ es) (suc i) d h = List·Memᴰ·tail (at-in es i d (omega arith))
 
 -- the edges are the pairs x < y of 1 to n
 pub in-edges : (n a b : ℕ) → List·Memᴰ (edge a b) (edges n) ↔ IsEdgeUp n a b
-in-edges n a b = (chain-in n (edges n) a b (chain-edges n), λ e.
-    let i : placeUp n a b < length (edges n) = omega (arith, length-edges n (omega (arith, e)), edgeCount-tri n, placeUp-below e) in
-    subst (λ (f : Edge). List·Memᴰ f (edges n)) (edges-at e) (at-in (edges n) (placeUp n a b) (edge 0 0) i))
+in-edges n a b = (
+  chain-in n (edges n) a b (chain-edges n),
+  λ e.
+      let i : placeUp n a b < length (edges n) = omega (arith, length-edges n (omega (arith, e)), edgeCount-tri n, placeUp-below e) in
+      subst (λ (f : Edge). List·Memᴰ f (edges n)) (edges-at e) (at-in (edges n) (placeUp n a b) (edge 0 0) i),
+)
 
 -- the feasible pairs
 
@@ -255,9 +247,10 @@ module _ (n : ℕ) (l : ℕ → ℕ → ℕ) (open? : ℕ → ℕ → Bool) (K :
   -- a pair is in the list exactly when it is a pair x < y of 1 to n and feasible
   pub in-feasiblePairs : (x y : ℕ) → List·Memᴰ (edge x y) (feasiblePairs n l open? K c) ↔ (IsEdgeUp n x y × (feasible? n l open? K c x y ≡ true))
   unfolding feasiblePairs
-  in-feasiblePairs x y =
-      (λ m. let r = kept-in (feasible? n l open? K c) (edges n) x y m in (in-edges n x y .0 (r .0), r .1),
-      λ h. in-kept (feasible? n l open? K c) (edges n) x y (in-edges n x y .1 (h .0)) (h .1))
+  in-feasiblePairs x y = (
+    λ m. let r = kept-in (feasible? n l open? K c) (edges n) x y m in (in-edges n x y .0 (r .0), r .1),
+    λ h. in-kept (feasible? n l open? K c) (edges n) x y (in-edges n x y .1 (h .0)) (h .1),
+  )
 
   -- the list rises, so each pair is there once
   pub feasiblePairs-rising : Rising (feasiblePairs n l open? K c)

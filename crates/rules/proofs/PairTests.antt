@@ -1,15 +1,15 @@
 -- Each test of a pair is true exactly when its condition holds. `Has` reads an edge in both orders of its points and a test in one,
 -- so the lengths have to be symmetric. Assumes nothing.
-use Prim.Native.Nat.{ℕ, _+_, _≤_, _<_, max}
+use Prim.Native.Nat.{ℕ, _+_, max}
 use mathlib.Core.Path.{_≡_, refl, sym, _∙_, ap, ap₂}
 use mathlib.Core.Bool.{Bool, true, false, not, _&&_, _||_, true≢false}
-use mathlib.Core.Logic.{_⊎_, inl, inr, ⊎-elim, _↔_}
+use mathlib.Core.Logic.{inl, inr, ⊎-elim, _↔_}
 use mathlib.Core.List.{List, [], _∷_, List·Memᴰ}
 use native.Mathlib.Omega.{arith}
-use lib.Dec.{eqb, leb, ltb}
-use borrow.Author.Tests.{eq-eqb, ne-eqb, eqb-true, eqb-false, le-leb, leb-true, ltb-true, ltb-false, le-ltb, lt-ltb}
+use lib.Dec.{eqb, ltb}
+use borrow.Author.Tests.{ne-eqb, eqb-true, eqb-false, le-leb, leb-true, ltb-true, ltb-false}
 use Rattle.lengths.specs.Edge.{Edge, edge, IsEdgeUp}
-use Rattle.rules.specs.EdgeSet.{Joins, Has, AtMostTwo, NoShortCycle}
+use Rattle.rules.specs.EdgeSet.{Has, AtMostTwo, NoShortCycle}
 use Rattle.rules.specs.Pair.{Compatible, withPair, MoveSaves, FeasiblePair}
 use Rattle.rules.specs.PairTest.{every, compatible?, leg?, stays?, unmoved?, feasible?}
 use Rattle.rules.specs.Pairs.{feasiblePairs}
@@ -55,9 +55,10 @@ stays-iff l c x y u v = go (eqb u c) (eqb v c) (ltb (l x y + l u c + l v c) (l u
         → ((r || (s || not t)) ≡ true) ↔ ((u ≡ c → ⊥) → (v ≡ c → ⊥) → MoveSaves l c x y u v → ⊥)
     go true s t eu ev et = ((λ _ nu nv m. nu (eqb-true u c eu)), λ _. refl)
     go false true t eu ev et = ((λ _ nu nv m. nv (eqb-true v c ev)), λ _. refl)
-    go false false true eu ev et =
-        ((λ e nu nv m. true≢false (sym e)),
-        λ h. absurd (h (eqb-false u c eu) (eqb-false v c ev) (ltb-true (l x y + l u c + l v c) (l u v + l x c + l y c) et)))
+    go false false true eu ev et = (
+      (λ e nu nv m. true≢false (sym e)),
+      λ h. absurd (h (eqb-false u c eu) (eqb-false v c ev) (ltb-true (l x y + l u c + l v c) (l u v + l x c + l y c) et)),
+    )
     go false false false eu ev et =
         ((λ _ nu nv m. omega (arith, m, ltb-false (l x y + l u c + l v c) (l u v + l x c + l y c) et)), λ _. refl)
 
@@ -80,10 +81,12 @@ module _ (l : ℕ → ℕ → ℕ) (symmetric : (a b : ℕ) → l a b ≡ l b a)
           → (x ≡ c → ⊥) × (open? c x ≡ true) × ((p q : ℕ) → Has K p q → Compatible l c x p q)
       to e =
           let a = and-both (not (eqb x c)) (open? c x && every (compatible? l c x) K) e in
-          let b = and-both (open? c x) (every (compatible? l c x) K) (a .1) in
-          (eqb-false x c (borrow.Author.Tests.not-true (eqb x c) (a .0)),
-          b .0,
-          λ p q h. compatible-iff l c x p q .0 (every-has (compatible? l c x) (compatible-turn c x) K (b .1) p q h))
+          let b = and-both (open? c x) (every (compatible? l c x) K) (a .1) in (
+            eqb-false x c (borrow.Author.Tests.not-true (eqb x c) (a .0)),
+            b .0,
+            λ p q h. compatible-iff l c x p q .0 (every-has (compatible? l c x) (compatible-turn c x) K (b .1) p q h),
+          )
+
       from : (x ≡ c → ⊥) × (open? c x ≡ true) × ((p q : ℕ) → Has K p q → Compatible l c x p q)
           → not (eqb x c) && (open? c x && every (compatible? l c x) K) ≡ true
       from h = both-and
@@ -94,9 +97,10 @@ module _ (l : ℕ → ℕ → ℕ) (symmetric : (a b : ℕ) → l a b ≡ l b a)
   pub unmoved-iff : (K : List Edge) (c x y : ℕ)
       → (unmoved? l K c x y ≡ true) ↔ ((u v : ℕ) → Has K u v → (u ≡ c → ⊥) → (v ≡ c → ⊥) → MoveSaves l c x y u v → ⊥)
   unfolding unmoved?
-  unmoved-iff K c x y =
-      ((λ e u v h. stays-iff l c x y u v .0 (every-has (stays? l c x y) (stays-turn c x y) K e u v h)),
-      λ h. has-every (stays? l c x y) K (λ u v k. stays-iff l c x y u v .1 (h u v k)))
+  unmoved-iff K c x y = (
+    (λ e u v h. stays-iff l c x y u v .0 (every-has (stays? l c x y) (stays-turn c x y) K e u v h)),
+    λ h. has-every (stays? l c x y) K (λ u v k. stays-iff l c x y u v .1 (h u v k)),
+  )
 
   -- the test of a pair x < y of 1 to n is true exactly when the pair is feasible, given that `shape?` decides conditions 2 and 3
   pub feasible-iff : (n : ℕ) (open? : ℕ → ℕ → Bool) (K : List Edge) (c x y : ℕ) → IsEdgeUp n x y
@@ -125,6 +129,7 @@ module _ (l : ℕ → ℕ → ℕ) (symmetric : (a b : ℕ) → l a b ≡ l b a)
             four = λ p q k. (legx .2 p q k, legy .2 p q k);
             five = unmoved-iff K c x y .0 (d .0);
           }
+
       from : FeasiblePair n l open? K c x y → leg? l open? K c x && (leg? l open? K c y && (unmoved? l K c x y && shape? n K c x y)) ≡ true
       from f = both-and
           (leg-iff open? K c x .1 (f .apart-x, f .one .0, λ p q k. f .four p q k .0))
@@ -142,6 +147,7 @@ module _ (l : ℕ → ℕ → ℕ) (symmetric : (a b : ℕ) → l a b ≡ l b a)
       to m =
           let r = in-feasiblePairs n l open? K c x y .0 m in
           feasible-iff n open? K c x y (r .0) (λ nx ny. shape nx ny (r .0)) .0 (r .1)
+
       from : FeasiblePair n l open? K c x y → List·Memᴰ (edge x y) (feasiblePairs n l open? K c)
       from f =
           let e : IsEdgeUp n x y = record { low = f .point-x .low; up = f .rising; high = f .point-y .high } in

@@ -1,7 +1,7 @@
 -- The search: the first point of a row that passes the comparison skips only pairs that are not feasible, so that the first feasible pair
 -- after xy is found row by row. One record for each loop, and one lemma for each way out of it. Assumes nothing.
 use Prim.Native.Nat.{ℕ, zero, suc, _+_, _-_, _^_, _≤_, _<_}
-use mathlib.Core.Path.{_≡_, refl, sym, _∙_, ap, ap₂, subst}
+use mathlib.Core.Path.{_≡_, refl, sym, _∙_, ap, ap₂}
 use mathlib.Core.Bool.{Bool, true, false, _&&_}
 use mathlib.Core.List.{List, [], _∷_, _++_}
 use native.Mathlib.Omega.{arith}
@@ -9,18 +9,17 @@ use native.Mathlib.Numerals.{add-one}
 use lib.Dec.{leb}
 use lib.ListN.{length, getD}
 use borrow.Author.Tests.{le-leb, lt-leb}
-use Rattle.lengths.specs.Edge.{Edge, edge, Point, IsEdgeUp, edgeCount, row, rows, placeUp}
+use Rattle.lengths.specs.Edge.{Edge, edge, Point, IsEdgeUp, row, rows, place, placeUp}
 use Rattle.lengths.specs.Table.{lengthOf}
 use Rattle.lengths.proofs.Edges.{placeUp-below, edgeCount-tri, place-up, edges-fit}
 use Rattle.lengths.proofs.Tables.{length-up}
 use Rattle.rules.specs.PairTest.{feasible?}
 use Rattle.rules.specs.Shape.{shape?}
 use Rattle.rules.specs.Pairs.{keep, pairsAfter, feasibleAfter}
-use Rattle.rules.specs.Split.{Lengths, Bounded, Prepared}
+use Rattle.rules.specs.Split.{Prepared}
 use Rattle.rules.specs.Stored.{edgeList}
 use Rattle.rules.specs.NextPair.{passes?, firstFrom, firstOf, RowAsked, Searchable, Next}
 use Rattle.rules.specs.declared.edge_set.EdgeSet.{EdgeSet}
-use Rattle.rules.specs.declared.pairs.NextPair.{NextPair}
 use Rattle.rules.specs.declared.pairs.NextPair.the-variants.{Pair, End}
 use Rattle.rules.proofs.PairLists.{pairsAfter-end, keep-yes, keep-no, keep-append, rows-after, feasibleAfter-next}
 use Rattle.rules.proofs.Splits.{feasible-passes, length-small}
@@ -79,20 +78,18 @@ module _ (p : ℕ → Bool) where
           ∙ ih
           ∙ ap₂ (λ (i j : ℕ). keep t (row x i j)) (sym (firstFrom-no z k e)) f
 
--- next_in_row: z is the next point to look at, and its pair with x stands at the place `at`
+-- next_in_row: the point to look at is y + 1 + i, and its pair with x stands at the place at + i
 
-pub record Scanning (n : ℕ) (table legs : List ℕ) (bound x y cost end at z : ℕ) : Type 0 where
+pub record Scanning (n : ℕ) (table legs : List ℕ) (bound x y cost at i : ℕ) : Type 0 where
   pub asked : RowAsked n table legs bound x y
   pub is-cost : cost ≡ getD legs x 0 + 2000000
-  pub is-end : end ≡ n
-  pub above : y < z
-  pub within : z ≤ n + 1
-  pub is-at : at ≡ placeUp n x z
-  pub same : firstFrom (passes? n table legs bound x) z (n + 1 - z) ≡ firstFrom (passes? n table legs bound x) (suc y) (n - y)
+  pub is-at : at ≡ placeUp n x (y + 1)
+  pub within : i ≤ n - y
+  pub same : firstFrom (passes? n table legs bound x) (y + 1 + i) (n - y - i) ≡ firstFrom (passes? n table legs bound x) (suc y) (n - y)
 
-placeUp-next : (n a b : ℕ) → a < b → placeUp n a (b + 1) ≡ placeUp n a b + 1
+placeUp-add : (n a b i : ℕ) → a < b → placeUp n a (b + i) ≡ placeUp n a b + i
 unfolding placeUp
-placeUp-next n a b h = omega arith
+placeUp-add n a b i h = omega arith
 
 -- a row whose leg is FAR has no pair that passes
 pub row-far : {n : ℕ} {table legs : List ℕ} {bound x y : ℕ} → RowAsked n table legs bound x y → getD legs x 0 ≡ 10000000
@@ -113,70 +110,71 @@ row-over {n} {table} {legs} {bound} {x} {y} r h =
     let f : n + 1 ≡ suc y = omega (arith, r .high) in
     f ∙ ap (firstFrom (passes? n table legs bound x) (suc y)) (sym e)
 
-module _ {n : ℕ} {table legs : List ℕ} {bound x y cost end at z : ℕ} (s : Scanning n table legs bound x y cost end at z) where
-  scan-edge : z ≤ n → IsEdgeUp n x z
-  scan-edge h = record { low = s .asked .low; up = omega (arith, s .asked .up, s .above); high = h }
+pub scan-start : {n : ℕ} {table legs : List ℕ} {bound x y at : ℕ} → RowAsked n table legs bound x y → at ≡ place n x (y + 1)
+    → Scanning n table legs bound x y (getD legs x 0 + 2000000) at 0
+scan-start {n} {table} {legs} {bound} {x} {y} {at} r p =
+    let f : y + 1 + 0 ≡ suc y = omega arith in
+    let k : n - y - 0 ≡ n - y = omega arith in
+    record {
+      asked = r;
+      is-cost = refl;
+      is-at = p ∙ place-up n x (y + 1) (omega (arith, r .up));
+      within = omega arith;
+      same = ap₂ (firstFrom (passes? n table legs bound x)) f k;
+    }
 
-  pub scan-inside : z ≤ n → at < length table
-  scan-inside h = omega (arith, s .is-at, placeUp-below (scan-edge h), edgeCount-tri n, s .asked .lengths .whole)
+module _ {n : ℕ} {table legs : List ℕ} {bound x y cost at i : ℕ} (s : Scanning n table legs bound x y cost at i) where
+  scan-edge : i < n - y → IsEdgeUp n x (y + 1 + i)
+  scan-edge h = record { low = s .asked .low; up = omega (arith, s .asked .up); high = omega arith }
 
-  pub scan-small : z ≤ n → at < 2 ^ 32
-  scan-small h = omega (arith, s .is-at, placeUp-below (scan-edge h), edges-fit {n = n} (omega (arith, s .asked .lengths .few)))
+  scan-place : at + i ≡ placeUp n x (y + 1 + i)
+  scan-place = omega (arith, s .is-at, placeUp-add n x (y + 1) i (omega (arith, s .asked .up)))
 
-  scan-length : z ≤ n → lengthOf n table x z ≡ getD table at 0
-  scan-length h = length-up n table x z (scan-edge h .up) ∙ ap (λ (i : ℕ). getD table i 0) (sym (s .is-at))
+  pub scan-inside : i < n - y → at + i < length table
+  scan-inside h = omega (arith, scan-place, placeUp-below (scan-edge h), edgeCount-tri n, s .asked .lengths .whole)
 
-  pub scan-found : z ≤ n → cost + getD legs z 0 ≤ getD table at 0 + bound → z ≡ firstFrom (passes? n table legs bound x) (suc y) (n - y)
+  pub scan-small : i < n - y → at + i < 2 ^ 32
+  scan-small h = omega (arith, scan-place, placeUp-below (scan-edge h), edges-fit {n = n} (omega (arith, s .asked .lengths .few)))
+
+  scan-length : i < n - y → lengthOf n table x (y + 1 + i) ≡ getD table (at + i) 0
+  scan-length h = length-up n table x (y + 1 + i) (scan-edge h .up) ∙ ap (λ (j : ℕ). getD table j 0) (sym scan-place)
+
+  pub scan-found : i < n - y → cost + getD legs (y + 1 + i) 0 ≤ getD table (at + i) 0 + bound
+      → y + 1 + i ≡ firstFrom (passes? n table legs bound x) (suc y) (n - y)
   unfolding passes?
   scan-found h g =
-      let e : n + 1 - z ≡ suc (n - z) = omega arith in
-      let t : leb (getD legs x 0 + 2000000 + getD legs z 0) (lengthOf n table x z + bound) ≡ true =
-          le-leb (getD legs x 0 + 2000000 + getD legs z 0) (lengthOf n table x z + bound) (omega (arith, s .is-cost, scan-length h)) in
-      sym (firstFrom-yes (passes? n table legs bound x) z (n - z) t)
-      ∙ ap (firstFrom (passes? n table legs bound x) z) (sym e)
+      let e : n - y - i ≡ suc (n - y - (i + 1)) = omega arith in
+      let t : leb (getD legs x 0 + 2000000 + getD legs (y + 1 + i) 0) (lengthOf n table x (y + 1 + i) + bound) ≡ true =
+      le-leb (getD legs x 0 + 2000000 + getD legs (y + 1 + i) 0) (lengthOf n table x (y + 1 + i) + bound) (omega (arith, s .is-cost, scan-length h)) in
+      sym (firstFrom-yes (passes? n table legs bound x) (y + 1 + i) (n - y - (i + 1)) t)
+      ∙ ap (firstFrom (passes? n table legs bound x) (y + 1 + i)) (sym e)
       ∙ s .same
 
-  pub scan-on : z ≤ n → getD table at 0 + bound < cost + getD legs z 0 → Scanning n table legs bound x y cost end (at + 1) (z + 1)
+  pub scan-on : i < n - y → getD table (at + i) 0 + bound < cost + getD legs (y + 1 + i) 0 → Scanning n table legs bound x y cost at (i + 1)
   unfolding passes?
   scan-on h g =
-      let e : n + 1 - z ≡ suc (n + 1 - (z + 1)) = omega arith in
-      let t : leb (getD legs x 0 + 2000000 + getD legs z 0) (lengthOf n table x z + bound) ≡ false =
-          lt-leb (getD legs x 0 + 2000000 + getD legs z 0) (lengthOf n table x z + bound) (omega (arith, s .is-cost, scan-length h)) in
+      let e : n - y - i ≡ suc (n - y - (i + 1)) = omega arith in
+      let f : y + 1 + (i + 1) ≡ suc (y + 1 + i) = omega arith in
+      let t : leb (getD legs x 0 + 2000000 + getD legs (y + 1 + i) 0) (lengthOf n table x (y + 1 + i) + bound) ≡ false =
+      lt-leb (getD legs x 0 + 2000000 + getD legs (y + 1 + i) 0) (lengthOf n table x (y + 1 + i) + bound) (omega (arith, s .is-cost, scan-length h)) in
       record {
         asked = s .asked;
         is-cost = s .is-cost;
-        is-end = s .is-end;
-        above = omega (arith, s .above);
+        is-at = s .is-at;
         within = omega arith;
-        is-at = omega (arith, s .is-at, placeUp-next n x z (scan-edge h .up));
         same =
-            ap (λ (i : ℕ). firstFrom (passes? n table legs bound x) i (n + 1 - (z + 1))) (add-one z)
-            ∙ sym (firstFrom-no (passes? n table legs bound x) z (n + 1 - (z + 1)) t)
-            ∙ ap (firstFrom (passes? n table legs bound x) z) (sym e)
+            ap (λ (j : ℕ). firstFrom (passes? n table legs bound x) j (n - y - (i + 1))) f
+            ∙ sym (firstFrom-no (passes? n table legs bound x) (y + 1 + i) (n - y - (i + 1)) t)
+            ∙ ap (firstFrom (passes? n table legs bound x) (y + 1 + i)) (sym e)
             ∙ s .same;
       }
 
-  pub scan-end : n < z → n + 1 ≡ firstFrom (passes? n table legs bound x) (suc y) (n - y)
+  pub scan-end : n - y ≤ i → n + 1 ≡ firstFrom (passes? n table legs bound x) (suc y) (n - y)
   unfolding firstFrom
   scan-end h =
-      let e : n + 1 - z ≡ 0 = omega arith in
-      let f : n + 1 ≡ z = omega (arith, s .within) in
-      f ∙ ap (firstFrom (passes? n table legs bound x) z) (sym e) ∙ s .same
-
-pub scan-start : {n : ℕ} {table legs : List ℕ} {bound x y cost end at z : ℕ} → RowAsked n table legs bound x y → cost ≡ getD legs x 0 + 2000000 → end ≡ n
-    → z ≡ y + 1 → y < n → at ≡ Rattle.lengths.specs.Edge.place n x (y + 1) → Scanning n table legs bound x y cost end at z
-scan-start {n} {table} {legs} {bound} {x} {y} {cost} {end} {at} {z} r c e h g p =
-    let f : z ≡ suc y = omega arith in
-    let k : n + 1 - z ≡ n - y = omega arith in
-    record {
-      asked = r;
-      is-cost = c;
-      is-end = e;
-      above = omega arith;
-      within = omega arith;
-      is-at = p ∙ place-up n x (y + 1) (omega (arith, r .up)) ∙ ap (placeUp n x) (sym h);
-      same = ap₂ (firstFrom (passes? n table legs bound x)) f k;
-    }
+      let e : n - y - i ≡ 0 = omega arith in
+      let f : n + 1 ≡ y + 1 + i = omega (arith, s .within, s .asked .high) in
+      f ∙ ap (firstFrom (passes? n table legs bound x) (y + 1 + i)) (sym e) ∙ s .same
 
 -- next_pair: ab is the last pair passed
 
@@ -213,7 +211,8 @@ module _ {n : ℕ} {table legs : List ℕ} {bound : ℕ} {k : EdgeSet} {c x y a 
     walk-refused i h g e =
         walk-feasible i h (omega (arith, w .asked .row .high)) ∙ ap (λ (t : Bool). t && shape? n (edgeList k) c a i) e
 
-    -- the row from the first point that passes, then the rows above
+    -- What is left after ab is the row of a from b + 1 on, then the rows above. A point of the row that fails the comparison makes no
+    -- feasible pair with a (`feasible-passes`), so that the row may be entered at the first point z that passes: nothing kept is lost.
     walk-skip : feasibleAfter n (lengthOf n table) open? (edgeList k) c a b
         ≡ keep (feasible? n (lengthOf n table) open? (edgeList k) c) (row a z (n + 1 - z) ++ rows (suc a) (n - suc a))
     unfolding feasibleAfter pairsAfter

@@ -1,6 +1,6 @@
 -- Legs and bound: how each takes in one more edge of K, and that one comparison of them decides conditions 1, 4 and 5. Assumes nothing.
-use Prim.Native.Nat.{ℕ, zero, suc, _+_, _-_, _≤_, _<_, min, max}
-use mathlib.Core.Path.{_≡_, refl, sym, _∙_, ap, ap₂, subst}
+use Prim.Native.Nat.{ℕ, _+_, _-_, _≤_, _<_, min, max}
+use mathlib.Core.Path.{_≡_, refl, sym, _∙_, ap, subst}
 use mathlib.Core.Bool.{Bool, true, false, cond, not, _&&_, _||_}
 use mathlib.Core.List.{List, [], _∷_}
 use native.Mathlib.Omega.{arith}
@@ -9,24 +9,19 @@ use native.Mathlib.Decide.{decLt, ℕ-discrete}
 use lib.Dec.{eqb, leb, ltb}
 use lib.ListN.{length, getD, set, replicate, length-set, length-replicate, getD-replicate, List·getD-eq-default}
 use lib.Seq.{getD-set-same, getD-set-other}
-use borrow.Author.Tests.{eq-eqb, ne-eqb, le-leb, lt-leb, leb-true, leb-false, ltb-true, ltb-false, le-ltb, lt-ltb, not-true, not-false}
+use borrow.Author.Tests.{eq-eqb, ne-eqb, le-leb, lt-leb, leb-true, leb-false, ltb-true, ltb-false}
 use Rattle.lengths.specs.Edge.{Edge, edge, Point, place}
 use Rattle.lengths.specs.Table.{lengthOf}
 use Rattle.lengths.proofs.Tables.{length-symmetric}
 use Rattle.rules.specs.PairTest.{every, compatible?, leg?, stays?, unmoved?, feasible?}
 use Rattle.rules.specs.Shape.{shape?}
-use Rattle.rules.specs.Split.{Lengths, legOf, narrowed, tightened, boundOf, LegsOf, Prepared, Bounded, Known, LegList, EdgeAsked, OpenLegs, NarrowAsked, Narrowed, SplitAsked, SplitOf}
+use Rattle.rules.specs.Split.{Lengths, legOf, narrowed, tightened, boundOf, Prepared, Bounded, Known, LegList, EdgeAsked, OpenLegs, NarrowAsked, Narrowed, SplitAsked, SplitOf}
 use Rattle.rules.specs.Mark.{openIn}
 use Rattle.rules.specs.Stored.{edgesOf, edgeList}
 use Rattle.rules.specs.declared.edge_set.EdgeSet.{EdgeSet}
 use Rattle.rules.specs.NextPair.{passes?}
 
--- two tests that pass together are the same
-pub same-test : (s t : Bool) → (s ≡ true → t ≡ true) → (t ≡ true → s ≡ true) → s ≡ t
-same-test true t f g = sym (f refl)
-same-test false true f g = g refl
-same-test false false f g = refl
-
+-- no length is above 2,000,000
 pub length-small : {n : ℕ} {table : List ℕ} → Lengths n table → (a b : ℕ) → lengthOf n table a b ≤ 2000000
 unfolding lengthOf
 length-small {n} {table} h a b = go (eqb a b) refl
@@ -191,6 +186,7 @@ fill-on {f} {n} {legs} {x} few s h {m} e near = record {
   where
     here : getD (set legs x m) x 0 ≡ m
     here = getD-set-same legs x m 0 (omega (arith, s .list .size))
+
     below : (i : ℕ) → getD (set legs x m) i 0 ≤ 10000000
     below i = elim (ℕ-discrete i x) [
       | yes q ↦ omega (arith, ap (λ (j : ℕ). getD (set legs x m) j 0) q, here)
@@ -297,7 +293,12 @@ take-end {n} {table} {marks} {k} {c} {legs} {bound} {i} s h =
       prepared = subst (λ (j : ℕ). Prepared n (lengthOf n table) (openIn n marks) (edgesOf (k .from) (k .to) j) c legs bound) e (s .prepared);
     }
 
--- one comparison
+-- One comparison decides conditions 1, 4 and 5. Write M for 2,000,000, the most that a length can be, and A for l(cx) + M + l(cy).
+-- Condition 5 at an edge uv that does not touch c says l(uv) + l(xc) + l(yc) ≤ l(xy) + l(uc) + l(vc): with M on both sides that is
+-- A ≤ l(xy) + (l(uc) + l(vc) + M - l(uv)), where nothing is negative (`room-test`). It holds at every edge exactly when it holds with the
+-- least of these rooms, which is the bound (`min-test`, `unmoved-bound`); 6,000,000 is no less than A, so that it asks nothing. A leg that
+-- meets conditions 1 and 4 enters with its length. One that does not enters as FAR, 10,000,000, and FAR + M is more than l(xy) and the
+-- bound together, 8,000,000 at the most, so that the comparison fails as it should (`legs-bound`).
 
 min-test : (a x r b : ℕ) → leb a (x + min r b) ≡ leb a (x + r) && leb a (x + b)
 min-test a x r b = go (leb a (x + r)) (leb a (x + b)) refl refl

@@ -1,6 +1,6 @@
 -- The search for the next feasible pair: one comparison for conditions 1, 4 and 5, the first point of a row that passes it,
 -- and what the search answers.
-use Prim.Native.Nat.{ℕ, zero, suc, _+_, _-_, _≤_}
+use Prim.Native.Nat.{ℕ, zero, suc, _+_, _≤_}
 use mathlib.Core.Path.{_≡_}
 use mathlib.Core.Bool.{Bool, true, false}
 use mathlib.Core.List.{List, [], _∷_}

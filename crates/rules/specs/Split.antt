@@ -1,8 +1,8 @@
 -- What a split point's search looks up for every pair, computed once: the length of each leg, and how much a pair may cost.
 -- A leg that conditions 1 and 4 rule out is FAR, 10,000,000: more than any pair may cost.
-use Prim.Native.Nat.{ℕ, _+_, _-_, _≤_, _<_, min, max}
+use Prim.Native.Nat.{ℕ, _+_, _-_, _≤_, min, max}
 use mathlib.Core.Path.{_≡_}
-use mathlib.Core.Bool.{Bool, true, false, cond}
+use mathlib.Core.Bool.{Bool, cond}
 use mathlib.Core.List.{List, [], _∷_}
 use lib.Dec.{eqb, leb}
 use lib.ListN.{length, getD}

@@ -1,9 +1,9 @@
 // The search for the next feasible pair at a split point.
-use lengths::edge;
-use lengths::instance::Instance;
 use crate::edge_set::EdgeSet;
 use crate::shape::keeps_shape;
 use crate::split::Split;
+use lengths::edge;
+use lengths::instance::Instance;
 ghost use mathlib.Core.Path.{_≡_};
 ghost use Prim.Native.Nat.{suc, _-_};
 ghost use Rattle.rules.specs.NextPair.{passes?, firstFrom, RowAsked, Searchable, Next};
@@ -15,7 +15,14 @@ pub enum NextPair {
 }
 
 // The first point after y whose pair with x passes the one comparison, n + 1 where none does.
-fn next_in_row(n: u16, table: &[u32], legs: &[u32; Split::PLACES], bound: u32, x: u16, y: u16) -> u16
+fn next_in_row(
+    n: u16,
+    table: &[u32],
+    legs: &[u32; Split::PLACES],
+    bound: u32,
+    x: u16,
+    y: u16,
+) -> u16
     requires { ⌜ RowAsked n (now table) (now legs) bound x y ⌝ }
     ensures { λ r. ⌜ r ≡ firstFrom (passes? n (now (table .entry)) (now (legs .entry)) bound x) (suc y) (n - y) ⌝ }
 {
@@ -27,21 +34,31 @@ fn next_in_row(n: u16, table: &[u32], legs: &[u32; Split::PLACES], bound: u32, x
         return n + 1;
     }
     let cost = leg + Instance::MOST_LENGTH;
-    let end = n as usize;
-    let mut at = edge::place(n, x, y + 1);
-    let mut z = y as usize + 1;
-    while z <= end {
-        if cost + legs[z] <= table[at] + bound {
+    let first = y as usize + 1;
+    let at = edge::place(n, x, y + 1);
+    let left = n as usize - y as usize;
+    let mut i = 0;
+    while i < left {
+        let z = first + i;
+        if cost + legs[z] <= table[at + i] + bound {
             return z as u16;
         }
-        z += 1;
-        at += 1;
+        i += 1;
     }
     n + 1
 }
 
 // The first feasible pair after xy: rows rise, and in a row the points. After 1-1 it is the first of all.
-pub fn next_pair(n: u16, table: &[u32], legs: &[u32; Split::PLACES], bound: u32, k: EdgeSet, c: u16, x: u16, y: u16) -> NextPair
+pub fn next_pair(
+    n: u16,
+    table: &[u32],
+    legs: &[u32; Split::PLACES],
+    bound: u32,
+    k: EdgeSet,
+    c: u16,
+    x: u16,
+    y: u16,
+) -> NextPair
     requires { ⌜ Searchable n (now table) (now legs) bound k x y ⌝ }
     ensures { λ r. ⌜ Next n (now (table .entry)) (now (legs .entry)) bound k c x y r ⌝ }
 {

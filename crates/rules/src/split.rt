@@ -1,8 +1,8 @@
 // What the search at a split point looks up for every pair, computed once: the legs and the bound.
-use lengths::instance::Instance;
-use lengths::table::length_between;
 use crate::edge_set::EdgeSet;
 use crate::marks::is_open;
+use lengths::instance::Instance;
+use lengths::table::length_between;
 ghost use mathlib.Core.Path.{_≡_};
 ghost use mathlib.Core.List.{[]};
 ghost use Rattle.lengths.specs.Table.{lengthOf};
@@ -56,7 +56,18 @@ fn open_legs(n: u16, table: &[u32], marks: &[u8], c: u16) -> [u32; Split::PLACES
 }
 
 // The leg of x with the edge pq taken in: FAR where cx and pq are not compatible.
-fn narrow_leg(n: u16, table: &[u32], c: u16, p: u16, q: u16, x: u16, leg: u32, pq: u64, cp: u64, cq: u64) -> u32
+fn narrow_leg(
+    n: u16,
+    table: &[u32],
+    c: u16,
+    p: u16,
+    q: u16,
+    x: u16,
+    leg: u32,
+    pq: u64,
+    cp: u64,
+    cq: u64,
+) -> u32
     requires { ⌜ Known n (now table) c p q x leg pq cp cq ⌝ }
     ensures { λ r. ⌜ r ≡ narrowed (lengthOf n (now (table .entry))) c p q x leg ⌝ }
 {
@@ -101,7 +112,10 @@ fn tighten(n: u16, table: &[u32], c: u16, u: u16, v: u16, bound: u32) -> u32
         return bound;
     }
     let saved = length_between(n, table, u, v);
-    let room = length_between(n, table, u, c) + length_between(n, table, v, c) + Instance::MOST_LENGTH as u64 - saved;
+    let room = length_between(n, table, u, c)
+        + length_between(n, table, v, c)
+        + Instance::MOST_LENGTH as u64
+        - saved;
     if room < bound as u64 {
         return room as u32;
     }

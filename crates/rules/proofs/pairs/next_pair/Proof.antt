@@ -14,7 +14,7 @@ abbrev μ-loop : tie.MeasureT-loop
 μ-loop n table legs bound k c x y a₀ b₀ a b = 1000 * (n - a) + (n - b)
 
 loop-holds : tie.Need-loop-holds Inv-loop μ-loop
-loop-holds c = search needs
+loop-holds c = walk-start _ (c .before .pre)
 
 next-in-row-requires : tie.Need-next-in-row-requires Inv-loop μ-loop
 next-in-row-requires c κs = search needs

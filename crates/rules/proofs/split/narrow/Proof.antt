@@ -1,6 +1,5 @@
 -- `rules::split::narrow` meets its contract: the invariant is `Narrowing`, that the legs below x have taken in the edge and the others are as they were. Assumes nothing.
 use Prim.Native.Nat.{_+_, _-_}
-use native.Mathlib.Omega.{arith}
 use Rattle.rules.proofs.Splits.{Narrowing, narrowing-start, narrowing-on, narrowing-end}
 use borrow.Author.Needs.{needs}
 use Rattle.rules.proofs.split.narrow.Statement.{statement}

@@ -30,7 +30,7 @@ returns-3 : tie.Need-returns-3
 returns-3 c = narrowed-second _ _ _ _ _ _ (omega (arith, c .if3 .taken, c .before .length-between2 .ensures .at, c .before .before .before .before .before .before .pre .is-pq, c .before .before .before .before .before .before .pre .is-cq))
 
 returns-4 : tie.Need-returns-4
-returns-4 c = 
+returns-4 c =
     narrowed-neither _ _ _ _ _ _
     (omega (arith, c .before .before .if2 .left, c .before .before .before .length-between .ensures .at, c .before .before .before .before .before .before .pre .is-pq, c .before .before .before .before .before .before .pre .is-cp))
     (omega (arith, c .if3 .left, c .before .length-between2 .ensures .at, c .before .before .before .before .before .before .pre .is-pq, c .before .before .before .before .before .before .pre .is-cq))

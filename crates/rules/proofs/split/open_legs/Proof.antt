@@ -1,7 +1,6 @@
 -- `rules::split::open_legs` meets its contract: the invariant is `Filling`, that the legs below x are filled in. Assumes nothing.
 use Prim.Native.Nat.{_+_, _-_}
 use mathlib.Core.List.{[]}
-use native.Mathlib.Omega.{arith}
 use Rattle.lengths.specs.Table.{lengthOf}
 use Rattle.rules.specs.Mark.{openIn}
 use Rattle.rules.specs.Split.{legOf}

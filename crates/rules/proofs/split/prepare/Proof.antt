@@ -1,7 +1,6 @@
 -- `rules::split::prepare` meets its contract: the invariant is `Taking`, that the legs and the bound are those of the first i edges.
 -- Assumes nothing.
 use Prim.Native.Nat.{_-_}
-use native.Mathlib.Omega.{arith}
 use borrow.Author.Needs.{needs}
 use Rattle.rules.proofs.Splits.{Taking, take-start, take-edge, take-narrow, take-on, take-end}
 use Rattle.rules.proofs.split.prepare.Statement.{statement}
