@@ -19,7 +19,7 @@ unfolding tri
 tri-square zero = refl
 tri-square (suc k) = rw (suc-mul, mul-suc) (omega (arith, tri-square k))
 
-tri-suc : (k : ℕ) → tri (suc k) ≡ tri k + k
+pub tri-suc : (k : ℕ) → tri (suc k) ≡ tri k + k
 unfolding tri
 tri-suc k = refl
 

@@ -1,5 +1,4 @@
 pub mod ClosingExact
-pub mod ClosingExamples
 pub mod Crossings
 pub mod Exact
 pub mod Laws
