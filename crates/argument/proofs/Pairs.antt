@@ -2,7 +2,7 @@
 use Prim.Native.Nat.{ℕ, _≤_, _<_}
 use mathlib.Core.Path.{_≡_, refl, sym, _∙_, ap₂}
 use mathlib.Core.Logic.{_⊎_, inl, inr, ⊎-elim}
-use mathlib.Core.Bool.{Bool, true, false, _&&_, _||_}
+use mathlib.Core.Bool.{Bool, true, false, _&&_, _||_, false≢true}
 use mathlib.Core.List.{List, [], _∷_}
 use native.Mathlib.Omega.{arith}
 use lib.Dec.{eqb}
@@ -76,3 +76,39 @@ after-rest (edge c d ∷ es) r x y a b ps e = by (before x y c d) refl (after-re
 -- the same of the pairs left at a case
 pub rest-after : (es : List Edge) → Rising es → (x y a b : ℕ) → after es x y ≡ edge a b ∷ rest (after es x y) → rest (after es x y) ≡ after es a b
 rest-after es r x y a b e = sym (after-rest es r x y a b _ e)
+
+-- of two pairs only one comes before the other, and none before itself
+pub before-one-way : (a b c d : ℕ) → before a b c d ≡ true → before c d a b ≡ true → ⊥
+before-one-way a b c d h g = false≢true (sym (not-before a b c d (before-means a b c d h)) ∙ g)
+
+-- a pair that comes before all of a list is not in it
+later : (a b : ℕ) (es fs : List Edge) → Below a b es → (x y : ℕ) → Among es x y → (edge a b ≡ edge x y) ⊎ Among fs x y → Among fs x y
+later a b es fs below x y m (inl e) =
+    let ex : a ≡ x = cc in
+    let ey : b ≡ y = cc in
+    let h = below x y m in
+    absurd (before-one-way a b x y h (ap₂ (λ (i j : ℕ). before i j a b) (sym ex) (sym ey) ∙ ap₂ (λ (i j : ℕ). before a b i j) ex ey ∙ h))
+later a b es fs below x y m (inr k) = k
+
+-- Two rising lists with the same pairs are the same list. If their first pairs differed, each would stand further on in the other list,
+-- and so come before the other. So the first pairs are the same, and neither stands again in what follows.
+pub rising-unique : (es fs : List Edge) → Rising es → Rising fs → ((x y : ℕ) → Among es x y → Among fs x y) → ((x y : ℕ) → Among fs x y → Among es x y) → es ≡ fs
+rising-unique [] [] r q to from = refl
+rising-unique [] (edge c d ∷ fs) r q to from = absurd (from c d (inl refl))
+rising-unique (edge a b ∷ es) [] r q to from = absurd (to a b (inl refl))
+rising-unique (edge a b ∷ es) (edge c d ∷ fs) r q to from = by (to a b (inl refl)) (from c d (inl refl)) (rising-unique es fs (r .1) (q .1))
+  where
+    Tails : Type 0
+    Tails = ((x y : ℕ) → Among es x y → Among fs x y) → ((x y : ℕ) → Among fs x y → Among es x y) → es ≡ fs
+
+    first : edge c d ≡ edge a b → Tails → edge a b ∷ es ≡ edge c d ∷ fs
+    first e tails =
+        ap₂ _∷_ (sym e)
+        (tails
+        (λ x y m. later a b es fs (r .0) x y m (⊎-elim (λ h. inl (sym e ∙ h)) inr (to x y (inr m))))
+        (λ x y m. later c d fs es (q .0) x y m (⊎-elim (λ h. inl (e ∙ h)) inr (from x y (inr m)))))
+
+    by : (edge c d ≡ edge a b) ⊎ Among fs a b → (edge a b ≡ edge c d) ⊎ Among es c d → Tails → edge a b ∷ es ≡ edge c d ∷ fs
+    by (inl e) g tails = first e tails
+    by (inr m) (inl e) tails = first (sym e) tails
+    by (inr m) (inr k) tails = absurd (before-one-way a b c d (r .0 c d k) (q .0 a b m))
