@@ -1,0 +1,106 @@
+-- A 3-optimal tour whose edges are open keeps them open, whatever sheets are marked: the tour meets what `argument` asks of a tour in
+-- question (`Guarded`), so no accepted line strikes one of its edges, and nothing else changes a mark. Assumes nothing.
+use Prim.Native.Nat.{ℕ, _≤_}
+use mathlib.Core.Path.{_≡_, refl, _∙_, ap, subst, subst₂}
+use mathlib.Core.Bool.{true}
+use mathlib.Core.Logic.{inl, ⊎-elim}
+use mathlib.Core.List.{List, [], _∷_}
+use native.Mathlib.Omega.{arith}
+use lib.ListN.{length, length-set}
+use lib.Seq.{getD-set-other}
+use lib.Dec.{eqb}
+use Rattle.lengths.specs.Edge.{Edge, edge, IsEdge, edgeCount, place}
+use Rattle.lengths.specs.Table.{lengthOf}
+use Rattle.lengths.proofs.Edges.{place-injective}
+use Rattle.lengths.proofs.Tables.{length-symmetric}
+use Rattle.rules.specs.EdgeSet.{Has, closedEdges}
+use Rattle.rules.specs.Mark.{openIn}
+use Rattle.rules.specs.Pair.{withPair}
+use Rattle.rules.specs.Pairs.{feasiblePairs}
+use Rattle.rules.specs.Shape.{Shape}
+use Rattle.rules.proofs.Exact.{shape-exact}
+use Rattle.rules.proofs.PairTests.{feasiblePairs-iff}
+use Rattle.tours.specs.Tour.{Uses, ThreeOptimal, Symmetric}
+use Rattle.tours.proofs.Edges.{inside-cons, has-sym}
+use Rattle.tours.proofs.Count.{tour-once}
+use Rattle.tours.proofs.Neighbours.{at-most-two, tour-no-loop, uses-point}
+use Rattle.tours.proofs.ShortCycle.{no-short-cycle}
+use Rattle.tours.proofs.Optimal.{Standing, optimal-feasible, optimal-not-closed}
+use Rattle.argument.specs.Pairs.{Among}
+use Rattle.argument.specs.Safety.{Upheld, Guarded}
+use Rattle.marking.specs.Rules.{rulesOf, strikeIn, markingOf}
+use Rattle.demands.proofs.Lawful.{lawful, member-among}
+
+-- the tour uses every edge of K
+abbrev pub InTour : List ℕ → List Edge → Type 0
+InTour t K = (a b : ℕ) → Has K a b → Uses t a b
+
+-- the marks are those of n points, and every edge of the tour is open
+pub record Kept (n : ℕ) (t marks : List ℕ) : Type 0 where
+  pub whole : length marks ≡ edgeCount n
+  pub all-open : (a b : ℕ) → Uses t a b → openIn n marks a b ≡ true
+
+module _ {n : ℕ} (table : List ℕ) {t : List ℕ} (some : 4 ≤ n) (best : ThreeOptimal n (lengthOf n table) t) where
+  symmetric : Symmetric (lengthOf n table)
+  symmetric = length-symmetric n table
+
+  -- what the tour uses has the shape that the tests of conditions 2 and 3 go by
+  shaped : (K : List Edge) → InTour t K → Shape n K
+  shaped K uses = record {
+    two = at-most-two K t (tour-once (best .tour)) uses;
+    long = no-short-cycle (best .tour) K uses;
+    plain = λ v h. tour-no-loop (best .tour) (omega arith) v (uses v v h);
+  }
+
+  -- an edge of the tour is an edge of the instance
+  pub used-edge : (a b : ℕ) → Uses t a b → IsEdge n a b
+  used-edge a b u =
+      let p = uses-point (best .tour) a b u in
+      record { first = p .0; second = p .1; apart = λ e. tour-no-loop (best .tour) (omega arith) b (subst (λ (v : ℕ). Uses t v b) e u) }
+
+  module _ (marks : List ℕ) (kept : Kept n t marks) where
+    -- the tour's two neighbours of c are one of the feasible pairs
+    own : (K : List Edge) (c : ℕ) → InTour t K → Standing n (lengthOf n table) (openIn n marks) K t c
+        → (x : ℕ) × (y : ℕ) × Among (rulesOf n table marks .pairs K c) x y × InTour t (withPair K c x y)
+    unfolding withPair
+    own K c uses S = (
+      S .x,
+      S .y,
+      member-among (feasiblePairs n (lengthOf n table) (openIn n marks) K c) (S .x) (S .y)
+          (feasiblePairs-iff (lengthOf n table) symmetric n (openIn n marks) K c (S .x) (S .y)
+          (λ xc yc e. shape-exact n K c (S .x) (S .y) (shaped K uses) (record { x-y = λ q. omega (arith, e .up); x-c = xc; y-c = yc })) .1 (S .feasible)),
+      inside-cons (edge c (S .y) ∷ K) (closedEdges t) c (S .x) (S .uses-x) (inside-cons K (closedEdges t) c (S .y) (S .uses-y) uses),
+    )
+
+    upheld : Upheld (rulesOf n table marks) (InTour t)
+    upheld =
+        record {
+          keeps = λ K c uses p. own K c uses (optimal-feasible best symmetric (openIn n marks) K (kept .all-open) uses (omega arith) c p);
+          unsettled = λ K p q r s uses c. optimal-not-closed best symmetric K uses p q r s c;
+        }
+
+    -- striking an edge that the tour does not use leaves the tour's edges open
+    spared : (a b : ℕ) → IsEdge n a b → (InTour t (edge a b ∷ []) → ⊥) → Kept n t (strikeIn n marks a b)
+    unfolding strikeIn openIn
+    spared a b e unused =
+        record {
+          whole = length-set marks (place n a b) 0 ∙ kept .whole;
+          all-open = λ c d u. ap (λ (m : ℕ). eqb m 1) (getD-set-other marks (place n a b) (place n c d) 0 0 (apart c d u)) ∙ kept .all-open c d u;
+        }
+      where
+        apart : (c d : ℕ) → Uses t c d → place n c d ≡ place n a b → ⊥
+        apart c d u h =
+            unused
+            (⊎-elim
+            (λ s. inside-cons [] (closedEdges t) a b (subst₂ (λ (x y : ℕ). Uses t x y) (s .0) (s .1) u) (λ x y k. absurd k))
+            (λ s. inside-cons [] (closedEdges t) a b (has-sym (closedEdges t) b a (subst₂ (λ (x y : ℕ). Uses t x y) (s .0) (s .1) u)) (λ x y k. absurd k))
+            (place-injective (used-edge c d u) e h))
+
+  pub guarded : Guarded (markingOf n table) (InTour t) (Kept n t)
+  guarded =
+      record {
+        lawful = λ m k. lawful n table m;
+        upheld = upheld;
+        shown = λ m a b k uses. k .all-open a b (uses a b (inl (inl (refl, refl))));
+        spares = λ m a b k pa pb ne o unused. spared m k a b (record { first = pa; second = pb; apart = ne }) unused;
+      }

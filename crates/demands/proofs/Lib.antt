@@ -1,0 +1,4 @@
+pub mod Kept
+pub mod Lawful
+pub mod Demand3
+pub mod Demand2

@@ -1,0 +1,203 @@
+-- Little-endian bytes: one turn of decoding takes the next number off the bytes, at any width, and what the decoders leave is
+-- `fitting16` and `fitting32`. Assumes nothing.
+use Prim.Native.Nat.{ℕ, suc, _+_, _*_, _/_, _%_, _≤_, _<_}
+use mathlib.Core.Path.{_≡_, refl, sym, _∙_, ap}
+use mathlib.Core.Bool.{Bool, true, false, cond}
+use mathlib.Core.Logic.{_⊎_, inl, inr}
+use mathlib.Core.List.{List, [], _∷_, _++_, append-nil}
+use native.Mathlib.Nat.{mul-zero}
+use native.Mathlib.Numerals.{add-one}
+use native.Mathlib.Omega.{arith}
+use lib.Dec.{leb, eqb}
+use lib.ListN.{length, getD, take, drop, set, length-set, drop-of-length-le}
+use lib.Seq.{append-snoc, drop-cons, drop-drop, drop-set-lt, take-suc-set, length-take-le}
+use borrow.Author.Tests.{eq-eqb, ne-eqb, le-leb, lt-leb, leb-false}
+use Rattle.marking.specs.Bytes.{numbers16, numbers32, whole16, whole32, fitting16, fitting32, Decoded, ByteIs}
+
+-- the loop at a width: i of the numbers are decoded, and what is left of the bytes holds the others
+pub record Decoding (width : ℕ) (numbers : List ℕ → List ℕ) (bytes out₀ : List ℕ) (size : ℕ) (out : List ℕ) (i : ℕ) : Type 0 where
+  pub within : i ≤ size
+  pub room : size ≤ length out
+  pub kept : length out ≡ length out₀
+  pub bytes-whole : length bytes ≡ width * size
+  pub front : numbers bytes ≡ take i out ++ numbers (drop (width * i) bytes)
+  pub rest : drop i out ≡ drop i out₀
+
+-- the next number is v
+record Next (width : ℕ) (numbers : List ℕ → List ℕ) (bytes : List ℕ) (i v : ℕ) : Type 0 where
+  pub next : numbers (drop (width * i) bytes) ≡ v ∷ numbers (drop (width * (i + 1)) bytes)
+
+-- before the first turn
+pub start : {width : ℕ} {numbers : List ℕ → List ℕ} {bytes out : List ℕ} {size : ℕ} → length bytes ≡ width * size → size ≤ length out
+    → Decoding width numbers bytes out size out 0
+start {width} {numbers} {bytes} w r = record { within = omega arith; room = r; kept = refl; bytes-whole = w; front = rw (mul-zero width); rest = refl }
+
+module _ {width : ℕ} {numbers : List ℕ → List ℕ} {bytes out₀ : List ℕ} {size : ℕ} where
+  turn : {out : List ℕ} {i v : ℕ} → Decoding width numbers bytes out₀ size out i → i < size → Next width numbers bytes i v
+      → Decoding width numbers bytes out₀ size (set out i v) (i + 1)
+  turn {out} {i} {v} d h n = record {
+    within = omega arith;
+    room = omega (arith, d .room, length-set out i v);
+    kept = length-set out i v ∙ d .kept;
+    bytes-whole = d .bytes-whole;
+    front = d .front ∙ ap (λ (xs : List ℕ). take i out ++ xs) (n .next) ∙ moved;
+    rest = drop-set-lt (i + 1) out i v (omega arith) ∙ sym (drop-drop 1 i out) ∙ ap (drop 1) (d .rest) ∙ drop-drop 1 i out₀;
+  }
+    where
+      moved : take i out ++ (v ∷ numbers (drop (width * (i + 1)) bytes)) ≡ take (i + 1) (set out i v) ++ numbers (drop (width * (i + 1)) bytes)
+      moved =
+          let rest : List ℕ = numbers (drop (width * (i + 1)) bytes) in
+          let one : take (i + 1) (set out i v) ≡ take i out ++ (v ∷ []) = rw add-one (take-suc-set out i v (omega (arith, d .room))) in
+          sym (append-snoc (take i out) v rest) ∙ ap (λ (xs : List ℕ). xs ++ rest) (sym one)
+
+  done : {out : List ℕ} {i : ℕ} → numbers [] ≡ [] → Decoding width numbers bytes out₀ size out i → size ≤ i → numbers bytes ≡ take size out
+  done {out} {i} e d h =
+      let all : i ≡ size = omega (arith, d .within) in
+      let split : numbers bytes ≡ take size out ++ numbers (drop (width * size) bytes) = rw all at (d .front) in
+      split
+      ∙ ap (λ (xs : List ℕ). take size out ++ numbers xs) (drop-of-length-le bytes {i = width * size} (omega (arith, d .bytes-whole)))
+      ∙ ap (λ (xs : List ℕ). take size out ++ xs) e
+      ∙ append-nil (take size out)
+
+-- after the last turn the places past the numbers are as they were
+rest-at : {width : ℕ} {numbers : List ℕ → List ℕ} {bytes out₀ out : List ℕ} {size i : ℕ} → Decoding width numbers bytes out₀ size out i → size ≤ i
+    → drop size out ≡ drop size out₀
+rest-at {size = size} {i = i} d h = let all : i ≡ size = omega (arith, d .within) in rw all at (d .rest)
+
+-- what is left at j: the byte there, and what is left at the next place
+drop-next : (xs : List ℕ) (j k : ℕ) → k ≡ suc j → j < length xs → drop j xs ≡ getD xs j 0 ∷ drop k xs
+drop-next xs j k e h = rw e (drop-cons xs j 0 h)
+
+-- a turn at each width: the bytes from the next place on are the next number
+pub turn16 : {bytes out₀ out : List ℕ} {size i x y : ℕ} → Decoding 2 numbers16 bytes out₀ size out i → i < size
+    → ByteIs (getD bytes (2 * i) 0) x → ByteIs (getD bytes (2 * i + 1) 0) y
+    → Decoding 2 numbers16 bytes out₀ size (set out i (x + 256 * y)) (i + 1)
+unfolding numbers16
+turn16 {bytes} {out₀} {out} {size} {i} {x} {y} d h a b = turn d h (rw (a .same, b .same) (record { next = ap numbers16 two }))
+  where
+    two : drop (2 * i) bytes ≡ getD bytes (2 * i) 0 ∷ getD bytes (2 * i + 1) 0 ∷ drop (2 * (i + 1)) bytes
+    two =
+        drop-next bytes (2 * i) (2 * i + 1) (omega arith) (omega (arith, d .bytes-whole))
+        ∙ ap (λ (r : List ℕ). getD bytes (2 * i) 0 ∷ r)
+        (drop-next bytes (2 * i + 1) (2 * (i + 1)) (omega arith) (omega (arith, d .bytes-whole)))
+
+pub turn32 : {bytes out₀ out : List ℕ} {size i x y z w : ℕ} → Decoding 4 numbers32 bytes out₀ size out i → i < size
+    → ByteIs (getD bytes (4 * i) 0) x → ByteIs (getD bytes (4 * i + 1) 0) y
+    → ByteIs (getD bytes (4 * i + 2) 0) z → ByteIs (getD bytes (4 * i + 3) 0) w
+    → Decoding 4 numbers32 bytes out₀ size (set out i (x + 256 * y + 65536 * z + 16777216 * w)) (i + 1)
+unfolding numbers32
+turn32 {bytes} {out₀} {out} {size} {i} {x} {y} {z} {w} d h a b c e =
+    turn d h (rw (a .same, b .same, c .same, e .same) (record { next = ap numbers32 four }))
+  where
+    four : drop (4 * i) bytes
+        ≡ getD bytes (4 * i) 0 ∷ getD bytes (4 * i + 1) 0 ∷ getD bytes (4 * i + 2) 0 ∷ getD bytes (4 * i + 3) 0 ∷ drop (4 * (i + 1)) bytes
+    four =
+        drop-next bytes (4 * i) (4 * i + 1) (omega arith) (omega (arith, d .bytes-whole))
+        ∙ ap (λ (r : List ℕ). getD bytes (4 * i) 0 ∷ r)
+        (drop-next bytes (4 * i + 1) (4 * i + 2) (omega arith) (omega (arith, d .bytes-whole))
+        ∙ ap (λ (r : List ℕ). getD bytes (4 * i + 1) 0 ∷ r)
+        (drop-next bytes (4 * i + 2) (4 * i + 3) (omega arith) (omega (arith, d .bytes-whole))
+        ∙ ap (λ (r : List ℕ). getD bytes (4 * i + 2) 0 ∷ r)
+        (drop-next bytes (4 * i + 3) (4 * (i + 1)) (omega arith) (omega (arith, d .bytes-whole)))))
+
+-- how many numbers there are
+count16 : (bytes : List ℕ) → length (numbers16 bytes) ≡ length bytes / 2
+unfolding numbers16
+count16 [] = refl
+count16 (a ∷ []) = refl
+count16 (a ∷ b ∷ rest) = omega (arith, count16 rest)
+
+count32 : (bytes : List ℕ) → length (numbers32 bytes) ≡ length bytes / 4
+unfolding numbers32
+count32 [] = refl
+count32 (a ∷ []) = refl
+count32 (a ∷ b ∷ []) = refl
+count32 (a ∷ b ∷ c ∷ []) = refl
+count32 (a ∷ b ∷ c ∷ d ∷ rest) = omega (arith, count32 rest)
+
+-- nothing is decoded
+pub nothing : {numbers : List ℕ} (out : List ℕ) → numbers ≡ [] → Decoded numbers out 0 out
+nothing out e = record { count = sym (ap length e); room = omega arith; front = sym e; rest = refl; kept = refl }
+
+-- all is
+all-decoded : {numbers out left : List ℕ} {size : ℕ} → take size left ≡ numbers → drop size left ≡ drop size out
+    → size ≤ length left → length left ≡ length out → Decoded numbers out size left
+all-decoded {numbers} {out} {left} {size} f b r k = record {
+  count = sym (length-take-le size left r) ∙ ap length f;
+  room = r;
+  front = f;
+  rest = b;
+  kept = k;
+}
+
+none-either : (b : Bool) → _≡_ {A = List ℕ} (cond b [] []) []
+none-either true = refl
+none-either false = refl
+
+-- the numbers that fit are those of the bytes, unless these are too many or no whole numbers
+module _ (bytes : List ℕ) (room : ℕ) where
+  pub broken16 : (length bytes % 2 ≡ 0 → ⊥) → fitting16 bytes room ≡ []
+  unfolding fitting16 whole16
+  broken16 h = rw (fitting16, whole16, ne-eqb (length bytes % 2) 0 h) (none-either (leb (length bytes / 2) room))
+
+  pub broken32 : (length bytes % 4 ≡ 0 → ⊥) → fitting32 bytes room ≡ []
+  unfolding fitting32 whole32
+  broken32 h = rw (fitting32, whole32, ne-eqb (length bytes % 4) 0 h) (none-either (leb (length bytes / 4) room))
+
+  pub long16 : room < length bytes / 2 → fitting16 bytes room ≡ []
+  unfolding fitting16
+  long16 h = rw (fitting16, lt-leb (length bytes / 2) room h)
+
+  fits16 : length bytes % 2 ≡ 0 → length bytes / 2 ≤ room → fitting16 bytes room ≡ numbers16 bytes
+  unfolding fitting16 whole16
+  fits16 h l = rw (fitting16, whole16, le-leb (length bytes / 2) room l, eq-eqb (length bytes % 2) 0 h)
+
+  pub long32 : room < length bytes / 4 → fitting32 bytes room ≡ []
+  unfolding fitting32
+  long32 h = rw (fitting32, lt-leb (length bytes / 4) room h)
+
+  fits32 : length bytes % 4 ≡ 0 → length bytes / 4 ≤ room → fitting32 bytes room ≡ numbers32 bytes
+  unfolding fitting32 whole32
+  fits32 h l = rw (fitting32, whole32, le-leb (length bytes / 4) room l, eq-eqb (length bytes % 4) 0 h)
+
+-- after the last turn
+pub finished16 : {bytes out₀ out : List ℕ} {size i : ℕ} → Decoding 2 numbers16 bytes out₀ size out i → size ≤ i
+    → Decoded (fitting16 bytes (length out₀)) out₀ size out
+unfolding numbers16
+finished16 {bytes} {out₀} {out} {size} {i} d h = all-decoded
+    (sym (done refl d h) ∙ sym (fits16 bytes (length out₀) (omega (arith, d .bytes-whole)) (omega (arith, d))))
+    (rest-at d h)
+    (d .room)
+    (d .kept)
+
+pub finished32 : {bytes out₀ out : List ℕ} {size i : ℕ} → Decoding 4 numbers32 bytes out₀ size out i → size ≤ i
+    → Decoded (fitting32 bytes (length out₀)) out₀ size out
+unfolding numbers32
+finished32 {bytes} {out₀} {out} {size} {i} d h = all-decoded
+    (sym (done refl d h) ∙ sym (fits32 bytes (length out₀) (omega (arith, d .bytes-whole)) (omega (arith, d))))
+    (rest-at d h)
+    (d .room)
+    (d .kept)
+
+-- where the numbers do not fit, none are handed on, and there are more than the room is for
+pub record TooLong (numbers handed : List ℕ) (room : ℕ) : Type 0 where
+  pub none : handed ≡ []
+  pub many : room < length numbers
+
+handed : (size room : ℕ) (w : Bool) (numbers : List ℕ) → length numbers ≡ size
+    → (cond (leb size room) (cond w numbers []) [] ≡ cond w numbers []) ⊎ TooLong (cond w numbers []) (cond (leb size room) (cond w numbers []) []) room
+handed size room true numbers h = go (leb size room) refl
+  where
+    go : (b : Bool) → leb size room ≡ b → (cond (leb size room) numbers [] ≡ numbers) ⊎ TooLong numbers (cond (leb size room) numbers []) room
+    go true e = inl (rw e)
+    go false e = inr (record { none = rw e; many = omega (arith, leb-false size room e) })
+handed size room false numbers h = inl (none-either (leb size room))
+
+module _ (bytes : List ℕ) (room : ℕ) where
+  pub handed16 : (fitting16 bytes room ≡ whole16 bytes) ⊎ TooLong (whole16 bytes) (fitting16 bytes room) room
+  unfolding fitting16 whole16
+  handed16 = handed (length bytes / 2) room (eqb (length bytes % 2) 0) (numbers16 bytes) (count16 bytes)
+
+  pub handed32 : (fitting32 bytes room ≡ whole32 bytes) ⊎ TooLong (whole32 bytes) (fitting32 bytes room) room
+  unfolding fitting32 whole32
+  handed32 = handed (length bytes / 4) room (eqb (length bytes % 4) 0) (numbers32 bytes) (count32 bytes)

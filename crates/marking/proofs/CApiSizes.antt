@@ -1,0 +1,137 @@
+-- A table, a sheet or a tour that is too long for any instance is answered as an empty one is. So the functions for C, which decode
+-- only what their arrays have room for, answer for all bytes as the definitions do. Assumes nothing.
+use Prim.Native.Nat.{ℕ, _%_, _≤_}
+use mathlib.Core.Path.{_≡_, refl, sym, _∙_, ap}
+use mathlib.Core.Bool.{Bool, true, false}
+use mathlib.Core.Logic.{_⊎_, inl, inr}
+use mathlib.Core.List.{List, []}
+use native.Mathlib.Omega.{arith}
+use lib.ListN.{length, take}
+use lib.Seq.{length-take-le}
+use borrow.Author.Tests.{ne-eqb}
+use Rattle.lengths.specs.Edge.{edgeCount, tri}
+use Rattle.lengths.specs.Instance.{inRange}
+use Rattle.lengths.specs.Test.{unless}
+use Rattle.lengths.proofs.Edges.{edgeCount-tri, tri-mono}
+use Rattle.argument.specs.Sheet.{Result}
+use Rattle.marking.specs.Bytes.{whole16, whole32, fitting16, fitting32, Decoded}
+use Rattle.marking.specs.CApi.{resultNumber, MarkNumber, MarkedInC, tourInC, checkedNumber}
+use Rattle.marking.specs.Marking.{markTested, markSheet, resultOf}
+use Rattle.marking.specs.Sheets.{wholeSheet}
+use Rattle.marking.specs.Tests.{tested}
+use Rattle.marking.specs.TourCheck.{isTour, checkTested, tourChecked}
+use Rattle.marking.specs.declared.tests.Tested.{Tested}
+use Rattle.marking.specs.declared.tests.Tested.the-variants.{Points, Refused}
+use Rattle.marking.specs.declared.tour.Checked.{Checked}
+use Rattle.marking.specs.declared.verdict.Marked.{Marked}
+use Rattle.marking.proofs.BytesDecoded.{TooLong, handed16, handed32}
+use Rattle.marking.proofs.Records.{whole-none, whole-long}
+use Rattle.marking.proofs.Tested.{range-admits, passed}
+use Rattle.marking.proofs.TestWays.{wrong-size}
+
+-- 4 to 180 points have 6 to 16,110 edges
+edges-some : (n : ℕ) → inRange n ≡ true → 6 ≤ edgeCount n
+unfolding tri
+edges-some n h = omega (arith, edgeCount-tri n, tri-mono 4 n (range-admits n h .least))
+
+edges-few : (n : ℕ) → inRange n ≡ true → edgeCount n ≤ 16110
+unfolding tri
+edges-few n h = omega (arith, edgeCount-tri n, tri-mono n 180 (range-admits n h .most))
+
+-- an answer that looks at the table only where the tests are passed
+module _ {A : Type 0} (answer : Tested → List ℕ → A) (blind : (number : ℕ) (s t : List ℕ) → answer (Refused number) s ≡ answer (Refused number) t) where
+  pub table-alike : (n : ℕ) (table handed marks : List ℕ) → (handed ≡ table) ⊎ TooLong table handed 16110
+      → answer (tested n handed marks) handed ≡ answer (tested n table marks) table
+  table-alike n table handed marks (inl e) = rw e
+  table-alike n table handed marks (inr l) =
+      ap (λ (t : Tested). answer t handed) (wrong-size n handed marks none)
+      ∙ refused (inRange n)
+      ∙ ap (λ (t : Tested). answer t table) (sym (wrong-size n table marks many))
+    where
+      none : inRange n ≡ true → length handed ≡ edgeCount n → ⊥
+      none r e = omega (arith, ap length (l .none), edges-some n r)
+
+      many : inRange n ≡ true → length table ≡ edgeCount n → ⊥
+      many r e = omega (arith, l .many, edges-few n r)
+
+      refused : (b : Bool) → answer (unless b (Refused 1) (Refused 2)) handed ≡ answer (unless b (Refused 1) (Refused 2)) table
+      refused true = blind 2 handed table
+      refused false = blind 1 handed table
+
+-- a sheet of none or of more than 32,000 numbers is refused
+sheet-alike : (t : Tested) (table marks s handed : List ℕ) → (handed ≡ s) ⊎ TooLong s handed 32000
+    → markTested t table marks handed ≡ markTested t table marks s
+sheet-alike t table marks s handed (inl e) = rw e
+sheet-alike (Refused number) table marks s handed (inr l) = refl
+sheet-alike (Points m) table marks s handed (inr l) = rw (whole-none (length handed) (ap length (l .none)), whole-long (length s) (l .many))
+
+-- a list of another length than n is no tour
+no-tour : (n : ℕ) (t : List ℕ) → (length t ≡ n → ⊥) → isTour n t ≡ false
+unfolding isTour
+no-tour n t h = rw (isTour, ne-eqb (length t) n h)
+
+tour-alike : (n : ℕ) (table marks t handed : List ℕ) → (handed ≡ t) ⊎ TooLong t handed 180
+    → tourChecked n table marks handed ≡ tourChecked n table marks t
+unfolding tourChecked
+tour-alike n table marks t handed (inl e) = rw e
+tour-alike n table marks t handed (inr l) = go (tested n table marks) refl
+  where
+    go : (u : Tested) → tested n table marks ≡ u → tourChecked n table marks handed ≡ tourChecked n table marks t
+    go (Refused number) e = rw (tourChecked, e)
+    go (Points m) e =
+        let p = passed e in
+        rw (
+          tourChecked,
+          e,
+          no-tour m handed (λ g. omega (arith, ap length (l .none), p .least)),
+          no-tour m t (λ g. omega (arith, l .many, p .lengths .few)),
+        )
+
+-- "a length that is no whole number of entries is a wrong size (2, 7, 17)"
+module _ (n : ℕ) (bytes : List ℕ) where
+  pub broken-table : (marks : List ℕ) → inRange n ≡ true → (length bytes % 4 ≡ 0 → ⊥) → tested n (whole32 bytes) marks ≡ Refused 2
+  unfolding whole32
+  broken-table marks r h =
+      rw (whole32, ne-eqb (length bytes % 4) 0 h)
+      (wrong-size n [] marks (λ _ e. omega (arith, edges-some n r)) ∙ ap (λ (b : Bool). unless b (Refused 1) (Refused 2)) r)
+
+  pub broken-sheet : (length bytes % 2 ≡ 0 → ⊥) → wholeSheet (length (whole16 bytes)) ≡ false
+  unfolding whole16
+  broken-sheet h = rw (whole16, ne-eqb (length bytes % 2) 0 h) (whole-none 0 refl)
+
+  pub broken-tour : 4 ≤ n → (length bytes % 2 ≡ 0 → ⊥) → isTour n (whole16 bytes) ≡ false
+  unfolding whole16
+  broken-tour l h = rw (whole16, ne-eqb (length bytes % 2) 0 h) (no-tour n [] (λ e. omega arith))
+
+module _ (n : ℕ) (table marks s : List ℕ) where
+  pub mark-handed : markSheet n (fitting32 table 16110) marks (fitting16 s 32000) ≡ markSheet n (whole32 table) marks (whole16 s)
+  unfolding markSheet
+  mark-handed =
+      sheet-alike (tested n (fitting32 table 16110) marks) (fitting32 table 16110) marks (whole16 s) (fitting16 s 32000) (handed16 s 32000)
+      ∙ table-alike (λ u t. markTested u t marks (whole16 s)) (λ number t r. refl) n (whole32 table) (fitting32 table 16110) marks (handed32 table 16110)
+
+  pub tour-handed : tourChecked n (fitting32 table 16110) marks (fitting16 s 180) ≡ tourChecked n (whole32 table) marks (whole16 s)
+  unfolding tourChecked
+  tour-handed =
+      tour-alike n (fitting32 table 16110) marks (whole16 s) (fitting16 s 180) (handed16 s 180)
+      ∙ table-alike (λ u t. checkTested u t marks (whole16 s)) (λ number t r. refl) n (whole32 table) (fitting32 table 16110) marks (handed32 table 16110)
+
+-- what decoding hands on is as long as it says
+pub handed-length : {numbers out left : List ℕ} {size : ℕ} → Decoded numbers out size left → size ≡ length (take size left)
+handed-length {numbers} {out} {left} {size} d = sym (length-take-le size left (d .room))
+
+-- what the functions for C return, from what their callees ensure
+module _ (n : ℕ) (table marks s : List ℕ) {lengths₀ lengths numbers₀ numbers : List ℕ} {edges size : ℕ}
+    (d : Decoded (fitting32 table (length lengths₀)) lengths₀ edges lengths) (e : Decoded (fitting16 s (length numbers₀)) numbers₀ size numbers)
+    (room : length lengths₀ ≡ 16110) where
+  pub marked-in-c : {m : Marked} {r : ℕ} {left : List ℕ} → length numbers₀ ≡ 32000
+      → resultOf m left ≡ markSheet n (take edges lengths) marks (take size numbers) → MarkNumber m r → MarkedInC n table marks s r left
+  marked-in-c {m} {r} {left} places h k =
+      let all : resultOf m left ≡ markSheet n (whole32 table) marks (whole16 s) =
+      h ∙ rw (d .front, e .front, room, places) (mark-handed n table marks s) in
+      record { answered = k .number left ∙ ap resultNumber all; marks-left = ap (λ (x : Result (List ℕ)). x .marks) all }
+
+  pub checked-in-c : {c : Checked} {r : ℕ} → length numbers₀ ≡ 180 → c ≡ tourChecked n (take edges lengths) marks (take size numbers)
+      → r ≡ checkedNumber c → r ≡ tourInC n table marks s
+  unfolding tourInC
+  checked-in-c {c} {r} places h k = k ∙ ap checkedNumber (h ∙ rw (d .front, e .front, room, places) (tour-handed n table marks s))

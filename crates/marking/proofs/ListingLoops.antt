@@ -1,0 +1,168 @@
+-- The loops of `find_pairs` and `copy`. The numbers written so far and those of the pairs still to come make up the numbers of all pairs,
+-- which are at most as many as n points have edges. Assumes nothing.
+use Prim.Native.Nat.{ℕ, suc, _+_, _*_, _≤_, _<_}
+use mathlib.Core.Path.{_≡_, refl, sym, _∙_, ap, ap₂}
+use mathlib.Core.Bool.{Bool, true, false}
+use mathlib.Core.List.{List, [], _∷_, _++_, append-nil, append-assoc}
+use native.Mathlib.Numerals.{add-one}
+use native.Mathlib.Omega.{arith}
+use lib.ListN.{length, getD, take, drop, set, length-set, length-append, length-drop}
+use lib.Seq.{take-suc, take-suc-set, drop-cons, set-at, length-take-le, append-snoc}
+use Rattle.lengths.specs.Edge.{Edge, edge, IsEdgeUp, edgeCount, edges}
+use Rattle.lengths.specs.Table.{lengthOf}
+use Rattle.lengths.proofs.Edges.{length-edges, edgeCount-tri, tri-mono}
+use Rattle.rules.specs.Mark.{openIn}
+use Rattle.rules.specs.NextPair.{Searchable, Next, firstOf}
+use Rattle.rules.specs.PairTest.{feasible?}
+use Rattle.rules.specs.Pairs.{keep, feasiblePairs, feasibleAfter}
+use Rattle.rules.specs.Split.{SplitOf}
+use Rattle.rules.specs.Stored.{edgeList}
+use Rattle.rules.specs.declared.edge_set.EdgeSet.{EdgeSet}
+use Rattle.rules.specs.declared.pairs.NextPair.{NextPair}
+use Rattle.rules.specs.declared.pairs.NextPair.the-variants.{Pair, End}
+use Rattle.rules.specs.declared.split.Split.{Split}
+use Rattle.rules.proofs.PairLists.{keep-yes, keep-no, feasibleAfter-start}
+use Rattle.rules.proofs.Searches.{next-is-pair, next-is-end}
+use Rattle.marking.specs.Listing.{numbersOf, Found, FindAsked, CopyAsked}
+
+-- how many pairs there are
+
+keep-fewer : (t : ℕ → ℕ → Bool) (es : List Edge) → length (keep t es) ≤ length es
+unfolding keep
+keep-fewer t [] = omega arith
+keep-fewer t (edge a b ∷ es) = go (t a b) refl (keep-fewer t es)
+  where
+    go : (s : Bool) → t a b ≡ s → length (keep t es) ≤ length es → length (keep t (edge a b ∷ es)) ≤ suc (length es)
+    go true e h = rw (keep-yes t a b es e) (omega arith)
+    go false e h = rw (keep-no t a b es e) (omega arith)
+
+most : edgeCount 180 ≡ 16110
+unfolding edgeCount
+most = refl
+
+pub few-pairs : (n : ℕ) (l : ℕ → ℕ → ℕ) (open? : ℕ → ℕ → Bool) (K : List Edge) (c : ℕ) → 1 ≤ n → n ≤ 180
+    → 2 * length (feasiblePairs n l open? K c) ≤ 32220
+unfolding feasiblePairs
+few-pairs n l open? K c some few =
+    omega (arith, keep-fewer (feasible? n l open? K c) (edges n), length-edges n some, edgeCount-tri n, tri-mono n 180 few, edgeCount-tri 180, most)
+
+-- the loop of `find_pairs`
+
+-- the search is at xy, and so many pairs stand at the front of `found`
+pub record Finding (n : ℕ) (l : ℕ → ℕ → ℕ) (open? : ℕ → ℕ → Bool) (K : List Edge) (c : ℕ) (found : List ℕ) (x y count : ℕ) : Type 0 where
+  pub low : 1 ≤ x
+  pub up : x ≤ y
+  pub high : y ≤ n
+  pub size : length found ≡ 32220
+  pub room : 2 * length (feasiblePairs n l open? K c) ≤ 32220
+  pub counted : count + length (feasibleAfter n l open? K c x y) ≡ length (feasiblePairs n l open? K c)
+  pub written : take (2 * count) found ++ numbersOf (feasibleAfter n l open? K c x y) ≡ numbersOf (feasiblePairs n l open? K c)
+
+pub finding-start : {n : ℕ} {table marks : List ℕ} {k : EdgeSet} {c : ℕ} {found : List ℕ} → FindAsked n table marks k c found
+    → Finding n (lengthOf n table) (openIn n marks) (edgeList k) c found 1 1 0
+finding-start {n} {table} {marks} {k} {c} {found} g =
+    let some : 1 ≤ n = omega (arith, g .split .legs .centre) in
+    let e = feasibleAfter-start n (lengthOf n table) (openIn n marks) (edgeList k) c in
+    record {
+      low = omega arith;
+      up = omega arith;
+      high = some;
+      size = g .size;
+      room = few-pairs n (lengthOf n table) (openIn n marks) (edgeList k) c some (g .split .legs .lengths .few);
+      counted = omega (arith, ap length e);
+      written = ap numbersOf e;
+    }
+
+-- what `next_pair` answers is the first of the pairs left
+pub next-of : {n : ℕ} {table marks : List ℕ} {k : EdgeSet} {c x y : ℕ} {s : Split} {r p : NextPair} → SplitOf n table marks k c s
+    → Next n table (s .legs) (s .bound) k c x y r → r ≡ p → firstOf (feasibleAfter n (lengthOf n table) (openIn n marks) (edgeList k) c x y) ≡ p
+next-of {n} {marks = marks} sp next e = sym (next .first (openIn n marks) (sp .prepared)) ∙ e
+
+pub searchable : {n : ℕ} {table marks : List ℕ} {k : EdgeSet} {c : ℕ} {found₀ : List ℕ} {s : Split} {l : ℕ → ℕ → ℕ} {open? : ℕ → ℕ → Bool} {K : List Edge}
+    {found : List ℕ} {x y count : ℕ} → FindAsked n table marks k c found₀ → SplitOf n table marks k c s → Finding n l open? K c found x y count
+    → Searchable n table (s .legs) (s .bound) k x y
+searchable g sp f = record {
+  row = record { lengths = g .split .legs .lengths; bounded = sp .bounded; low = f .low; up = f .up; high = f .high };
+  stored = g .split .held .stored;
+}
+
+-- two numbers more at the front
+two-more : (xs : List ℕ) (at a b : ℕ) → suc at < length xs → take (suc (suc at)) (set (set xs at a) (suc at) b) ≡ take at xs ++ (a ∷ b ∷ [])
+two-more xs at a b h =
+    take-suc-set (set xs at a) (suc at) b (omega (arith, length-set xs at a))
+    ∙ ap (λ (ys : List ℕ). ys ++ (b ∷ [])) (take-suc-set xs at a (omega arith))
+    ∙ append-assoc (take at xs) (a ∷ []) (b ∷ [])
+
+module _ {n : ℕ} {l : ℕ → ℕ → ℕ} {open? : ℕ → ℕ → Bool} {K : List Edge} {c : ℕ} {found : List ℕ} {x y count : ℕ} (f : Finding n l open? K c found x y count) where
+  module _ {a b : ℕ} (e : firstOf (feasibleAfter n l open? K c x y) ≡ Pair a b) where
+    next : IsEdgeUp n a b × (feasible? n l open? K c a b ≡ true) × (feasibleAfter n l open? K c x y ≡ edge a b ∷ feasibleAfter n l open? K c a b)
+    next = next-is-pair n l open? K c x y (f .low) (f .up) (f .high) e
+
+    pub fewer-left : length (feasibleAfter n l open? K c a b) < length (feasibleAfter n l open? K c x y)
+    fewer-left = omega (arith, ap length (next .2))
+
+    pub space : 2 * count + 1 < 32220
+    space = omega (arith, f .counted, f .room, ap length (next .2))
+
+    pub finding-on : Finding n l open? K c (set (set found (2 * count) a) (2 * count + 1) b) a b (count + 1)
+    unfolding numbersOf
+    finding-on =
+        let two : 2 * (count + 1) ≡ suc (suc (2 * count)) = omega arith in
+        record {
+          low = next .0 .low;
+          up = omega (arith, next .0 .up);
+          high = next .0 .high;
+          size = length-set (set found (2 * count) a) (2 * count + 1) b ∙ length-set found (2 * count) a ∙ f .size;
+          room = f .room;
+          counted = omega (arith, f .counted, ap length (next .2));
+          written =
+              ap₂ (λ (i j : ℕ). take i (set (set found (2 * count) a) j b) ++ numbersOf (feasibleAfter n l open? K c a b)) two (add-one (2 * count))
+              ∙ ap (λ (ys : List ℕ). ys ++ numbersOf (feasibleAfter n l open? K c a b)) (two-more found (2 * count) a b (omega (arith, space, f .size)))
+              ∙ append-assoc (take (2 * count) found) (a ∷ b ∷ []) (numbersOf (feasibleAfter n l open? K c a b))
+              ∙ ap (λ (es : List Edge). take (2 * count) found ++ numbersOf es) (sym (next .2))
+              ∙ f .written;
+        }
+
+  pub all-found : firstOf (feasibleAfter n l open? K c x y) ≡ End → Found (feasiblePairs n l open? K c) count found
+  unfolding numbersOf
+  all-found e =
+      let none = next-is-end n l open? K c x y e in
+      let counted : count ≡ length (feasiblePairs n l open? K c) = omega (arith, f .counted, ap length none) in
+      record {
+        counted = counted;
+        front =
+            sym (append-nil (take (2 * count) found))
+            ∙ ap (λ (es : List Edge). take (2 * count) found ++ numbersOf es) (sym none)
+            ∙ f .written;
+        room = omega (arith, f .room);
+        size = f .size;
+      }
+
+-- the loop of `copy`
+
+-- the first i numbers are copied
+pub record Copying (found : List ℕ) (size : ℕ) (list₀ list : List ℕ) (i : ℕ) : Type 0 where
+  pub inside : i ≤ size
+  pub copied : list ≡ take i found ++ drop i list₀
+
+pub copying-start : {found : List ℕ} {size : ℕ} {list : List ℕ} → CopyAsked found size list → Copying found size list list 0
+copying-start g = record { inside = omega arith; copied = refl }
+
+module _ {found list₀ list : List ℕ} {size i : ℕ} (g : CopyAsked found size list₀) (k : Copying found size list₀ list i) where
+  pub copying-length : length list ≡ length list₀
+  copying-length =
+      omega (arith, ap length (k .copied), length-append (take i found) (drop i list₀), length-take-le i found (omega (arith, g, k .inside)), length-drop i list₀, g, k .inside)
+
+  pub copying-on : i < size → Copying found size list₀ (set list i (getD found i 0)) (i + 1)
+  copying-on h = record {
+    inside = omega arith;
+    copied =
+        ap (λ (xs : List ℕ). set xs i (getD found i 0)) (k .copied ∙ ap (λ (xs : List ℕ). take i found ++ xs) (drop-cons list₀ i 0 (omega (arith, g))))
+        ∙ set-at (take i found) (getD list₀ i 0) (drop (suc i) list₀) (getD found i 0) i (length-take-le i found (omega (arith, g)))
+        ∙ sym (append-snoc (take i found) (getD found i 0) (drop (suc i) list₀))
+        ∙ ap (λ (xs : List ℕ). xs ++ drop (suc i) list₀) (sym (take-suc found i 0 (omega (arith, g))))
+        ∙ ap (λ (j : ℕ). take j found ++ drop j list₀) (sym (add-one i));
+  }
+
+  pub all-copied : size ≤ i → list ≡ take size found ++ drop size list₀
+  all-copied h = k .copied ∙ ap (λ (j : ℕ). take j found ++ drop j list₀) (let e : i ≡ size = omega (arith, k .inside) in e)

@@ -1,0 +1,52 @@
+-- "Mark a sheet" in code: one lemma for each way out of `markSheet`. Assumes nothing.
+use Prim.Native.Nat.{ℕ}
+use mathlib.Core.Path.{_≡_, sym, _∙_, ap, ap₂}
+use mathlib.Core.Bool.{Bool, true, false}
+use mathlib.Core.List.{List}
+use lib.ListN.{length}
+use Rattle.lengths.specs.Test.{unless}
+use Rattle.argument.specs.Verdict.{Verdict, refused}
+use Rattle.argument.specs.Sheet.{Result, sheet}
+use Rattle.marking.proofs.Records.{sheet-records, sheet-admitted, sheet-refused}
+use Rattle.marking.proofs.Tested.{passed}
+use Rattle.marking.specs.Marking.{turnedDown, markTested, markSheet, verdictOf, resultOf}
+use Rattle.marking.specs.Rules.{markingOf}
+use Rattle.marking.specs.Sheets.{wholeSheet, sheetAdmission}
+use Rattle.marking.specs.Tests.{tested}
+use Rattle.marking.specs.Walks.{Tried}
+use Rattle.marking.specs.declared.sheet.Sheet as declared
+use Rattle.marking.specs.declared.sheet.SheetAdmission.{SheetAdmission}
+use Rattle.marking.specs.declared.sheet.SheetAdmission.the-variants as admitting
+use Rattle.marking.specs.declared.tests.Tested.{Tested}
+use Rattle.marking.specs.declared.tests.Tested.the-variants.{Points, Refused}
+use Rattle.marking.specs.declared.verdict.Marked.{Marked}
+
+-- the ways out
+
+turns-down : (m : Marked) (number : ℕ) (marks : List ℕ) → (m .lines ≡ 0) × (verdictOf (m .verdict) ≡ refused number 0) → resultOf m marks ≡ turnedDown number marks
+turns-down m number marks h = ap₂ (λ (l : ℕ) (v : Verdict (Unit {0})). record { marks = marks; lines = l; verdict = v }) (h .0) (h .1)
+
+module _ (n : ℕ) (table marks s : List ℕ) {r : Tested} (e : r ≡ tested n table marks) where
+  as-tested : {r′ : Tested} → r ≡ r′ → markTested r′ table marks s ≡ markSheet n table marks s
+  unfolding markSheet
+  as-tested g = ap (λ (t : Tested). markTested t table marks s) (sym g ∙ e)
+
+  pub sheet-untested : {number : ℕ} (m : Marked) → r ≡ Refused number → (m .lines ≡ 0) × (verdictOf (m .verdict) ≡ refused number 0) → resultOf m marks ≡ markSheet n table marks s
+  sheet-untested {number} m g h = turns-down m number marks h ∙ as-tested g
+
+  module _ {p : ℕ} (g : r ≡ Points p) {a : SheetAdmission} (w : a ≡ sheetAdmission (length s)) where
+    as-whole : (b : Bool) → wholeSheet (length s) ≡ b → unless b (turnedDown 7 marks) (sheet (markingOf p table) s marks) ≡ markSheet n table marks s
+    as-whole b h = ap (λ (t : Bool). unless t (turnedDown 7 marks) (sheet (markingOf p table) s marks)) (sym h) ∙ as-tested g
+
+    pub sheet-not-whole : (m : Marked) → a ≡ admitting.Refused → (m .lines ≡ 0) × (verdictOf (m .verdict) ≡ refused 7 0) → resultOf m marks ≡ markSheet n table marks s
+    sheet-not-whole m z h = turns-down m 7 marks h ∙ as-whole false (sheet-refused (length s) (sym w ∙ z))
+
+    module _ {x : declared.Sheet} (z : a ≡ admitting.Admitted x) where
+      pub sheet-tried : Tried p table marks s
+      sheet-tried =
+          let t = passed (sym e ∙ g) in
+          let h = sheet-records s (sheet-admitted (sym w ∙ z) .passed) in
+          record { least = t .least; lengths = t .lengths; marked = t .marked; whole = h .whole; few = h .few }
+
+      pub sheet-marked : {v : Result (List ℕ)} → v ≡ sheet (markingOf p table) s marks → v ≡ markSheet n table marks s
+      sheet-marked q = q ∙ as-whole true (sheet-admitted (sym w ∙ z) .passed)

@@ -1,0 +1,71 @@
+-- What the shared tests say of an instance that they pass: each test is taken off in its order. Assumes nothing.
+use Prim.Native.Nat.{ℕ, _≤_}
+use mathlib.Core.Path.{_≡_, refl}
+use mathlib.Core.Bool.{Bool, true, false}
+use mathlib.Core.List.{List}
+use native.Mathlib.Decide.{decLt}
+use native.Mathlib.Omega.{arith}
+use lib.Dec.{eqb}
+use lib.ListN.{length, getD, List·getD-eq-default}
+use borrow.Author.Tests.{eqb-true}
+use Rattle.lengths.specs.Edge.{edgeCount}
+use Rattle.lengths.specs.Instance.{inRange, admission}
+use Rattle.lengths.specs.Test.{allAtMost, unless}
+use Rattle.lengths.proofs.Instances.{Admits, admitted}
+use Rattle.lengths.proofs.Limits.{limit-each}
+use Rattle.rules.specs.Split.{Lengths}
+use Rattle.marking.specs.Tests.{tested}
+use Rattle.marking.specs.declared.tests.Tested.{Tested}
+use Rattle.marking.specs.declared.tests.Tested.the-variants.{Points, Refused}
+
+-- the tests pass an instance of n points, and answer n
+pub record Passed (n : ℕ) (table marks : List ℕ) (m : ℕ) : Type 0 where
+  pub answer : tested n table marks ≡ Points m
+  pub range : inRange n ≡ true
+  pub same : m ≡ n
+  pub least : 4 ≤ m
+  pub lengths : Lengths m table
+  pub marked : length marks ≡ edgeCount m
+  pub bytes : (i : ℕ) → getD marks i 0 ≤ 1
+
+-- a test that stands before an answer was passed
+unless-passed : (t : Bool) (k : ℕ) (rest : Tested) (m : ℕ) → unless t (Refused k) rest ≡ Points m → (t ≡ true) × (rest ≡ Points m)
+unless-passed true k rest m h = (refl, h)
+unless-passed false k rest m h = absurd (let z : _≡_ {A = ℕ} 0 1 = cc in omega arith)
+
+-- what is past the end is 0
+within : (limit : ℕ) (xs : List ℕ) → allAtMost limit xs ≡ true → (i : ℕ) → getD xs i 0 ≤ limit
+within limit xs h i = elim (decLt i (length xs)) [
+  | yes g ↦ limit-each limit xs h i g
+  | no g ↦ omega (arith, List·getD-eq-default xs 0 {n = i} (omega arith))
+]
+
+-- test 1 says that n is 4 to 180
+pub range-admits : (n : ℕ) → inRange n ≡ true → Admits n (record { points = n })
+unfolding admission
+range-admits n h = admitted (rw (admission, h))
+
+pub passed : {n : ℕ} {table marks : List ℕ} {m : ℕ} → tested n table marks ≡ Points m → Passed n table marks m
+unfolding tested
+passed {n} {table} {marks} {m} h =
+    let p1 = unless-passed (inRange n) 1 _ m h in
+    let p2 = unless-passed (eqb (length table) (edgeCount n)) 2 _ m (p1 .1) in
+    let p3 = unless-passed (allAtMost 2000000 table) 5 _ m (p2 .1) in
+    let p4 = unless-passed (eqb (length marks) (edgeCount n)) 6 _ m (p3 .1) in
+    let p5 = unless-passed (allAtMost 1 marks) 6 _ m (p4 .1) in
+    let q : Points n ≡ Points m = p5 .1 in
+    let e : m ≡ n = cc in
+    let a = range-admits n (p1 .0) in
+    record {
+      answer = h;
+      range = p1 .0;
+      same = e;
+      least = omega (arith, a .least);
+      lengths = record {
+        few = omega (arith, a .most);
+        whole = rw e (eqb-true (length table) (edgeCount n) (p2 .0));
+        small = within 2000000 table (p3 .0);
+      };
+      marked = rw e (eqb-true (length marks) (edgeCount n) (p4 .0));
+      bytes = within 1 marks (p5 .0);
+    }

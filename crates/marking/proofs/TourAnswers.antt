@@ -1,0 +1,73 @@
+-- `tourChecked` at each way out of `check_tour`, and that a tour's length stays below 2 ^ 40: no length is above 2,000,000. Assumes nothing.
+use Prim.Native.Nat.{ℕ, suc, _*_, _≤_}
+use mathlib.Core.Path.{_≡_, refl, ap, ap₂}
+use mathlib.Core.Bool.{Bool, true, false}
+use mathlib.Core.List.{List, [], _∷_}
+use native.Mathlib.Omega.{arith}
+use lib.ListN.{length}
+use Rattle.lengths.specs.Edge.{Edge, edge}
+use Rattle.lengths.specs.Table.{lengthOf}
+use Rattle.rules.specs.EdgeSet.{pathEdges, closedEdges}
+use Rattle.rules.specs.Mark.{openIn}
+use Rattle.rules.specs.PairTest.{every}
+use Rattle.rules.proofs.Splits.{length-small}
+use Rattle.tours.specs.Tour.{total, tourLength}
+use Rattle.marking.specs.Tests.{tested}
+use Rattle.marking.specs.TourCheck.{isTour, TourAsked, tourChecked, CheckedAs}
+use Rattle.marking.specs.declared.tests.Tested.the-variants as tests
+use Rattle.marking.specs.declared.tour.Checked.the-variants.{Tour, Refused}
+use Rattle.marking.proofs.Tested.{Passed}
+use Rattle.marking.proofs.TourLoops.{tour-size}
+
+-- a sum of lengths, none above m
+total-small : (l : ℕ → ℕ → ℕ) (m : ℕ) → ((a b : ℕ) → l a b ≤ m) → (es : List Edge) → total l es ≤ m * length es
+unfolding total
+total-small l m h [] = omega arith
+total-small l m h (edge a b ∷ es) = omega (arith, h a b, total-small l m h es)
+
+length-path : (a : ℕ) (vs : List ℕ) (z : ℕ) → length (pathEdges a vs z) ≡ suc (length vs)
+unfolding pathEdges
+length-path a [] z = refl
+length-path a (b ∷ vs) z = ap suc (length-path b vs z)
+
+length-closed : (t : List ℕ) → length (closedEdges t) ≡ length t
+unfolding closedEdges
+length-closed [] = refl
+length-closed (a ∷ vs) = length-path a vs a
+
+-- the tests pass, and the numbers are a tour
+pub record Toured (n : ℕ) (table marks : List ℕ) (m : ℕ) (t : List ℕ) : Type 0 where
+  pub passed : Passed n table marks m
+  pub tour : isTour m t ≡ true
+
+module _ {n : ℕ} {table marks t : List ℕ} where
+  pub refused-tests : {k : ℕ} → tested n table marks ≡ tests.Refused k → CheckedAs n table marks t (Refused k)
+  unfolding tourChecked
+  refused-tests h = record { answered = rw (tourChecked, h); countable = tt }
+
+  module _ {m : ℕ} where
+    pub refused-tour : Passed n table marks m → isTour m t ≡ false → CheckedAs n table marks t (Refused 17)
+    unfolding tourChecked
+    refused-tour p e = record { answered = rw (tourChecked, p .answer, e); countable = tt }
+
+    module _ (h : Toured n table marks m t) where
+      pub asked-table : TourAsked m table t
+      asked-table = record { few = h .passed .lengths .few; some = h .passed .least; whole = h .passed .lengths .whole; tour = h .tour }
+
+      pub asked-marks : TourAsked m marks t
+      asked-marks = record { few = h .passed .lengths .few; some = h .passed .least; whole = h .passed .marked; tour = h .tour }
+
+      pub checked-tour : {sum : ℕ} {open? : Bool} → sum ≡ tourLength (lengthOf m table) t → open? ≡ every (openIn m marks) (closedEdges t)
+          → CheckedAs n table marks t (Tour sum open?)
+      unfolding tourChecked tourLength
+      checked-tour {sum} {open?} s o = record {
+        answered = rw (tourChecked, h .passed .answer, h .tour) (ap₂ Tour s o);
+        countable = omega (
+          arith,
+          s,
+          total-small (lengthOf m table) 2000000 (length-small (h .passed .lengths)) (closedEdges t),
+          length-closed t,
+          tour-size asked-table,
+          h .passed .lengths .few,
+        );
+      }

@@ -1,0 +1,114 @@
+-- The loop of `each_once`: a flag is up exactly where the point stands among the numbers read, and these are points with none twice.
+-- Each way out shows that the numbers are a tour, or that they cannot be one. Assumes nothing.
+use Prim.Native.Nat.{ℕ, suc, _+_, _≤_, _<_}
+use mathlib.Core.Path.{_≡_, refl, sym, _∙_, ap}
+use mathlib.Core.Bool.{Bool, true, false, true≢false}
+use mathlib.Core.List.{List}
+use native.Mathlib.Decide.{ℕ-discrete}
+use native.Mathlib.Numerals.{add-one}
+use native.Mathlib.Omega.{arith}
+use lib.Dec.{ltb}
+use lib.ListN.{length, getD, take, set, length-set, replicate, length-replicate, getD-replicate}
+use lib.Seq.{take-all, getD-set-same, getD-set-other}
+use borrow.Author.Tests.{ltb-true, ltb-false, lt-ltb}
+use Rattle.lengths.specs.Edge.{Point}
+use Rattle.rules.specs.EdgeSet.{count}
+use Rattle.argument.specs.Record.{isPoint}
+use Rattle.argument.proofs.Tests.{is-point, point-is}
+use Rattle.tours.specs.Tour.{Tour}
+use Rattle.tours.proofs.Bit.{same, same-true, same-false, same-self}
+use Rattle.tours.proofs.Count.{tour-once, tour-length}
+use Rattle.marking.specs.TourCheck.{isTour}
+use Rattle.marking.proofs.TourCounts.{count-take, count-front, count-at, points-all}
+use Rattle.marking.proofs.TourExact.{is-tour, tour-is}
+
+-- what is no tour is answered by false
+pub no-tour : (n : ℕ) (t : List ℕ) → (Tour n t → ⊥) → false ≡ isTour n t
+no-tour n t h = go (isTour n t) refl
+  where
+    go : (b : Bool) → isTour n t ≡ b → false ≡ isTour n t
+    go true e = absurd (h (is-tour n t e))
+    go false e = sym e
+
+pub wrong-length : (n : ℕ) (t : List ℕ) → (length t ≡ n → ⊥) → false ≡ isTour n t
+wrong-length n t h = no-tour n t (λ T. h (tour-length T))
+
+-- the first i numbers are read
+pub record Seeing (n : ℕ) (t : List ℕ) (seen : List Bool) (i : ℕ) : Type 0 where
+  pub whole : length t ≡ n
+  pub inside : i ≤ length t
+  pub size : length seen ≡ 181
+  pub points : (v : ℕ) → 1 ≤ count v (take i t) → Point n v
+  pub once : (v : ℕ) → count v (take i t) ≤ 1
+  pub flags : (v : ℕ) → v < 181 → getD seen v false ≡ ltb 0 (count v (take i t))
+
+pub seeing-start : {n : ℕ} {t : List ℕ} → length t ≡ n → Seeing n t (replicate 181 false) 0
+unfolding count
+seeing-start e = record {
+  whole = e;
+  inside = omega arith;
+  size = length-replicate 181 false;
+  points = λ v h. absurd (omega arith);
+  once = λ v. omega arith;
+  flags = λ v h. getD-replicate 181 v false false h;
+}
+
+module _ {n : ℕ} {t : List ℕ} {seen : List Bool} {i : ℕ} (s : Seeing n t seen i) where
+  module _ (few : n ≤ 180) (h : i < length t) where
+    pub not-point : isPoint n (getD t i 0) ≡ false → false ≡ isTour n t
+    not-point p = no-tour n t (λ T. true≢false (sym (point-is (T .only (getD t i 0) (count-at t i h))) ∙ p))
+
+    module _ (p : isPoint n (getD t i 0) ≡ true) where
+      pub flag-inside : getD t i 0 < 181
+      flag-inside = omega (arith, is-point n (getD t i 0) p .high)
+
+      pub seen-twice : getD seen (getD t i 0) false ≡ true → false ≡ isTour n t
+      seen-twice f = no-tour n t
+          (λ T.
+          omega (
+            arith,
+            ltb-true 0 (count (getD t i 0) (take i t)) (sym (s .flags (getD t i 0) flag-inside) ∙ f),
+            tour-once T (getD t i 0),
+            count-front (getD t i 0) t (suc i),
+            count-take (getD t i 0) t i h,
+            same-self (getD t i 0),
+          ))
+
+      -- one number more is counted
+      further : (v : ℕ) → count v (take (i + 1) t) ≡ count v (take i t) + same (getD t i 0) v
+      further v = ap (λ (j : ℕ). count v (take j t)) (add-one i) ∙ count-take v t i h
+
+      pub seeing-on : getD seen (getD t i 0) false ≡ false → Seeing n t (set seen (getD t i 0) true) (i + 1)
+      seeing-on f = record {
+        whole = s .whole;
+        inside = omega arith;
+        size = length-set seen (getD t i 0) true ∙ s .size;
+        points = λ v g. elim (ℕ-discrete (getD t i 0) v) [
+          | yes e ↦ rw e at (is-point n (getD t i 0) p)
+          | no d ↦ s .points v (omega (arith, further v, same-false (getD t i 0) v d))
+        ];
+        once = λ v. elim (ℕ-discrete (getD t i 0) v) [
+          | yes e ↦ omega (arith, further v, same-true (getD t i 0) v e, fresh, ap (λ (u : ℕ). count u (take i t)) e)
+          | no d ↦ omega (arith, further v, same-false (getD t i 0) v d, s .once v)
+        ];
+        flags = λ v g. elim (ℕ-discrete (getD t i 0) v) [
+          | yes e ↦
+              ap (λ (u : ℕ). getD (set seen (getD t i 0) true) u false) (sym e)
+              ∙ getD-set-same seen (getD t i 0) true false (omega (arith, s .size, flag-inside))
+              ∙ sym (lt-ltb 0 (count v (take (i + 1) t)) (omega (arith, further v, same-true (getD t i 0) v e)))
+          | no d ↦
+              getD-set-other seen (getD t i 0) v true false (λ e. d (sym e))
+              ∙ s .flags v g
+              ∙ ap (ltb 0) (let e : count v (take i t) ≡ count v (take (i + 1) t) = omega (arith, further v, same-false (getD t i 0) v d) in e)
+        ];
+      }
+        where
+          fresh : count (getD t i 0) (take i t) ≤ 0
+          fresh = ltb-false 0 (count (getD t i 0) (take i t)) (sym (s .flags (getD t i 0) flag-inside) ∙ f)
+
+  pub all-seen : length t ≤ i → true ≡ isTour n t
+  all-seen h =
+      let e : take i t ≡ t = take-all i t h in
+      sym (tour-is n t (points-all n t (s .whole)
+      (λ v g. s .points v (omega (arith, ap (count v) e)))
+      (λ v. omega (arith, ap (count v) e, s .once v))))

@@ -1,0 +1,54 @@
+-- `marking::fresh::fresh_marks` meets its contract: each way out has its lemma in `FreshMarks`. Assumes nothing.
+use mathlib.Core.Path.{sym, _∙_}
+use Rattle.lengths.proofs.Instances.{Admits, admitted}
+use Rattle.marking.proofs.FreshMarks.{refused-fresh-points, refused-fresh-size, made-fresh}
+use borrow.Author.Needs.{needs}
+use Rattle.marking.proofs.fresh.fresh_marks.Statement.{statement}
+use Rattle.marking.proofs.fresh.fresh_marks.Tie as tie
+
+-- test 1 is passed
+admits : (c : tie.After-known-told) → Admits (c .before .before .before .before .before .args .n) (c .before .instance .given .0 .0)
+admits c = admitted (sym (c .before .before .before .admit .ensures) ∙ c .before .instance .given .1)
+
+admit-requires : tie.Need-admit-requires
+admit-requires c κs = search needs
+
+enum-known-instance : tie.Need-enum-known-instance
+enum-known-instance c = search needs
+
+enum-told : tie.Need-enum-told
+enum-told c = search needs
+
+returns : tie.Need-returns
+returns c = refused-fresh-points (sym (c .before .before .admit .ensures) ∙ c .enum-told .given .1)
+
+count-requires : tie.Need-count-requires
+count-requires c κs = search needs
+
+returns-2 : tie.Need-returns-2
+returns-2 c = refused-fresh-size (admits (c .before .before)) (λ e. c .if1 .taken (e ∙ sym (c .before .count .ensures)))
+
+open-all-requires : tie.Need-open-all-requires
+open-all-requires c κs = search needs
+
+same-length : tie.Need-same-length
+same-length c = search needs
+
+returns-3 : tie.Need-returns-3
+returns-3 c =
+    let k = c .before .before .before .before in
+    made-fresh (admits (k .before .before)) (k .if1 .left ∙ k .before .count .ensures) (c .before .before .open-all .ensures)
+
+pub fresh-marks-spec : {M : Type 1} → statement M
+fresh-marks-spec =
+    tie.close
+    (tie.spec
+    admit-requires
+    enum-known-instance
+    enum-told
+    returns
+    count-requires
+    returns-2
+    open-all-requires
+    same-length
+    returns-3)

@@ -1,0 +1,70 @@
+-- `marking::mark::mark_sheet` meets its contract: each return is a way out of `markSheet`. Assumes nothing.
+use Rattle.marking.proofs.MarkingSheets.{sheet-untested, sheet-not-whole, sheet-tried, sheet-marked}
+use borrow.Author.Needs.{needs}
+use Rattle.marking.proofs.mark.mark_sheet.Statement.{statement}
+use Rattle.marking.proofs.mark.mark_sheet.Tie as tie
+
+test-instance-requires : tie.Need-test-instance-requires
+test-instance-requires c κs = search needs
+
+enum-known-points : tie.Need-enum-known-points
+enum-known-points c = search needs
+
+enum-known-number : tie.Need-enum-known-number
+enum-known-number c = search needs
+
+turned-down-requires : tie.Need-turned-down-requires
+turned-down-requires c κs = search needs
+
+same-length : tie.Need-same-length
+same-length c = search needs
+
+returns : tie.Need-returns
+returns c = sheet-untested _ _ _ _ (c .before .before .before .before .test-instance .ensures) (c .turned-down .result) (c .before .before .number .given .1) (c .turned-down .ensures)
+
+admit-requires : tie.Need-admit-requires
+admit-requires c κs = search needs
+
+enum-told : tie.Need-enum-told
+enum-told c = search needs
+
+turned-down-requires-2 : tie.Need-turned-down-requires-2
+turned-down-requires-2 c κs = search needs
+
+enum-told-2 : tie.Need-enum-told-2
+enum-told-2 c = search needs
+
+mark-lines-requires : tie.Need-mark-lines-requires
+mark-lines-requires c κs = sheet-tried _ _ _ _ (c .before .before .before .before .before .before .before .test-instance .ensures) (c .before .before .before .before .before .points .given .1) (c .before .before .before .admit .ensures) (c .before .enum-told2 .given .1)
+
+same-length-2 : tie.Need-same-length-2
+same-length-2 c = search needs
+
+returns-2 : tie.Need-returns-2
+returns-2 c = sheet-not-whole _ _ _ _ (c .before .before .before .before .before .before .before .test-instance .ensures) (c .before .before .before .before .before .points .given .1) (c .before .before .before .admit .ensures) (c .turned-down2 .result) (c .before .enum-told .given .1) (c .turned-down2 .ensures)
+
+same-length-3 : tie.Need-same-length-3
+same-length-3 c = search needs
+
+returns-3 : tie.Need-returns-3
+returns-3 c = sheet-marked _ _ _ _ (c .before .before .before .before .before .before .before .before .before .before .test-instance .ensures) (c .before .before .before .before .before .before .before .before .points .given .1) (c .before .before .before .before .before .before .admit .ensures) (c .before .before .before .before .enum-told2 .given .1) (c .before .before .mark-lines .ensures)
+
+pub mark-sheet-spec : {M : Type 1} → statement M
+mark-sheet-spec =
+    tie.close
+    (tie.spec
+    test-instance-requires
+    enum-known-points
+    enum-known-number
+    turned-down-requires
+    same-length
+    returns
+    admit-requires
+    enum-told
+    turned-down-requires-2
+    enum-told-2
+    mark-lines-requires
+    same-length-2
+    returns-2
+    same-length-3
+    returns-3)

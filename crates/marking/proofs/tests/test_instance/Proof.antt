@@ -1,0 +1,94 @@
+-- `marking::tests::test_instance` meets its contract: each way out has its lemma in `TestsPassed`. Assumes nothing.
+use mathlib.Core.Path.{_≡_, sym, _∙_}
+use mathlib.Core.Bool.{true}
+use lib.ListN.{length}
+use borrow.Author.Tests.{not-true, not-false}
+use denote.Ref.{now}
+use Rattle.lengths.specs.Edge.{edgeCount}
+use Rattle.lengths.specs.Test.{allAtMost}
+use Rattle.lengths.proofs.Instances.{Admits, admitted}
+use Rattle.marking.proofs.TestWays.{refused-points, refused-size, refused-length, refused-marks, refused-mark, passed-tests}
+use borrow.Author.Needs.{needs}
+use Rattle.marking.proofs.tests.test_instance.Statement.{statement}
+use Rattle.marking.proofs.tests.test_instance.Tie as tie
+
+-- test 1 is passed
+admits : (c : tie.After-known-told) → Admits (c .before .before .before .before .before .before .args .n) (c .before .instance .given .0 .0)
+admits c = admitted (sym (c .before .before .before .admit .ensures) ∙ c .before .instance .given .1)
+
+-- and the table has its size
+whole : (c : tie.Else1) → let i = c .before .before .before in
+    length (now (i .before .before .before .before .before .args .table)) ≡ edgeCount (i .instance .given .0 .0 .points)
+whole c = c .if1 .left ∙ c .before .count .ensures
+
+-- and no length is above the limit
+small : (c : tie.Else2) → allAtMost 2000000 (now (c .before .before .before .before .before .before .before .before .before .before .args .table)) ≡ true
+small c = sym (c .before .lengths-within .ensures) ∙ not-false _ (c .if2 .left)
+
+-- and there are as many marks
+marked : (c : tie.Else3) → let i = c .before .before .before .before .before .before in
+    length (now (i .before .before .before .before .before .args .marks)) ≡ edgeCount (i .instance .given .0 .0 .points)
+marked c = c .if3 .left ∙ c .before .before .before .before .count .ensures
+
+admit-requires : tie.Need-admit-requires
+admit-requires c κs = search needs
+
+enum-known-instance : tie.Need-enum-known-instance
+enum-known-instance c = search needs
+
+enum-told : tie.Need-enum-told
+enum-told c = search needs
+
+returns : tie.Need-returns
+returns c = refused-points _ _ _ (sym (c .before .before .admit .ensures) ∙ c .enum-told .given .1)
+
+count-requires : tie.Need-count-requires
+count-requires c κs = search needs
+
+returns-2 : tie.Need-returns-2
+returns-2 c = refused-size _ _ _ (admits (c .before .before)) (λ e. c .if1 .taken (e ∙ sym (c .before .count .ensures)))
+
+lengths-within-requires : tie.Need-lengths-within-requires
+lengths-within-requires c κs = search needs
+
+returns-3 : tie.Need-returns-3
+returns-3 c =
+    let t = c .before .before in
+    refused-length _ _ _ (admits (t .before .before)) (whole t) (sym (c .before .lengths-within .ensures) ∙ not-true _ (c .if2 .taken))
+
+returns-4 : tie.Need-returns-4
+returns-4 c =
+    let t = c .before .before .before in
+    refused-marks _ _ _ (admits (t .before .before)) (whole t) (small (c .before)) (λ e. c .if3 .taken (e ∙ sym (t .before .count .ensures)))
+
+marks-within-requires : tie.Need-marks-within-requires
+marks-within-requires c κs = search needs
+
+returns-5 : tie.Need-returns-5
+returns-5 c =
+    let m = c .before .before in
+    let t = m .before .before .before in
+    refused-mark _ _ _ (admits (t .before .before)) (whole t) (small (m .before)) (marked m) (sym (c .before .marks-within .ensures) ∙ not-true _ (c .if4 .taken))
+
+returns-6 : tie.Need-returns-6
+returns-6 c =
+    let m = c .before .before in
+    let t = m .before .before .before in
+    passed-tests _ _ _ (admits (t .before .before)) (whole t) (small (m .before)) (marked m) (sym (c .before .marks-within .ensures) ∙ not-false _ (c .if4 .left))
+
+pub test-instance-spec : {M : Type 1} → statement M
+test-instance-spec =
+    tie.close
+    (tie.spec
+    admit-requires
+    enum-known-instance
+    enum-told
+    returns
+    count-requires
+    returns-2
+    lengths-within-requires
+    returns-3
+    returns-4
+    marks-within-requires
+    returns-5
+    returns-6)

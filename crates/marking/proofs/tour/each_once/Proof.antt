@@ -1,0 +1,93 @@
+-- `marking::tour::each_once` meets its contract: `Seeing` holds at the loop's head, and each way out has its lemma in `TourSeen`. Assumes nothing.
+use Prim.Native.Nat.{_-_, _<_}
+use mathlib.Core.Path.{_≡_, sym, _∙_}
+use mathlib.Core.Bool.{true}
+use native.Mathlib.Omega.{arith}
+use lib.ListN.{length, getD}
+use denote.Ref.{now}
+use borrow.Author.Tests.{not-true, not-false}
+use borrow.Author.Needs.{needs}
+use Rattle.argument.specs.Record.{isPoint}
+use Rattle.marking.proofs.TourSeen.{Seeing, wrong-length, seeing-start, not-point, flag-inside, seen-twice, seeing-on, all-seen}
+use Rattle.marking.proofs.tour.each_once.Statement.{statement}
+use Rattle.marking.proofs.tour.each_once.Tie as tie
+
+abbrev Inv-loop : tie.InvT-loop
+Inv-loop n tour seen₀ i₀ seen i = Seeing n tour seen i
+
+abbrev μ-loop : tie.MeasureT-loop
+μ-loop n tour seen₀ i₀ seen i = length tour - i
+
+-- the number at hand is a point
+point : (c : tie.Else2 Inv-loop μ-loop) → isPoint (c .before .before .before .before .before .before .before .args .n) (getD (now (c .before .before .before .before .before .before .before .args .tour)) (c .before .before .before .before .loop .i) 0) ≡ true
+point c = sym (c .before .is-point .ensures) ∙ not-false _ (c .if2 .left)
+
+inside : (c : tie.Else2 Inv-loop μ-loop) → getD (now (c .before .before .before .before .before .before .before .args .tour)) (c .before .before .before .before .loop .i) 0 < 181
+inside c = flag-inside (c .before .before .before .before .loop .inv) (c .before .before .before .before .before .before .before .pre) (c .before .before .before .loop-test .taken) (point c)
+
+returns : tie.Need-returns Inv-loop μ-loop
+returns c = wrong-length (c .before .before .args .n) (now (c .before .before .args .tour)) (c .if1 .taken)
+
+loop-holds : tie.Need-loop-holds Inv-loop μ-loop
+loop-holds c = seeing-start (c .if1 .left)
+
+mul-v : tie.Need-mul-v Inv-loop μ-loop
+mul-v c = search needs
+
+shared-slice-read-v : tie.Need-shared-slice-read-v Inv-loop μ-loop
+shared-slice-read-v c = search needs
+
+is-point-requires : tie.Need-is-point-requires Inv-loop μ-loop
+is-point-requires c κs = search needs
+
+returns-2 : tie.Need-returns-2 Inv-loop μ-loop
+returns-2 c = not-point (c .before .before .before .before .loop .inv) (c .before .before .before .before .before .before .before .pre) (c .before .before .before .loop-test .taken) (sym (c .before .is-point .ensures) ∙ not-true _ (c .if2 .taken))
+
+cast-if3 : tie.Need-cast-if3 Inv-loop μ-loop
+cast-if3 c = record { fits = omega (arith, inside c) }
+
+array-read-if3 : tie.Need-array-read-if3 Inv-loop μ-loop
+array-read-if3 c = inside c
+
+returns-3 : tie.Need-returns-3 Inv-loop μ-loop
+returns-3 c = seen-twice (c .before .before .before .before .before .loop .inv) (c .before .before .before .before .before .before .before .before .pre) (c .before .before .before .before .loop-test .taken) (point (c .before)) (c .if3 .taken)
+
+cast-seen : tie.Need-cast-seen Inv-loop μ-loop
+cast-seen c = record { fits = omega (arith, inside (c .before)) }
+
+array-write-seen : tie.Need-array-write-seen Inv-loop μ-loop
+array-write-seen c = inside (c .before)
+
+add-i : tie.Need-add-i Inv-loop μ-loop
+add-i c = search needs
+
+loop-less : tie.Need-loop-less Inv-loop μ-loop
+loop-less c = search needs
+
+loop-again : tie.Need-loop-again Inv-loop μ-loop
+loop-again c = seeing-on (c .before .before .before .before .before .loop .inv) (c .before .before .before .before .before .before .before .before .pre) (c .before .before .before .before .loop-test .taken) (point (c .before)) (c .if3 .left)
+
+returns-4 : tie.Need-returns-4 Inv-loop μ-loop
+returns-4 c = all-seen (c .before .loop .inv) (c .loop-test .left)
+
+pub each-once-spec : {M : Type 1} → statement M
+each-once-spec =
+    tie.close
+    (tie.spec
+    Inv-loop
+    μ-loop
+    returns
+    loop-holds
+    mul-v
+    shared-slice-read-v
+    is-point-requires
+    returns-2
+    cast-if3
+    array-read-if3
+    returns-3
+    cast-seen
+    array-write-seen
+    add-i
+    loop-less
+    loop-again
+    returns-4)

@@ -1,0 +1,30 @@
+-- The rules of an instance under its marks, as the layer of arguments knows them, and the marks as lists of bytes.
+use Prim.Native.Nat.{ℕ}
+use mathlib.Core.List.{List}
+use lib.ListN.{set}
+use Rattle.lengths.specs.Edge.{place}
+use Rattle.lengths.specs.Table.{lengthOf}
+use Rattle.rules.specs.Closing.{Closes}
+use Rattle.rules.specs.ClosingTest.{crossedBy, refusalOf}
+use Rattle.rules.specs.Mark.{openIn}
+use Rattle.rules.specs.Pairs.{feasiblePairs}
+use Rattle.argument.specs.Rules.{Rules}
+use Rattle.argument.specs.Sheet.{Marking}
+
+-- the rules of n points with these lengths, under these marks
+abbrev pub rulesOf : ℕ → List ℕ → List ℕ → Rules
+rulesOf n table marks =
+    record {
+      n = n;
+      pairs = feasiblePairs n (lengthOf n table) (openIn n marks);
+      closing = λ K p q r s. refusalOf (crossedBy (lengthOf n table) K p q r s);
+      Settles = Closes (lengthOf n table);
+    }
+
+-- the marks with the edge ab struck
+unfoldable pub strikeIn : ℕ → List ℕ → ℕ → ℕ → List ℕ
+strikeIn n marks a b = set marks (place n a b) 0
+
+-- marks of n points with these lengths
+abbrev pub markingOf : ℕ → List ℕ → Marking (List ℕ)
+markingOf n table = record { rules = rulesOf n table; open? = openIn n; strike = strikeIn n }

@@ -1,0 +1,39 @@
+// The operation "fresh marks": every edge open.
+use lengths::edge;
+use lengths::instance::Admission;
+use lengths::instance::Instance;
+use lengths::refusal;
+ghost use mathlib.Core.Path.{_≡_};
+ghost use lib.ListN.{length, replicate};
+ghost use Rattle.marking.specs.Fresh.{FreshAs};
+
+// The answer of "fresh marks".
+pub enum Fresh {
+    Done,
+    Refused(u8),
+}
+
+// Opens every edge.
+fn open_all(marks: &mut [u8])
+    ensures { λ _. ⌜ now (marks .exit) ≡ replicate (length (now (marks .entry))) 1 ⌝ }
+{
+    let mut i = 0;
+    while i < marks.len() {
+        marks[i] = 1;
+        i += 1;
+    }
+}
+
+// Makes the marks of n points fresh.
+pub fn fresh_marks(n: u32, marks: &mut [u8]) -> Fresh
+    ensures { λ r. ⌜ FreshAs n (now (marks .entry)) r (now (marks .exit)) ⌝ }
+{
+    let Admission::Admitted(instance) = Instance::admit(n) else {
+        return Fresh::Refused(refusal::POINTS);
+    };
+    if marks.len() != edge::count(instance.points) {
+        return Fresh::Refused(refusal::MARKS);
+    }
+    open_all(marks);
+    Fresh::Done
+}

@@ -1,0 +1,66 @@
+// The tests that the operations share: 1, 2, 5 and 6, in 01's order.
+use lengths::edge;
+use lengths::instance::Admission;
+use lengths::instance::Instance;
+use lengths::refusal;
+ghost use mathlib.Core.Path.{_≡_};
+ghost use Rattle.lengths.specs.Test.{allAtMost};
+ghost use Rattle.marking.specs.Tests.{tested};
+
+// What the tests answer: the number of points, or the number of the first refusal.
+pub enum Tested {
+    Points(u16),
+    Refused(u8),
+}
+
+// Is no length above the limit?
+fn lengths_within(table: &[u32]) -> bool
+    ensures { λ r. ⌜ r ≡ allAtMost 2000000 (now (table .entry)) ⌝ }
+{
+    let mut i = 0;
+    while i < table.len() {
+        if Instance::MOST_LENGTH < table[i] {
+            return false;
+        }
+        i += 1;
+    }
+    true
+}
+
+// Is each mark 0 or 1?
+fn marks_within(marks: &[u8]) -> bool
+    ensures { λ r. ⌜ r ≡ allAtMost 1 (now (marks .entry)) ⌝ }
+{
+    let mut i = 0;
+    while i < marks.len() {
+        if 1 < marks[i] {
+            return false;
+        }
+        i += 1;
+    }
+    true
+}
+
+// Tests 1, 2, 5 and 6: the number of points, the table's size and its entries, the marks' size and their bytes.
+pub fn test_instance(n: u32, table: &[u32], marks: &[u8]) -> Tested
+    ensures { λ r. ⌜ r ≡ tested n (now (table .entry)) (now (marks .entry)) ⌝ }
+{
+    let Admission::Admitted(instance) = Instance::admit(n) else {
+        return Tested::Refused(refusal::POINTS);
+    };
+    let points = instance.points;
+    let edges = edge::count(points);
+    if table.len() != edges {
+        return Tested::Refused(refusal::SIZE);
+    }
+    if !lengths_within(table) {
+        return Tested::Refused(refusal::LENGTH);
+    }
+    if marks.len() != edges {
+        return Tested::Refused(refusal::MARKS);
+    }
+    if !marks_within(marks) {
+        return Tested::Refused(refusal::MARKS);
+    }
+    Tested::Points(points)
+}

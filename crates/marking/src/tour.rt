@@ -1,0 +1,100 @@
+// The operation "check a tour".
+use crate::tests::Tested;
+use crate::tests::test_instance;
+use crate::walk::is_point;
+use lengths::refusal;
+use lengths::table::length_between;
+use rules::marks::is_open;
+ghost use mathlib.Core.Path.{_≡_};
+ghost use Prim.Native.Nat.{_≤_};
+ghost use Rattle.lengths.specs.Table.{lengthOf};
+ghost use Rattle.rules.specs.EdgeSet.{closedEdges};
+ghost use Rattle.rules.specs.Mark.{openIn};
+ghost use Rattle.rules.specs.PairTest.{every};
+ghost use Rattle.tours.specs.Tour.{tourLength};
+ghost use Rattle.marking.specs.TourCheck.{isTour, TourAsked, CheckedAs};
+
+// The answer of "check a tour": its length and whether all its edges are open, or the number of the refusal.
+pub enum Checked {
+    Tour { length: u64, open: bool },
+    Refused(u8),
+}
+
+// Is each point from 1 to n among the numbers exactly once?
+fn each_once(n: u16, tour: &[u16]) -> bool
+    requires { ⌜ n ≤ 180 ⌝ }
+    ensures { λ r. ⌜ r ≡ isTour n (now (tour .entry)) ⌝ }
+{
+    if tour.len() != n as usize {
+        return false;
+    }
+    let mut seen = [false; 181];
+    let mut i = 0;
+    while i < tour.len() {
+        let v = tour[i];
+        if !is_point(n, v) {
+            return false;
+        }
+        if seen[v as usize] {
+            return false;
+        }
+        seen[v as usize] = true;
+        i += 1;
+    }
+    true
+}
+
+// The sum over the tour's edges, last to first included.
+fn length_of(n: u16, table: &[u32], tour: &[u16]) -> u64
+    requires { ⌜ TourAsked n (now table) (now tour) ⌝ }
+    ensures { λ r. ⌜ r ≡ tourLength (lengthOf n (now (table .entry))) (now (tour .entry)) ⌝ }
+{
+    let first = tour[0];
+    let mut sum: u64 = 0;
+    let mut from = first;
+    let mut i = 1;
+    while i < tour.len() {
+        let to = tour[i];
+        sum += length_between(n, table, from, to);
+        from = to;
+        i += 1;
+    }
+    sum + length_between(n, table, from, first)
+}
+
+// Is every edge of the tour open, last to first included?
+fn all_open(n: u16, marks: &[u8], tour: &[u16]) -> bool
+    requires { ⌜ TourAsked n (now marks) (now tour) ⌝ }
+    ensures { λ r. ⌜ r ≡ every (openIn n (now (marks .entry))) (closedEdges (now (tour .entry))) ⌝ }
+{
+    let first = tour[0];
+    let mut from = first;
+    let mut i = 1;
+    while i < tour.len() {
+        let to = tour[i];
+        if !is_open(n, marks, from, to) {
+            return false;
+        }
+        from = to;
+        i += 1;
+    }
+    is_open(n, marks, from, first)
+}
+
+// Checks that the numbers are a tour of the n points, and answers its length and whether all its edges are open.
+pub fn check_tour(n: u32, table: &[u32], marks: &[u8], tour: &[u16]) -> Checked
+    ensures { λ r. ⌜ CheckedAs n (now (table .entry)) (now (marks .entry)) (now (tour .entry)) r ⌝ }
+{
+    let tested = test_instance(n, table, marks);
+    let points = match tested {
+        Tested::Points(points) => points,
+        Tested::Refused(number) => return Checked::Refused(number),
+    };
+    if !each_once(points, tour) {
+        return Checked::Refused(refusal::TOUR);
+    }
+    Checked::Tour {
+        length: length_of(points, table, tour),
+        open: all_open(points, marks, tour),
+    }
+}
