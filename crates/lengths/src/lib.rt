@@ -2,6 +2,7 @@
 pub mod distance;
 pub mod edge;
 pub mod instance;
+pub mod limit;
 pub mod measure;
 pub mod refusal;
 pub mod table;

@@ -5,10 +5,10 @@ use crate::distance::distance;
 use crate::edge;
 use crate::instance::Admission;
 use crate::instance::Instance;
+use crate::limit::all_at_most;
 use crate::refusal;
 ghost use mathlib.Core.Path.{_≡_};
 ghost use Rattle.lengths.specs.Distance.{distanceBy};
-ghost use Rattle.lengths.specs.Test.{allAtMost};
 ghost use Rattle.lengths.specs.Measure.{gapOf, squares, Located, Fillable, measuredTable, MeasuredAs};
 
 // The answer of "measure": the table is filled, or the number of the refusal.
@@ -37,20 +37,6 @@ fn between(rule: Rule, coordinates: &[u32], a: u16, b: u16) -> u32
     let dx = gap(coordinates[i], coordinates[j]);
     let dy = gap(coordinates[i + 1], coordinates[j + 1]);
     distance(rule, dx * dx + dy * dy) as u32
-}
-
-// Is no coordinate above the limit?
-fn all_within(coordinates: &[u32]) -> bool
-    ensures { λ r. ⌜ r ≡ allAtMost 1000000 (now (coordinates .entry)) ⌝ }
-{
-    let mut i = 0;
-    while i < coordinates.len() {
-        if Instance::MOST_COORDINATE < coordinates[i] {
-            return false;
-        }
-        i += 1;
-    }
-    true
 }
 
 // Writes the distance of each edge to its place.
@@ -90,7 +76,7 @@ pub fn measure(n: u32, rule: u32, coordinates: &[u32], table: &mut [u32]) -> Mea
     let NamedRule::Known(known) = Rule::numbered(rule) else {
         return Measured::Refused(refusal::RULE);
     };
-    if !all_within(coordinates) {
+    if !all_at_most(coordinates, Instance::MOST_COORDINATE) {
         return Measured::Refused(refusal::COORDINATE);
     }
     fill(points, known, coordinates, table);

@@ -2,6 +2,7 @@
 use lengths::edge;
 use lengths::instance::Admission;
 use lengths::instance::Instance;
+use lengths::limit::all_at_most;
 use lengths::refusal;
 ghost use mathlib.Core.Path.{_≡_};
 ghost use Rattle.lengths.specs.Test.{allAtMost};
@@ -11,20 +12,6 @@ ghost use Rattle.marking.specs.Tests.{tested};
 pub enum Tested {
     Points(u16),
     Refused(u8),
-}
-
-// Is no length above the limit?
-fn lengths_within(table: &[u32]) -> bool
-    ensures { λ r. ⌜ r ≡ allAtMost 2000000 (now (table .entry)) ⌝ }
-{
-    let mut i = 0;
-    while i < table.len() {
-        if Instance::MOST_LENGTH < table[i] {
-            return false;
-        }
-        i += 1;
-    }
-    true
 }
 
 // Is each mark 0 or 1?
@@ -53,7 +40,7 @@ pub fn test_instance(n: u32, table: &[u32], marks: &[u8]) -> Tested
     if table.len() != edges {
         return Tested::Refused(refusal::SIZE);
     }
-    if !lengths_within(table) {
+    if !all_at_most(table, Instance::MOST_LENGTH) {
         return Tested::Refused(refusal::LENGTH);
     }
     if marks.len() != edges {

@@ -63,14 +63,14 @@ enum-told-2 c = search needs
 returns-4 : tie.Need-returns-4
 returns-4 c = refused-rule (sizes (c .before .before .before)) (sym (c .before .before .numbered .ensures) ∙ c .enum-told2 .given .1)
 
-all-within-requires : tie.Need-all-within-requires
-all-within-requires c κs = search needs
+all-at-most-requires : tie.Need-all-at-most-requires
+all-at-most-requires c κs = search needs
 
 returns-5 : tie.Need-returns-5
-returns-5 c = refused-limit (sizes (c .before .before .before .before .before .before)) (rule-known (c .before .before)) (sym (c .before .all-within .ensures) ∙ not-true _ (c .if3 .taken))
+returns-5 c = refused-limit (sizes (c .before .before .before .before .before .before)) (rule-known (c .before .before)) (sym (c .before .all-at-most .ensures) ∙ not-true _ (c .if3 .taken))
 
 fill-requires : tie.Need-fill-requires
-fill-requires c κs = fillable (sizes (c .before .before .before .before .before .before .before)) (sym (c .before .before .all-within .ensures) ∙ not-false _ (c .before .if3 .left))
+fill-requires c κs = fillable (sizes (c .before .before .before .before .before .before .before)) (sym (c .before .before .all-at-most .ensures) ∙ not-false _ (c .before .if3 .left))
 
 same-length : tie.Need-same-length
 same-length c = search needs
@@ -78,7 +78,7 @@ same-length c = search needs
 returns-6 : tie.Need-returns-6
 returns-6 c =
     let k = c .before .before .before .before in
-    done (sizes (k .before .before .before .before .before .before)) (rule-known (k .before .before)) (sym (k .before .all-within .ensures) ∙ not-false _ (k .if3 .left)) (c .before .before .fill .ensures)
+    done (sizes (k .before .before .before .before .before .before)) (rule-known (k .before .before)) (sym (k .before .all-at-most .ensures) ∙ not-false _ (k .if3 .left)) (c .before .before .fill .ensures)
 
 pub measure-spec : {M : Type 1} → statement M
 measure-spec =
@@ -97,7 +97,7 @@ measure-spec =
     enum-known-known
     enum-told-2
     returns-4
-    all-within-requires
+    all-at-most-requires
     returns-5
     fill-requires
     same-length

@@ -23,7 +23,7 @@ whole c = c .if1 .left ∙ c .before .count .ensures
 
 -- and no length is above the limit
 small : (c : tie.Else2) → allAtMost 2000000 (now (c .before .before .before .before .before .before .before .before .before .before .args .table)) ≡ true
-small c = sym (c .before .lengths-within .ensures) ∙ not-false _ (c .if2 .left)
+small c = sym (c .before .all-at-most .ensures) ∙ not-false _ (c .if2 .left)
 
 -- and there are as many marks
 marked : (c : tie.Else3) → let i = c .before .before .before .before .before .before in
@@ -48,13 +48,13 @@ count-requires c κs = search needs
 returns-2 : tie.Need-returns-2
 returns-2 c = refused-size _ _ _ (admits (c .before .before)) (λ e. c .if1 .taken (e ∙ sym (c .before .count .ensures)))
 
-lengths-within-requires : tie.Need-lengths-within-requires
-lengths-within-requires c κs = search needs
+all-at-most-requires : tie.Need-all-at-most-requires
+all-at-most-requires c κs = search needs
 
 returns-3 : tie.Need-returns-3
 returns-3 c =
     let t = c .before .before in
-    refused-length _ _ _ (admits (t .before .before)) (whole t) (sym (c .before .lengths-within .ensures) ∙ not-true _ (c .if2 .taken))
+    refused-length _ _ _ (admits (t .before .before)) (whole t) (sym (c .before .all-at-most .ensures) ∙ not-true _ (c .if2 .taken))
 
 returns-4 : tie.Need-returns-4
 returns-4 c =
@@ -86,7 +86,7 @@ test-instance-spec =
     returns
     count-requires
     returns-2
-    lengths-within-requires
+    all-at-most-requires
     returns-3
     returns-4
     marks-within-requires

@@ -1,0 +1,67 @@
+//! Compares Revosti (feature `revosti`), or the naive checker, with the second program.
+//!
+//! `compare [--sheets N] [--seed S] [--case K]`
+
+use std::process::exit;
+use std::time::Instant;
+
+use second::kit::checker::{Checker, Second};
+use second::kit::compare::Comparison;
+use second::kit::guarded::Guarded;
+
+struct Options {
+    sheets: u64,
+    seed: u64,
+    case: Option<u64>,
+}
+
+fn options() -> Options {
+    let mut options = Options { sheets: 20_000, seed: 1, case: None };
+    let mut words = std::env::args().skip(1);
+    while let Some(word) = words.next() {
+        let number = words.next().and_then(|value| value.parse().ok());
+        match (word.as_str(), number) {
+            ("--sheets", Some(number)) => options.sheets = number,
+            ("--seed", Some(number)) => options.seed = number,
+            ("--case", Some(number)) => options.case = Some(number),
+            _ => {
+                eprintln!("compare [--sheets N] [--seed S] [--case K]");
+                exit(2);
+            }
+        }
+    }
+    options
+}
+
+#[cfg(feature = "revosti")]
+fn other() -> impl Checker {
+    second::kit::revosti::Revosti::from_environment()
+}
+
+#[cfg(not(feature = "revosti"))]
+fn other() -> impl Checker {
+    second::kit::naive::Naive::default()
+}
+
+fn main() {
+    let options = options();
+    let other = Guarded(other());
+    let start = Instant::now();
+    let mut comparison = Comparison::new(&Second, &other, options.seed);
+    let outcome = match options.case {
+        Some(case) => comparison.run_case(case),
+        None => comparison.run(options.sheets),
+    };
+    if let Err(difference) = outcome {
+        println!("{}", difference.0);
+        exit(1);
+    }
+    println!("second and {}: {} sheets alike, seed {}", other.name(), comparison.sheets, options.seed);
+    print!("{}", comparison.coverage);
+    println!("{:.1} s", start.elapsed().as_secs_f64());
+    let missing = comparison.coverage.missing();
+    if options.case.is_none() && !missing.is_empty() {
+        println!("not met: {}", missing.join(", "));
+        exit(1);
+    }
+}

@@ -1,0 +1,62 @@
+//! The crossing (01, Arguments; tests 15 and 16).
+
+use crate::edge_set::EdgeSet;
+use crate::lengths::Lengths;
+use crate::refusal::Refusal;
+
+/// An edge pq and two centres.
+#[derive(Clone, Copy, Debug, PartialEq, Eq)]
+pub struct Crossing {
+    pub p: u16,
+    pub q: u16,
+    pub r: u16,
+    pub s: u16,
+}
+
+impl Crossing {
+    /// Test 15 passes: pq is in K, the centres differ and are neither p nor q, each has exactly
+    /// two edges in K, and rs is not in K.
+    pub fn in_place(&self, known: &EdgeSet) -> bool {
+        let Crossing { p, q, r, s } = *self;
+        known.contains(p, q)
+            && r != s
+            && ![p, q].contains(&r)
+            && ![p, q].contains(&s)
+            && known.degree(r) == 2
+            && known.degree(s) == 2
+            && !known.contains(r, s)
+    }
+
+    /// Whether one of the four labellings saves on both moves.
+    pub fn saves(&self, known: &EdgeSet, l: &Lengths) -> bool {
+        let (r_ends, s_ends) = (known.ends(self.r), known.ends(self.s));
+        for (x, y) in [(r_ends[0], r_ends[1]), (r_ends[1], r_ends[0])] {
+            for (z, w) in [(s_ends[0], s_ends[1]), (s_ends[1], s_ends[0])] {
+                if self.labelling_saves(l, (x, y), (z, w)) {
+                    return true;
+                }
+            }
+        }
+        false
+    }
+
+    /// l(pq) + l(rx) + l(sw) > l(rs) + l(px) + l(qw), and
+    /// l(pq) + l(ry) + l(sz) > l(rs) + l(pz) + l(qy).
+    pub fn labelling_saves(&self, l: &Lengths, (x, y): (u16, u16), (z, w): (u16, u16)) -> bool {
+        let Crossing { p, q, r, s } = *self;
+        let (pq, rs) = (l.between(p, q), l.between(r, s));
+        pq + l.between(r, x) + l.between(s, w) > rs + l.between(p, x) + l.between(q, w)
+            && pq + l.between(r, y) + l.between(s, z) > rs + l.between(p, z) + l.between(q, y)
+    }
+
+    /// Tests 15 and 16.
+    pub fn closes(&self, known: &EdgeSet, l: &Lengths) -> Result<(), Refusal> {
+        if !self.in_place(known) {
+            Err(Refusal::CrossingPlace)
+        } else if !self.saves(known, l) {
+            Err(Refusal::NoSaving)
+        } else {
+            Ok(())
+        }
+    }
+}

@@ -1,0 +1,169 @@
+//! How often each outcome was met.
+
+use std::fmt;
+
+use crate::sheet::Sheet;
+
+#[derive(Clone, Copy, Debug, PartialEq, Eq)]
+pub enum Operation {
+    Measure,
+    FreshMarks,
+    MarkSheet,
+    ListPairs,
+    CheckTour,
+    Program,
+}
+
+use Operation::*;
+
+/// Each operation with the numbers that it has to have met; 0 is a result.
+const DEMANDS: [(Operation, &str, &[usize]); 6] = [
+    (Measure, "measure", &[0, 1, 2, 3, 4]),
+    (FreshMarks, "fresh marks", &[0, 1, 6]),
+    (MarkSheet, "mark a sheet", &[0, 1, 2, 5, 6, 7, 8, 9, 10, 11, 12, 13, 14, 15, 16]),
+    (ListPairs, "list pairs", &[0, 1, 2, 5, 6, 11, 12, 18]),
+    (CheckTour, "check a tour", &[0, 1, 2, 5, 6, 17]),
+    (Program, "program", &[0, 1, 3, 4, 7, 8, 9, 10, 11, 12, 13, 14, 15, 16]),
+];
+
+const NUMBERS: usize = 19;
+
+/// Outcomes that a refusal number does not tell apart.
+#[derive(Clone, Copy, Debug, PartialEq, Eq)]
+pub enum Event {
+    TourOpen,
+    TourStruck,
+    NoPairs,
+    SomePairs,
+    /// A list with places past the pairs.
+    PlacesPast,
+    /// A sheet refused after accepted lines.
+    StoppedAfterStrikes,
+    /// A sheet of several lines, all accepted.
+    SeveralLines,
+    /// Records that were never entered, in an accepted sheet.
+    RecordsSkipped,
+    /// Splits of accepted lines at a point with no, one, two edges in K.
+    SplitOffK,
+    SplitAtEnd,
+    SplitInside,
+    /// Splits of accepted lines at which no pair stands.
+    SplitWithoutPair,
+    /// Crossings of accepted lines: an end of a centre is p or q, or none is.
+    CrossingShared,
+    CrossingApart,
+    /// K has thirteen edges, the most there are, at a crossing of an accepted line.
+    FullSet,
+    /// K is a whole tour at a split or crossing of an accepted line.
+    FullTour,
+    /// 7 for the file: only the last line is printed.
+    FileRefused,
+    /// 7 for the records: all lines are printed.
+    RecordsRefused,
+    /// Marks held against all shortest tours.
+    BruteForce,
+    /// Strikes held against all shortest tours.
+    BruteForceStrikes,
+}
+
+use Event::*;
+
+const EVENTS: [(Event, &str); 20] = [
+    (TourOpen, "tours with all edges open"),
+    (TourStruck, "tours with a struck edge"),
+    (NoPairs, "splits listed without a pair"),
+    (SomePairs, "splits listed with pairs"),
+    (PlacesPast, "lists with places past the pairs"),
+    (StoppedAfterStrikes, "sheets stopped after accepted lines"),
+    (SeveralLines, "accepted sheets of several lines"),
+    (RecordsSkipped, "accepted sheets with records not entered"),
+    (SplitOffK, "accepted splits at a point off K"),
+    (SplitAtEnd, "accepted splits at an end of K"),
+    (SplitInside, "accepted splits at a point with two edges in K"),
+    (SplitWithoutPair, "accepted splits without a pair"),
+    (CrossingShared, "accepted crossings with an end that is p or q"),
+    (CrossingApart, "accepted crossings with all ends apart"),
+    (FullSet, "accepted crossings with thirteen edges in K"),
+    (FullTour, "accepted closings with a whole tour as K"),
+    (FileRefused, "program: file refused by 7"),
+    (RecordsRefused, "program: records refused by 7"),
+    (BruteForce, "marks held against all shortest tours"),
+    (BruteForceStrikes, "strikes held against all shortest tours"),
+];
+
+#[derive(Clone, Default)]
+pub struct Coverage {
+    numbers: [[u64; NUMBERS]; DEMANDS.len()],
+    events: [u64; EVENTS.len()],
+    /// Accepted lines by the number of splits one inside another, from 1.
+    depths: [u64; Sheet::MOST_SPLITS + 1],
+    /// Accepted lines by the size of the board.
+    sizes: [u64; SIZES.len()],
+}
+
+/// Classes of boards by their number of points, up to and with this one.
+const SIZES: [u32; 5] = [9, 20, 60, 100, 180];
+
+impl Coverage {
+    pub fn number(&mut self, operation: Operation, number: u64) {
+        self.numbers[operation as usize][number as usize] += 1;
+    }
+
+    pub fn event(&mut self, event: Event, times: u64) {
+        self.events[event as usize] += times;
+    }
+
+    /// An accepted line on a board of n points.
+    pub fn line(&mut self, n: u32, depth: usize) {
+        self.depths[depth] += 1;
+        self.sizes[SIZES.iter().position(|&most| n <= most).unwrap()] += 1;
+    }
+
+    /// What was demanded and never met.
+    pub fn missing(&self) -> Vec<String> {
+        let mut missing = Vec::new();
+        for (operation, name, numbers) in DEMANDS {
+            let unmet = numbers.iter().filter(|&&number| self.numbers[operation as usize][number] == 0);
+            missing.extend(unmet.map(|number| format!("{name}: {number}")));
+        }
+        let unmet = EVENTS.iter().filter(|&&(event, _)| self.events[event as usize] == 0);
+        missing.extend(unmet.map(|(_, name)| name.to_string()));
+        let unmet = (1..=Sheet::MOST_SPLITS).filter(|&depth| self.depths[depth] == 0);
+        missing.extend(unmet.map(|depth| format!("accepted line at depth {depth}")));
+        let unmet = SIZES.iter().zip(self.sizes).filter(|&(_, lines)| lines == 0);
+        missing.extend(unmet.map(|(most, _)| format!("accepted line on a board of up to {most} points")));
+        missing
+    }
+}
+
+impl fmt::Display for Coverage {
+    /// One row a number, one column an operation; "-" where the number cannot occur.
+    fn fmt(&self, f: &mut fmt::Formatter) -> fmt::Result {
+        write!(f, "{:>8}", "number")?;
+        for (_, name, _) in DEMANDS {
+            write!(f, "{name:>14}")?;
+        }
+        writeln!(f)?;
+        for number in 0..NUMBERS {
+            write!(f, "{number:>8}")?;
+            for (operation, _, numbers) in DEMANDS {
+                let times = self.numbers[operation as usize][number];
+                let cell = if times == 0 && !numbers.contains(&number) { "-".to_string() } else { times.to_string() };
+                write!(f, "{cell:>14}")?;
+            }
+            writeln!(f)?;
+        }
+        for (event, name) in EVENTS {
+            writeln!(f, "{name}: {}", self.events[event as usize])?;
+        }
+        write!(f, "accepted lines by depth:")?;
+        for depth in 1..=Sheet::MOST_SPLITS {
+            write!(f, " {depth}: {}", self.depths[depth])?;
+        }
+        write!(f, "\naccepted lines by points up to:")?;
+        for (most, lines) in SIZES.iter().zip(self.sizes) {
+            write!(f, " {most}: {lines}")?;
+        }
+        writeln!(f)
+    }
+}

@@ -1,0 +1,54 @@
+//! A checker whose writable buffers lie between guards, so that a write past them is seen.
+
+use super::checker::Checker;
+
+pub struct Guarded<C: Checker>(pub C);
+
+/// Places before and after a buffer.
+const GUARD: usize = 16;
+
+/// Lends a copy of the buffer between guards of `filler`, and copies it back.
+fn lend<T: Copy + PartialEq>(buffer: &mut [T], filler: T, call: impl FnOnce(&mut [T]) -> u64) -> u64 {
+    let mut room = vec![filler; buffer.len() + 2 * GUARD];
+    let end = GUARD + buffer.len();
+    room[GUARD..end].copy_from_slice(buffer);
+    let answer = call(&mut room[GUARD..end]);
+    let kept = room[..GUARD].iter().chain(&room[end..]).all(|&place| place == filler);
+    assert!(kept, "a place outside of a lent buffer was written");
+    buffer.copy_from_slice(&room[GUARD..end]);
+    answer
+}
+
+impl<C: Checker> Checker for Guarded<C> {
+    fn name(&self) -> &'static str {
+        self.0.name()
+    }
+
+    fn measure(&self, n: u32, rule: u32, coordinates: &[u32], table: &mut [u32]) -> u64 {
+        lend(table, 0x5a5a_5a5a, |table| self.0.measure(n, rule, coordinates, table))
+    }
+
+    fn fresh_marks(&self, n: u32, marks: &mut [u8]) -> u64 {
+        lend(marks, 0x5a, |marks| self.0.fresh_marks(n, marks))
+    }
+
+    fn mark_sheet(&self, n: u32, table: &[u8], marks: &mut [u8], sheet: &[u8]) -> u64 {
+        lend(marks, 0x5a, |marks| self.0.mark_sheet(n, table, marks, sheet))
+    }
+
+    fn check_tour(&self, n: u32, table: &[u8], marks: &[u8], tour: &[u8]) -> u64 {
+        self.0.check_tour(n, table, marks, tour)
+    }
+
+    fn list_pairs(&self, n: u32, table: &[u32], marks: &[u8], abc: [u16; 3], list: &mut [u16]) -> u64 {
+        lend(list, 0x5a5a, |list| self.0.list_pairs(n, table, marks, abc, list))
+    }
+
+    fn program(&self, file: &[u8]) -> Vec<u8> {
+        self.0.program(file)
+    }
+
+    fn program_is_cheap(&self) -> bool {
+        self.0.program_is_cheap()
+    }
+}

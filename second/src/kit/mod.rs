@@ -1,0 +1,18 @@
+//! The comparison kit: generator, naive checker, brute force, comparison, benchmark inputs.
+
+pub mod boards;
+pub mod brute;
+pub mod checker;
+pub mod compare;
+pub mod coverage;
+pub mod drafts;
+pub mod entered;
+pub mod guarded;
+pub mod naive;
+#[cfg(feature = "revosti")]
+pub mod revosti;
+pub mod rng;
+pub mod search;
+pub mod sheets;
+pub mod spoil;
+pub mod workloads;

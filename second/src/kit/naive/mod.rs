@@ -1,0 +1,225 @@
+//! A slow checker written straight from document 01, sharing no code with the second program:
+//! all edges in a list, K as a vector, degrees by counting, cycles by walking every way, all pairs
+//! filtered by the five tests as they stand.
+//!
+//! A `Slip` builds in one mistake, to show that the comparison finds it.
+
+mod reader;
+mod rules;
+mod slip;
+
+use super::checker::Checker;
+use reader::Reader;
+use rules::{all_edges, Board, Edge};
+pub use slip::Slip;
+
+#[derive(Default)]
+pub struct Naive {
+    pub slip: Option<Slip>,
+}
+
+fn little_endian(bytes: &[u8]) -> u64 {
+    bytes.iter().rev().fold(0, |number, &byte| number * 256 + u64::from(byte))
+}
+
+fn numbers(bytes: &[u8], width: usize) -> Vec<u64> {
+    bytes.chunks(width).map(little_endian).collect()
+}
+
+/// A limit, or one less by a slip.
+fn limit(number: u64, slip: Option<Slip>, wrong: Slip) -> u64 {
+    number - u64::from(slip == Some(wrong))
+}
+
+/// Tests 1, 2, 5, 6; 0 if all pass.
+fn first_refusal(slip: Option<Slip>, n: u32, table: &[u32], table_whole: bool, marks: &[u8]) -> u64 {
+    if n < 4 || n > 180 {
+        return 1;
+    }
+    let edges = n as usize * (n as usize - 1) / 2;
+    if !table_whole || table.len() != edges {
+        2
+    } else if table.iter().any(|&l| u64::from(l) > limit(2_000_000, slip, Slip::LengthLimit)) {
+        5
+    } else if marks.len() != edges || marks.iter().any(|&m| m > 1) {
+        6
+    } else {
+        0
+    }
+}
+
+fn table_of(bytes: &[u8]) -> (Vec<u32>, bool) {
+    (numbers(bytes, 4).iter().map(|&l| l as u32).collect(), bytes.len() % 4 == 0)
+}
+
+/// The least d that passes a growing test, d at most 2,000,000.
+fn least(test: impl Fn(u64) -> bool) -> u64 {
+    let (mut low, mut high) = (0, 2_000_000);
+    while low < high {
+        let middle = (low + high) / 2;
+        if test(middle) {
+            high = middle;
+        } else {
+            low = middle + 1;
+        }
+    }
+    low
+}
+
+/// The length by 01's inequalities; rule is 1 or 2.
+pub fn distance(rule: u32, s: u64) -> u64 {
+    if rule == 1 {
+        least(|d| 4 * s < (2 * d + 1) * (2 * d + 1))
+    } else {
+        least(|d| d * d >= s)
+    }
+}
+
+impl Checker for Naive {
+    fn name(&self) -> &'static str {
+        "naive"
+    }
+
+    fn measure(&self, n: u32, rule: u32, coordinates: &[u32], table: &mut [u32]) -> u64 {
+        if n < 4 || n > 180 {
+            return 1;
+        }
+        let edges = all_edges(n as usize);
+        if coordinates.len() as u64 != 2 * u64::from(n) || table.len() != edges.len() {
+            return 2;
+        }
+        if rule == 0 || rule > 2 {
+            return 3;
+        }
+        if coordinates.iter().any(|&v| u64::from(v) > limit(1_000_000, self.slip, Slip::CoordinateLimit)) {
+            return 4;
+        }
+        for (place, (a, b)) in edges.into_iter().enumerate() {
+            let dx = i64::from(coordinates[2 * a - 2]) - i64::from(coordinates[2 * b - 2]);
+            let dy = i64::from(coordinates[2 * a - 1]) - i64::from(coordinates[2 * b - 1]);
+            table[place] = distance(rule, (dx * dx + dy * dy) as u64) as u32;
+        }
+        0
+    }
+
+    fn fresh_marks(&self, n: u32, marks: &mut [u8]) -> u64 {
+        if n < 4 || n > 180 {
+            return 1;
+        }
+        if marks.len() != all_edges(n as usize).len() {
+            return 6;
+        }
+        for mark in marks {
+            *mark = 1;
+        }
+        0
+    }
+
+    fn mark_sheet(&self, n: u32, table: &[u8], marks: &mut [u8], sheet: &[u8]) -> u64 {
+        let (table, whole) = table_of(table);
+        let refusal = first_refusal(self.slip, n, &table, whole, marks);
+        if refusal != 0 {
+            return refusal;
+        }
+        if sheet.is_empty()
+            || sheet.len() % 16 != 0
+            || sheet.len() as u64 / 16 > limit(4_000, self.slip, Slip::RecordLimit)
+        {
+            return 7;
+        }
+        let record = |bytes| numbers(bytes, 2).iter().map(|&v| v as usize).collect();
+        let records = sheet.chunks(16).map(record).collect();
+        let board = Board::new(n as usize, &table, self.slip);
+        let before = marks.to_vec();
+        let mut accepted = 0;
+        let stop = Reader { board, records, entered: vec![] }.lines(marks, &mut accepted);
+        if stop.is_err() && self.slip == Some(Slip::StrikesGivenBack) {
+            marks.copy_from_slice(&before);
+        }
+        let (number, record) = stop.err().unwrap_or((0, 0));
+        number + (record as u64) * 256 + accepted * 256 * 65_536
+    }
+
+    fn check_tour(&self, n: u32, table: &[u8], marks: &[u8], tour: &[u8]) -> u64 {
+        let (table, whole) = table_of(table);
+        let refusal = first_refusal(self.slip, n, &table, whole, marks);
+        if refusal != 0 {
+            return refusal;
+        }
+        let points: Vec<usize> = numbers(tour, 2).iter().map(|&v| v as usize).collect();
+        let mut sorted = points.clone();
+        sorted.sort();
+        if tour.len() % 2 != 0 || sorted != (1..=n as usize).collect::<Vec<_>>() {
+            return 17;
+        }
+        let board = Board::new(n as usize, &table, self.slip);
+        let closing = if self.slip == Some(Slip::OpenTour) { 1 } else { 0 };
+        let edges: Vec<Edge> =
+            (closing..points.len()).map(|i| (points[i], points[(i + points.len() - 1) % points.len()])).collect();
+        let length: i64 = edges.iter().map(|&(a, b)| board.l(a, b)).sum();
+        let open = edges.iter().filter(|&&(a, b)| marks[board.place(a, b)] == 0).count() == 0;
+        length as u64 * 65_536 + if open { 256 } else { 0 }
+    }
+
+    fn list_pairs(&self, n: u32, table: &[u32], marks: &[u8], abc: [u16; 3], list: &mut [u16]) -> u64 {
+        let refusal = first_refusal(self.slip, n, table, true, marks);
+        if refusal != 0 {
+            return refusal;
+        }
+        if abc.iter().any(|&v| v == 0 || u32::from(v) > n) || abc[0] == abc[1] {
+            return 11;
+        }
+        let [a, b, c] = abc.map(usize::from);
+        let board = Board::new(n as usize, table, self.slip);
+        if marks[board.place(a, b)] == 0 {
+            return 12;
+        }
+        let pairs = board.standing(marks, &[(a, b)], c);
+        let fits = list.len() >= 2 * pairs.len();
+        if fits || self.slip == Some(Slip::ListWrittenOnRefusal) {
+            for (i, &(x, y)) in pairs.iter().take(list.len() / 2).enumerate() {
+                list[2 * i] = x as u16;
+                list[2 * i + 1] = y as u16;
+            }
+        }
+        if fits {
+            65_536 * pairs.len() as u64
+        } else {
+            18
+        }
+    }
+
+    fn program(&self, file: &[u8]) -> Vec<u8> {
+        let refused = |number: u64| format!("verdict {number} record 0 open 0\n").into_bytes();
+        if file.len() < 8 {
+            return refused(7);
+        }
+        let (rule, n) = (little_endian(&file[..4]) as u32, little_endian(&file[4..8]) as u32);
+        if n < 4 || n > 180 {
+            return refused(1);
+        }
+        let sheet_start = 8 + 8 * n as usize;
+        if file.len() < sheet_start || file.len() as u64 > limit(65_448, self.slip, Slip::FileLimit) {
+            return refused(7);
+        }
+        let coordinates: Vec<u32> = numbers(&file[8..sheet_start], 4).iter().map(|&c| c as u32).collect();
+        let edges = all_edges(n as usize);
+        let mut table = vec![0; edges.len()];
+        let refusal = self.measure(n, rule, &coordinates, &mut table);
+        if refusal != 0 {
+            return refused(refusal);
+        }
+        let table: Vec<u8> = table.iter().flat_map(|l| l.to_le_bytes()).collect();
+        let mut marks = vec![1; edges.len()];
+        let answer = self.mark_sheet(n, &table, &mut marks, &file[sheet_start..]);
+        let mut text = format!("points {} edges {}\n", n, edges.len());
+        for (place, (a, b)) in edges.iter().enumerate() {
+            if marks[place] == 0 {
+                text.push_str(&format!("struck {a} {b}\n"));
+            }
+        }
+        let open: usize = marks.iter().map(|&m| usize::from(m)).sum();
+        text.push_str(&format!("verdict {} record {} open {}\n", answer % 256, answer / 256 % 65_536, open));
+        text.into_bytes()
+    }
+}

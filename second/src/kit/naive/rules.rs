@@ -1,0 +1,158 @@
+//! The five tests and the crossing as 01 writes them.
+
+use super::slip::Slip;
+
+pub type Edge = (usize, usize);
+
+pub struct Board<'a> {
+    pub n: usize,
+    /// All edges in 01's order.
+    edges: Vec<Edge>,
+    table: &'a [u32],
+    /// The place of a-b at a × (n + 1) + b.
+    places: Vec<usize>,
+    pub slip: Option<Slip>,
+}
+
+pub fn all_edges(n: usize) -> Vec<Edge> {
+    let mut edges = Vec::new();
+    for a in 1..=n {
+        for b in a + 1..=n {
+            edges.push((a, b));
+        }
+    }
+    edges
+}
+
+pub fn same(e: Edge, f: Edge) -> bool {
+    e == f || e == (f.1, f.0)
+}
+
+pub fn has(k: &[Edge], e: Edge) -> bool {
+    k.iter().any(|&f| same(e, f))
+}
+
+pub fn with(k: &[Edge], e: Edge) -> Vec<Edge> {
+    let mut more = k.to_vec();
+    if !has(k, e) {
+        more.push(e);
+    }
+    more
+}
+
+pub fn other_ends(k: &[Edge], v: usize) -> Vec<usize> {
+    k.iter().filter(|e| e.0 == v || e.1 == v).map(|e| if e.0 == v { e.1 } else { e.0 }).collect()
+}
+
+/// Whether some cycle through `start` has fewer than `limit` edges; `path` begins with `start`.
+pub fn short_cycle_from(k: &[Edge], path: &mut Vec<usize>, limit: usize) -> bool {
+    let (start, at) = (path[0], path[path.len() - 1]);
+    for next in other_ends(k, at) {
+        if next == start && path.len() >= 3 && path.len() < limit {
+            return true;
+        }
+        if !path.contains(&next) {
+            path.push(next);
+            if short_cycle_from(k, path, limit) {
+                return true;
+            }
+            path.pop();
+        }
+    }
+    false
+}
+
+pub fn short_cycle(k: &[Edge], limit: usize) -> bool {
+    k.iter().any(|e| short_cycle_from(k, &mut vec![e.0], limit))
+}
+
+impl<'a> Board<'a> {
+    pub fn new(n: usize, table: &'a [u32], slip: Option<Slip>) -> Self {
+        let edges = all_edges(n);
+        let mut places = vec![usize::MAX; (n + 1) * (n + 1)];
+        for (place, &(a, b)) in edges.iter().enumerate() {
+            places[a * (n + 1) + b] = place;
+            places[b * (n + 1) + a] = place;
+        }
+        Board { n, edges, table, places, slip }
+    }
+
+    pub fn place(&self, a: usize, b: usize) -> usize {
+        self.places[a * (self.n + 1) + b]
+    }
+
+    pub fn l(&self, a: usize, b: usize) -> i64 {
+        if a == b {
+            return 0;
+        }
+        i64::from(self.table[self.place(a, b)])
+    }
+
+    pub fn compatible(&self, (p, q): Edge, (x, y): Edge) -> bool {
+        let straight = self.l(p, x) + self.l(q, y);
+        let crossed = self.l(p, y) + self.l(q, x);
+        let larger = if self.slip == Some(Slip::OneExchange) { straight } else { straight.max(crossed) };
+        larger >= self.l(p, q) + self.l(x, y)
+    }
+
+    /// Test 5 for one edge uv of K.
+    pub fn moves_between(&self, (u, v): Edge, c: usize, x: usize, y: usize) -> bool {
+        if u == c || v == c {
+            return false;
+        }
+        let new = self.l(x, y) + self.l(u, c) + self.l(v, c);
+        let old = self.l(u, v) + self.l(x, c) + self.l(y, c);
+        new < old || (self.slip == Some(Slip::EqualShutsOut) && new == old)
+    }
+
+    pub fn stands(&self, marks: &[u8], k: &[Edge], c: usize, x: usize, y: usize) -> bool {
+        let open = |e: Edge| marks[self.place(e.0, e.1)] == 1;
+        if !(open((c, x)) && open((c, y))) {
+            return false;
+        }
+        let compared = if self.slip == Some(Slip::FirstEdgeOnly) { &k[..1] } else { k };
+        if !compared.iter().all(|&e| self.compatible(e, (c, x)) && self.compatible(e, (c, y))) {
+            return false;
+        }
+        if k.iter().any(|&e| self.moves_between(e, c, x, y)) {
+            return false;
+        }
+        let more = with(&with(k, (c, x)), (c, y));
+        let limit = if self.slip == Some(Slip::FullCycleShort) { self.n + 1 } else { self.n };
+        (1..=self.n).all(|v| other_ends(&more, v).len() < 3) && !short_cycle(&more, limit)
+    }
+
+    pub fn standing(&self, marks: &[u8], k: &[Edge], c: usize) -> Vec<Edge> {
+        let both_not_c = |e: &&Edge| e.0 != c && e.1 != c;
+        self.edges.iter().filter(both_not_c).filter(|e| self.stands(marks, k, c, e.0, e.1)).copied().collect()
+    }
+
+    pub fn labelling_saves(&self, [p, q, r, s]: [usize; 4], (x, y): Edge, (z, w): Edge) -> bool {
+        let first = self.l(p, q) + self.l(r, x) + self.l(s, w) - self.l(r, s) - self.l(p, x) - self.l(q, w);
+        let second = self.l(p, q) + self.l(r, y) + self.l(s, z) - self.l(r, s) - self.l(p, z) - self.l(q, y);
+        match self.slip {
+            Some(Slip::EqualSaves) => first >= 0 && second >= 0,
+            Some(Slip::OneMove) => first > 0,
+            _ => first > 0 && second > 0,
+        }
+    }
+
+    /// 0, 15 or 16 for a crossing.
+    pub fn crossing(&self, k: &[Edge], pqrs: [usize; 4]) -> u64 {
+        let [p, q, r, s] = pqrs;
+        let (xy, zw) = (other_ends(k, r), other_ends(k, s));
+        let names_edge = has(k, (p, q));
+        let centres = r != s && r != p && r != q && s != p && s != q;
+        if !names_edge || !centres || xy.len() != 2 || zw.len() != 2 || has(k, (r, s)) {
+            return 15;
+        }
+        let (x, y, z, w) = (xy[0], xy[1], zw[0], zw[1]);
+        let labellings = [((x, y), (z, w)), ((x, y), (w, z)), ((y, x), (z, w)), ((y, x), (w, z))];
+        let tried = if self.slip == Some(Slip::OneLabelling) { 1 } else { 4 };
+        if labellings[..tried].iter().any(|&(xy, zw)| self.labelling_saves(pqrs, xy, zw)) {
+            0
+        } else {
+            16
+        }
+    }
+}

@@ -1,0 +1,71 @@
+//! Mistakes on purpose, to show that the comparison finds them.
+
+/// A mistake on purpose.
+#[derive(Clone, Copy, Debug, PartialEq, Eq)]
+pub enum Slip {
+    /// Test 5 also shuts out equal sums.
+    EqualShutsOut,
+    /// A crossing may save nothing.
+    EqualSaves,
+    /// Only one of the two exchanges of compatibility.
+    OneExchange,
+    /// Only the first move of a crossing.
+    OneMove,
+    /// A cycle of n edges counts as short.
+    FullCycleShort,
+    /// The strike is made before the line's cases are read.
+    EarlyStrike,
+    /// One labelling only.
+    OneLabelling,
+    /// Seven splits one inside another.
+    SevenSplits,
+    /// 13 before 14.
+    SplitBeforePair,
+    /// 15 before 14.
+    CrossingBeforePair,
+    /// The record at fault is the one that the index names.
+    IndexNamesTarget,
+    /// A refused listing has written the pairs that fit.
+    ListWrittenOnRefusal,
+    /// The tour is not closed.
+    OpenTour,
+    /// Compatibility with the first edge of K only.
+    FirstEdgeOnly,
+    /// A chain that ends early names the owner of its split.
+    OwnerNamed,
+    /// A stopped sheet gives its strikes back.
+    StrikesGivenBack,
+    /// Later lines do not see earlier strikes.
+    StaleMarks,
+    /// A limit itself is refused: records, lengths, coordinates, bytes of a file.
+    RecordLimit,
+    LengthLimit,
+    CoordinateLimit,
+    FileLimit,
+}
+
+impl Slip {
+    pub const ALL: [Slip; 21] = [
+        Slip::EqualShutsOut,
+        Slip::EqualSaves,
+        Slip::OneExchange,
+        Slip::OneMove,
+        Slip::FullCycleShort,
+        Slip::EarlyStrike,
+        Slip::OneLabelling,
+        Slip::SevenSplits,
+        Slip::SplitBeforePair,
+        Slip::CrossingBeforePair,
+        Slip::IndexNamesTarget,
+        Slip::ListWrittenOnRefusal,
+        Slip::OpenTour,
+        Slip::FirstEdgeOnly,
+        Slip::OwnerNamed,
+        Slip::StrikesGivenBack,
+        Slip::StaleMarks,
+        Slip::RecordLimit,
+        Slip::LengthLimit,
+        Slip::CoordinateLimit,
+        Slip::FileLimit,
+    ];
+}

@@ -1,0 +1,121 @@
+//! Revosti through its archives and its program `mark`.
+
+use std::io::Write;
+use std::path::PathBuf;
+use std::process::{Command, Stdio};
+
+use super::checker::Checker;
+
+extern "C" {
+    fn revosti_mark_sheet(
+        n: u32,
+        table: *const u8,
+        table_len: usize,
+        marks: *mut u8,
+        marks_len: usize,
+        sheet: *const u8,
+        sheet_len: usize,
+    ) -> u64;
+    fn revosti_check_tour(
+        n: u32,
+        table: *const u8,
+        table_len: usize,
+        marks: *const u8,
+        marks_len: usize,
+        tour: *const u8,
+        tour_len: usize,
+    ) -> u64;
+    fn probe_measure(n: u32, rule: u32, coordinates: *const u32, len: usize, table: *mut u32, table_len: usize) -> u64;
+    fn probe_fresh_marks(n: u32, marks: *mut u8, len: usize) -> u64;
+    fn probe_list_pairs(
+        n: u32,
+        table: *const u32,
+        table_len: usize,
+        marks: *const u8,
+        marks_len: usize,
+        a: u16,
+        b: u16,
+        c: u16,
+        list: *mut u16,
+        list_len: usize,
+    ) -> u64;
+}
+
+/// Revosti; `mark` is the program's path.
+pub struct Revosti {
+    pub mark: PathBuf,
+}
+
+impl Revosti {
+    /// The program's path is in REVOSTI_MARK.
+    pub fn from_environment() -> Self {
+        Revosti { mark: std::env::var_os("REVOSTI_MARK").expect("REVOSTI_MARK names no program").into() }
+    }
+}
+
+// Each call lends slices with their own lengths for its duration only.
+impl Checker for Revosti {
+    fn name(&self) -> &'static str {
+        "revosti"
+    }
+
+    fn measure(&self, n: u32, rule: u32, coordinates: &[u32], table: &mut [u32]) -> u64 {
+        unsafe { probe_measure(n, rule, coordinates.as_ptr(), coordinates.len(), table.as_mut_ptr(), table.len()) }
+    }
+
+    fn fresh_marks(&self, n: u32, marks: &mut [u8]) -> u64 {
+        unsafe { probe_fresh_marks(n, marks.as_mut_ptr(), marks.len()) }
+    }
+
+    fn mark_sheet(&self, n: u32, table: &[u8], marks: &mut [u8], sheet: &[u8]) -> u64 {
+        unsafe {
+            revosti_mark_sheet(
+                n,
+                table.as_ptr(),
+                table.len(),
+                marks.as_mut_ptr(),
+                marks.len(),
+                sheet.as_ptr(),
+                sheet.len(),
+            )
+        }
+    }
+
+    fn check_tour(&self, n: u32, table: &[u8], marks: &[u8], tour: &[u8]) -> u64 {
+        unsafe {
+            revosti_check_tour(n, table.as_ptr(), table.len(), marks.as_ptr(), marks.len(), tour.as_ptr(), tour.len())
+        }
+    }
+
+    fn list_pairs(&self, n: u32, table: &[u32], marks: &[u8], [a, b, c]: [u16; 3], list: &mut [u16]) -> u64 {
+        unsafe {
+            probe_list_pairs(
+                n,
+                table.as_ptr(),
+                table.len(),
+                marks.as_ptr(),
+                marks.len(),
+                a,
+                b,
+                c,
+                list.as_mut_ptr(),
+                list.len(),
+            )
+        }
+    }
+
+    /// Runs the program. It may stop reading early, so a broken pipe is no failure.
+    fn program(&self, file: &[u8]) -> Vec<u8> {
+        let mut child = Command::new(&self.mark)
+            .stdin(Stdio::piped())
+            .stdout(Stdio::piped())
+            .spawn()
+            .unwrap_or_else(|error| panic!("{}: {error}", self.mark.display()));
+        let _ = child.stdin.take().unwrap().write_all(file);
+        child.wait_with_output().unwrap().stdout
+    }
+
+    fn program_is_cheap(&self) -> bool {
+        false
+    }
+}

@@ -1,0 +1,204 @@
+//! Calls with wrong sizes and wrong numbers.
+
+use super::boards::Board;
+use super::rng::Rng;
+
+/// What a call for C is lent.
+#[derive(Clone, Debug)]
+pub struct Lent {
+    pub n: u32,
+    pub table: Vec<u8>,
+    pub marks: Vec<u8>,
+}
+
+impl Lent {
+    pub fn new(board: &Board, marks: &[u8]) -> Lent {
+        let table = board.table.iter().flat_map(|l| l.to_le_bytes()).collect();
+        Lent { n: u32::from(board.n), table, marks: marks.to_vec() }
+    }
+}
+
+/// Makes one or two things wrong, or leaves them at their limit.
+pub fn call(rng: &mut Rng, lent: &mut Lent) {
+    for _ in 0..rng.between(1, 2) {
+        match rng.below(6) {
+            0 => lent.n = wrong_count(rng, lent.n),
+            1 => resize(rng, &mut lent.table, &[1, 2, 4, 8, 64]),
+            2 | 3 => entry(rng, &mut lent.table),
+            4 => resize(rng, &mut lent.marks, &[1, 2, 5]),
+            _ => mark(rng, &mut lent.marks),
+        }
+    }
+}
+
+/// Another n: out of range, also by multiples of 256 and 65,536, or another board's.
+fn wrong_count(rng: &mut Rng, n: u32) -> u32 {
+    let others = [1, 256, 65_536, u32::MAX].map(|step| n.wrapping_add(step));
+    let fixed = [0, 1, 3, 4, 180, 181, u32::MAX];
+    if rng.chance(50) {
+        rng.pick(&others)
+    } else {
+        rng.pick(&fixed)
+    }
+}
+
+fn resize(rng: &mut Rng, bytes: &mut Vec<u8>, steps: &[usize]) {
+    let step = rng.pick(steps);
+    match rng.below(5) {
+        0 | 1 => bytes.truncate(bytes.len().saturating_sub(step)),
+        2 | 3 => bytes.resize(bytes.len() + step, 0),
+        _ => bytes.clear(),
+    }
+}
+
+/// An entry at or above its limit.
+fn entry(rng: &mut Rng, table: &mut [u8]) {
+    let value: u32 = rng.pick(&[2_000_000, 2_000_001, 2_000_001, 1 << 31, u32::MAX]);
+    if table.len() >= 4 {
+        let at = 4 * rng.below(table.len() / 4);
+        table[at..at + 4].copy_from_slice(&value.to_le_bytes());
+    }
+}
+
+fn mark(rng: &mut Rng, marks: &mut [u8]) {
+    if !marks.is_empty() {
+        let at = rng.below(marks.len());
+        marks[at] = rng.pick(&[2, 3, 128, 255]);
+    }
+}
+
+/// An n for *fresh marks*.
+pub fn point_count(rng: &mut Rng) -> u32 {
+    let n = rng.between(4, 180) as u32;
+    if rng.chance(20) {
+        wrong_count(rng, n)
+    } else {
+        n
+    }
+}
+
+/// A size of marks for n, mostly right.
+pub fn mark_size(rng: &mut Rng, n: u32) -> usize {
+    let n = (n as usize).min(200);
+    let right = n * n.saturating_sub(1) / 2;
+    match rng.below(10) {
+        0 => right + 1,
+        1 => right.saturating_sub(1),
+        2 => rng.below(40),
+        _ => right,
+    }
+}
+
+/// A call of *measure*; its table holds old numbers.
+#[derive(Clone, Debug)]
+pub struct Measuring {
+    pub n: u32,
+    pub rule: u32,
+    pub coordinates: Vec<u32>,
+    pub table: Vec<u32>,
+}
+
+impl Measuring {
+    /// The board's points, or random ones for a free table.
+    pub fn new(rng: &mut Rng, board: &Board) -> Measuring {
+        let n = usize::from(board.n);
+        let (rule, coordinates) = match &board.measured {
+            Some(measured) => (measured.rule, measured.coordinates.clone()),
+            None => (2, (0..2 * n).map(|_| rng.between(0, 1_000_000) as u32).collect()),
+        };
+        let table = board.table.iter().map(|_| rng.word() as u32).collect();
+        Measuring { n: n as u32, rule, coordinates, table }
+    }
+}
+
+/// Makes one to three things wrong.
+pub fn measuring(rng: &mut Rng, call: &mut Measuring) {
+    for _ in 0..rng.between(1, 3) {
+        match rng.below(5) {
+            0 => call.n = wrong_count(rng, call.n),
+            1 => change_size(rng, &mut call.coordinates),
+            2 => change_size(rng, &mut call.table),
+            3 => call.rule = rng.pick(&[0, 1, 2, 3, 257, 65_537, u32::MAX]),
+            _ if call.coordinates.is_empty() => {}
+            _ => {
+                let at = rng.below(call.coordinates.len());
+                call.coordinates[at] = rng.pick(&[1_000_000, 1_000_001, 1_000_001, u32::MAX]);
+            }
+        }
+    }
+}
+
+fn change_size(rng: &mut Rng, numbers: &mut Vec<u32>) {
+    let size = rng.pick(&[0, 1, numbers.len() - numbers.len().min(1), numbers.len() + 1, numbers.len() + 2]);
+    numbers.resize(size, 5);
+}
+
+/// a, b and c for a listing, mostly points and a ≠ b.
+pub fn three_points(rng: &mut Rng, n: u16) -> [u16; 3] {
+    let mut abc: [u16; 3] = std::array::from_fn(|_| rng.point(n));
+    if abc[0] == abc[1] && rng.chance(80) {
+        abc[1] = abc[0] % n + 1;
+    }
+    if rng.chance(10) {
+        abc[rng.below(3)] = rng.pick(&[0, n + 1, 256, 65_535]);
+    }
+    abc
+}
+
+/// Room in a list for so many numbers: less, just enough, more.
+pub fn list_size(rng: &mut Rng, need: usize) -> usize {
+    match rng.below(8) {
+        0 | 1 => need.saturating_sub(1),
+        2 => need.saturating_sub(2),
+        3 => rng.below(need + 1),
+        4 => need + rng.between(1, 9),
+        5 => need + 300,
+        _ => need,
+    }
+}
+
+/// The bytes of a tour, often a wrong one.
+pub fn tour(rng: &mut Rng, n: u16) -> Vec<u8> {
+    let mut points: Vec<u16> = (1..=n).collect();
+    if rng.chance(70) {
+        rng.shuffle(&mut points);
+    }
+    let at = rng.below(points.len());
+    match rng.below(12) {
+        0 => points[at] = rng.pick(&[0, n + 1, 256, 65_535]),
+        1 => points[at] = rng.point(n),
+        2 => drop(points.pop()),
+        3 => points.push(1),
+        4 => points.clear(),
+        _ => {}
+    }
+    let mut bytes: Vec<u8> = points.iter().flat_map(|v| v.to_le_bytes()).collect();
+    match rng.below(24) {
+        0 => drop(bytes.pop()),
+        1 => bytes.push(0),
+        _ => {}
+    }
+    bytes
+}
+
+/// Spoils a file for the program in one to three ways.
+pub fn file(rng: &mut Rng, n: u16, file: &mut Vec<u8>) {
+    for _ in 0..rng.between(1, 3) {
+        let coordinates = 8 + 8 * usize::from(n);
+        match rng.below(7) {
+            0 => file.truncate(rng.below(9)),
+            1 => file.truncate(rng.between(8, coordinates)),
+            2 => put(file, 0, rng.pick(&[0, 3, 257, u32::MAX])),
+            3 => put(file, 4, wrong_count(rng, u32::from(n))),
+            4 => put(file, 8 + 4 * rng.below(2 * usize::from(n)), rng.pick(&[1_000_000, 1_000_001, u32::MAX])),
+            5 => file.resize(rng.pick(&[65_447, 65_448, 65_449, 65_464, 80_000]), 0),
+            _ => file.truncate(file.len() - rng.below(16).min(file.len())),
+        }
+    }
+}
+
+fn put(file: &mut [u8], at: usize, value: u32) {
+    if at + 4 <= file.len() {
+        file[at..at + 4].copy_from_slice(&value.to_le_bytes());
+    }
+}

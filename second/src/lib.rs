@@ -1,0 +1,18 @@
+//! A second program for strike sheets, read from document 01 alone.
+//!
+//! Names: a feasible pair is 01's standing pair; K is `EdgeSet`.
+//! `kit` holds the generator, the naive checker, brute force and the comparison.
+
+pub mod bytes;
+pub mod crossing;
+pub mod edge_set;
+pub mod instance;
+pub mod kit;
+pub mod lengths;
+pub mod listing;
+pub mod marking;
+pub mod pairs;
+pub mod program;
+pub mod refusal;
+pub mod sheet;
+pub mod tour;

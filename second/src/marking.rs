@@ -1,0 +1,103 @@
+//! *Mark a sheet* (01, The sheet; Each operation and its refusals).
+
+use crate::crossing::Crossing;
+use crate::edge_set::EdgeSet;
+use crate::instance::{Instance, STRUCK};
+use crate::lengths::Lengths;
+use crate::pairs::Split;
+use crate::refusal::{demand, Fault, Refusal};
+use crate::sheet::{Case, Closing, Line, Sheet};
+
+/// The answer: the fault that stopped the sheet, if any, and the number of lines accepted.
+#[derive(Clone, Copy, Debug, PartialEq, Eq)]
+pub struct Marked {
+    pub fault: Option<Fault>,
+    pub lines: u32,
+}
+
+/// Marks the sheet's accepted lines struck; a stopped sheet keeps its earlier strikes.
+pub fn mark_sheet(n: u32, table: &[u32], marks: &mut [u8], sheet: &[u16]) -> Marked {
+    let mut lines = 0;
+    let fault = mark_lines(n, table, marks, sheet, &mut lines).err();
+    Marked { fault, lines }
+}
+
+fn mark_lines(n: u32, table: &[u32], marks: &mut [u8], sheet: &[u16], lines: &mut u32) -> Result<(), Fault> {
+    let before = |refusal| Fault { refusal, record: 0 };
+    let n = Instance::tests(n, table, marks).map_err(before)?;
+    let sheet = Sheet::read(sheet).map_err(before)?;
+    let lengths = Lengths::new(n, table);
+    let mut walk = Walk { lengths: &lengths, sheet, known: EdgeSet::empty(), highest: 1 };
+    let mut index = 1;
+    loop {
+        let line = walk.line(marks, index)?;
+        marks[lengths.order.place(line.a, line.b)] = STRUCK;
+        *lines += 1;
+        if line.next == 0 {
+            return Ok(());
+        }
+        walk.follow(index, line.next)?;
+        index = line.next;
+    }
+}
+
+/// The way through the records of one sheet.
+struct Walk<'a> {
+    lengths: &'a Lengths<'a>,
+    sheet: Sheet<'a>,
+    known: EdgeSet,
+    /// The highest record entered.
+    highest: u16,
+}
+
+impl Walk<'_> {
+    /// Tests 8 and 9 on an index of record `holder`; the record at it is entered.
+    fn follow(&mut self, holder: u16, index: u16) -> Result<(), Fault> {
+        demand(usize::from(index) <= self.sheet.count(), Refusal::IndexAboveCount, holder)?;
+        demand(index > self.highest, Refusal::IndexNotRising, holder)?;
+        self.highest = index;
+        Ok(())
+    }
+
+    /// Judges the line at `index`: 10, 11, 12, then its split under K = {ab}.
+    fn line(&mut self, marks: &[u8], index: u16) -> Result<Line, Fault> {
+        let line = self.sheet.line(self.lengths.order.n, index)?;
+        let place = self.lengths.order.place(line.a, line.b);
+        demand(marks[place] != STRUCK, Refusal::EdgeStruck, index)?;
+        self.known.cut_back(0);
+        self.known.add(line.a, line.b);
+        self.chain(marks, index, line.c, line.first, Sheet::MOST_SPLITS - 1)?;
+        Ok(line)
+    }
+
+    /// Follows the chain of the split at c that record `owner` holds: "a chain of cases names
+    /// exactly the standing pairs, in rising order". `left` further splits may lie inside.
+    fn chain(&mut self, marks: &[u8], owner: u16, c: u16, first: u16, left: usize) -> Result<(), Fault> {
+        let mut split = Split::new(self.lengths, marks, &self.known, c);
+        let (mut holder, mut index) = (owner, first);
+        while index != 0 {
+            self.follow(holder, index)?;
+            let case = self.sheet.case(self.lengths.order.n, index)?;
+            demand(split.next_pair() == Some(case.pair), Refusal::Pair, index)?;
+            let before = self.known.add_pair(c, case.pair);
+            self.close(marks, index, &case, left)?;
+            self.known.cut_back(before);
+            (holder, index) = (index, case.next);
+        }
+        demand(split.next_pair().is_none(), Refusal::Pair, holder)
+    }
+
+    /// Closes a case whose pair is in K: 13 and its split, or 15 and 16.
+    fn close(&mut self, marks: &[u8], index: u16, case: &Case, left: usize) -> Result<(), Fault> {
+        match case.closing {
+            Closing::Split { c, first } => {
+                demand(left > 0, Refusal::SeventhSplit, index)?;
+                self.chain(marks, index, c, first, left - 1)
+            }
+            Closing::Crossing { p, q, r, s } => {
+                let crossing = Crossing { p, q, r, s };
+                crossing.closes(&self.known, self.lengths).map_err(|refusal| Fault { refusal, record: index })
+            }
+        }
+    }
+}

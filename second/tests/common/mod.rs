@@ -1,0 +1,49 @@
+//! Small inputs that several tests use.
+#![allow(dead_code)]
+
+use second::instance::fresh_marks;
+use second::lengths::{edge_count, measure};
+use second::marking::{mark_sheet, Marked};
+use second::refusal::{Fault, Refusal};
+use second::sheet::Record;
+
+/// 01's square: 1 (0,0), 2 (10,0), 3 (10,10), 4 (0,10).
+pub const SQUARE: [u32; 8] = [0, 0, 10, 0, 10, 10, 0, 10];
+
+pub fn square() -> Vec<u32> {
+    let mut table = vec![0; 6];
+    measure(4, 1, &SQUARE, &mut table).unwrap();
+    table
+}
+
+pub fn fresh(n: u32) -> Vec<u8> {
+    let mut marks = vec![9; edge_count(n as u16)];
+    fresh_marks(n, &mut marks).unwrap();
+    marks
+}
+
+/// Number, record, lines accepted.
+pub fn figures(marked: Marked) -> (u8, u16, u32) {
+    let (number, record) = marked.fault.map_or((0, 0), |Fault { refusal, record }| (refusal.number(), record));
+    (number, record, marked.lines)
+}
+
+/// Marks the records from fresh marks: number, record, lines accepted.
+pub fn verdict(n: u32, table: &[u32], records: &[Record]) -> (u8, u16, u32) {
+    figures(mark_sheet(n, table, &mut fresh(n), &records.concat()))
+}
+
+pub fn on_square(records: &[Record]) -> (u8, u16, u32) {
+    verdict(4, &square(), records)
+}
+
+pub fn refusal<T>(answer: Result<T, Refusal>) -> u8 {
+    answer.err().map_or(0, Refusal::number)
+}
+
+/// A file for the program.
+pub fn file(rule: u32, n: u32, coordinates: &[u32], records: &[Record]) -> Vec<u8> {
+    let mut file: Vec<u8> = [rule, n].iter().chain(coordinates).flat_map(|v| v.to_le_bytes()).collect();
+    file.extend(records.concat().iter().flat_map(|v| v.to_le_bytes()));
+    file
+}
