@@ -1,0 +1,67 @@
+"""Lengths and standing pairs: the examples of 01, and a plain second way."""
+
+import random
+import unittest
+from itertools import combinations
+
+from support import SQUARE_POINTS
+
+from sheetlib.board import Board, edge, fits_tour, length_of
+
+
+def tours_hold(k, n):
+    """Whether some tour of n points has all edges of K. For points from 1 to n
+    this is 01's tests 2 and 3."""
+    from itertools import permutations
+    for rest in permutations(range(2, n + 1)):
+        order = (1, *rest)
+        if k <= {edge(a, b) for a, b in zip(order, rest + (1,))}:
+            return True
+    return False
+
+
+class Lengths(unittest.TestCase):
+    def test_examples(self):
+        table = {(1, 1): (1, 2), (1, 2): (2, 3), (2, 2): (3, 3), (3, 4): (5, 5),
+                 (10**6, 10**6): (1414214, 1414214), (0, 0): (0, 0)}
+        for corner, lengths in table.items():
+            self.assertEqual((length_of(1, (0, 0), corner), length_of(2, corner, (0, 0))), lengths)
+
+    def test_definition(self):
+        r = random.Random(1)
+        for _ in range(2000):
+            x, y = r.randrange(10**r.randrange(1, 7)), r.randrange(10**r.randrange(1, 7))
+            s, d, e = x * x + y * y, length_of(1, (x, 0), (0, y)), length_of(2, (x, 0), (0, y))
+            self.assertTrue(s == d == 0 or (2 * d - 1) ** 2 <= 4 * s < (2 * d + 1) ** 2)
+            self.assertTrue(e * e >= s and (e == 0 or (e - 1) ** 2 < s))
+
+
+class Standing(unittest.TestCase):
+    def setUp(self):
+        self.square = Board(1, SQUARE_POINTS, [])
+
+    def test_compatible(self):
+        self.assertFalse(self.square.compatible((1, 3), (2, 4)))
+        self.assertTrue(self.square.compatible((1, 2), (3, 4)))
+
+    def test_square(self):
+        self.assertEqual(self.square.standing({(1, 2)}, 3), [(1, 4), (2, 4)])
+        self.assertEqual(self.square.standing({(1, 3)}, 2), [])
+
+    def test_struck_edges_do_not_stand(self):
+        board = Board(1, SQUARE_POINTS, [(1, 3)])
+        self.assertEqual(board.standing({(1, 2)}, 3), [(2, 4)])
+
+    def test_tours_hold_what_fits(self):
+        r, every = random.Random(2), list(combinations(range(1, 7), 2))
+        for _ in range(150):
+            k = set(r.sample(every, r.randrange(1, 7)))
+            self.assertEqual(fits_tour(k, 6), tours_hold(k, 6), k)
+
+    def test_whole_tours_fit_and_two_triangles_do_not(self):
+        self.assertTrue(fits_tour({(1, 2), (2, 3), (3, 4), (1, 4)}, 4))
+        self.assertFalse(fits_tour({(1, 2), (2, 3), (1, 3), (4, 5), (5, 6), (4, 6)}, 6))
+
+
+if __name__ == "__main__":
+    unittest.main()

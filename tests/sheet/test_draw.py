@@ -1,0 +1,136 @@
+"""draw: well-formed pictures with the right number of everything."""
+
+import random
+import unittest
+from xml.etree import ElementTree
+
+from support import NINE, SQUARE_POINTS, SQUARE_RECORDS, STANDIN, Run, binary, fake
+
+from sheetlib.answer import Answer
+from sheetlib.draw import WIDTH, draw
+from sheetlib.labels import overlap, place_labels
+from sheetlib.parts import split
+
+SVG = "{http://www.w3.org/2000/svg}"
+
+
+class Picture:
+    """A picture, read as XML."""
+
+    def __init__(self, text):
+        self.root = ElementTree.fromstring(text)
+        self.groups = {g.get("id"): g for g in self.root.iter(f"{SVG}g")}
+
+    def edges(self, name):
+        """The number of edges drawn in a group."""
+        return sum(p.get("d").count("M") for p in self.groups[name])
+
+    def texts(self, name):
+        """The words in a group."""
+        return [t.text for t in self.groups[name].iter(f"{SVG}text")]
+
+    def spots(self):
+        """The middle of each hole."""
+        return [(int(c.get("cx")), int(c.get("cy"))) for c in self.groups["holes"]]
+
+
+def picture(points, struck=(), tour=()):
+    """The picture of a board with some edges struck."""
+    n = len(points)
+    edges = n * (n - 1) // 2
+    answer = Answer(n, edges, list(struck), 0, 0, edges - len(struck))
+    return Picture(draw(split(binary([], points)), answer, list(tour)))
+
+
+class Draw(unittest.TestCase):
+    """What the pictures hold."""
+
+    def test_square(self):
+        p = picture(SQUARE_POINTS, [(1, 3)], [1, 2, 4, 3])
+        self.assertEqual([p.edges(g) for g in ("open", "struck", "tour", "broken")], [5, 1, 3, 1])
+        self.assertEqual(p.texts("labels"), ["1", "2", "3", "4"])
+        self.assertEqual(p.texts("legend"), ["4 holes (EUC_2D)", "open: 5 edges", "struck: 1 edge",
+                                             "tour: length 48", "struck, in the tour: 1"])
+
+    def test_second_coordinate_grows_upward(self):
+        first, second, third, fourth = picture(SQUARE_POINTS).spots()
+        self.assertTrue(first[0] == fourth[0] < second[0] == third[0])
+        self.assertTrue(fourth[1] == third[1] < first[1] == second[1])
+
+    def test_no_tour(self):
+        p = picture(SQUARE_POINTS)
+        self.assertEqual([p.edges(g) for g in ("open", "struck", "tour", "broken")], [6, 0, 0, 0])
+        self.assertEqual(len(p.texts("legend")), 3)
+
+    def test_180_holes(self):
+        r = random.Random(1)
+        points = [(r.randrange(10**6), r.randrange(10**6)) for _ in range(180)]
+        struck = sorted({tuple(sorted(r.sample(range(1, 181), 2))) for _ in range(900)})
+        p = picture(points, struck, range(1, 181))
+        self.assertEqual(p.edges("struck"), len(struck))
+        self.assertEqual(p.edges("open") + len(struck), 16110)
+        self.assertEqual(p.edges("tour") + p.edges("broken"), 180)
+        self.assertEqual(len(p.spots()), 180)
+        self.assertEqual(p.texts("labels"), [str(i) for i in range(1, 181)])
+
+    def test_everything_lies_in_the_picture(self):
+        for points in ([(0, 0), (10**6, 0), (3, 10**6), (10**6, 10**6)], [(0, k) for k in range(5)],
+                       [(k * 1000, 7) for k in range(9)], [(5, 5)] * 4):
+            p = picture(points)
+            height = int(p.root.get("height"))
+            self.assertTrue(all(0 < x < WIDTH and 0 < y < height for x, y in p.spots()))
+            for label in p.groups["labels"]:
+                self.assertTrue(0 < float(label.get("x")) < WIDTH and 0 < float(label.get("y")) < height)
+
+    def test_edges_end_at_their_holes(self):
+        p = picture(SQUARE_POINTS, [(2, 4)])
+        (x, y), (z, w) = p.spots()[1], p.spots()[3]
+        self.assertEqual(p.groups["struck"][0].get("d"), f"M{x} {y}L{z} {w}")
+
+    def test_labels_keep_apart(self):
+        spots = [(100, 100), (100, 100), (100, 112), (300, 300)]
+        found = place_labels(spots, 5, 14, (400, 400), [((0, 290), (400, 290))])
+        boxes = [(x - 4.48, y - 10.36, x + 4.48, y) for x, y in found]
+        for i, box in enumerate(boxes):
+            self.assertFalse(any(overlap(box, other) for other in boxes[:i]))
+        self.assertGreater(found[3][1], 300, "the number keeps off the line above")
+
+
+class Command(unittest.TestCase):
+    """The whole command."""
+
+    def test_nine_points(self):
+        run = Run("draw", NINE, "--tour", "1,5,4,7,6,2,3,8,9", mark=STANDIN)
+        self.assertEqual((run.status, run.err), (0, ""))
+        p = Picture(run.out)
+        self.assertEqual([p.edges(g) for g in ("open", "struck", "tour", "broken")], [9, 27, 9, 0])
+
+    def test_struck_edges_are_those_of_mark(self):
+        mark = fake("points 4 edges 6\nstruck 1 2\nverdict 14 record 2 open 5")
+        p = Picture(Run("draw", data=binary(SQUARE_RECORDS), mark=mark).out)
+        self.assertEqual([p.edges("open"), p.edges("struck")], [5, 1])
+
+    def test_refused_board(self):
+        run = Run("draw", data=binary([], [(0, 0)] * 3), mark=STANDIN)
+        self.assertEqual((run.status, run.out), (1, b""))
+        self.assertIn("number 1: n is outside 4 to 180. There is no board to draw.", run.err)
+
+    def test_answer_for_another_board(self):
+        for text in ("points 5 edges 10\nverdict 0 record 0 open 10",
+                     "points 4 edges 6\nstruck 1 9\nverdict 0 record 0 open 5"):
+            run = Run("draw", data=binary(SQUARE_RECORDS), mark=fake(text))
+            self.assertEqual((run.status, run.err), (1, "sheet: mark answers for another board\n"))
+
+    def test_bad_tours(self):
+        for tour, words in (("1,2,3", "each point from 1 to 4"), ("1,2,3,3", "each point"),
+                            ("1,2,3,5", "each point"), ("1,2,x,4", 'found "x"'), ("", 'found ""'),
+                            ("1,2,-3,4", 'found "-3"'), ("1,2,3,4,", 'found ""'), ("1,2,³,4", "found")):
+            with self.subTest(tour):
+                run = Run("draw", "--tour", tour, data=binary(SQUARE_RECORDS), mark=STANDIN)
+                self.assertEqual((run.status, run.out), (2, b""))
+                self.assertIn("--tour: expected", run.err)
+                self.assertIn(words, run.err)
+
+
+if __name__ == "__main__":
+    unittest.main()

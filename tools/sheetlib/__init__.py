@@ -1,0 +1,16 @@
+"""Strike sheets for people: the two forms of a sheet, its verdict, its picture.
+
+parts    the binary input of `mark` and its pieces
+nest     which record lies inside which
+write    pieces to text (unpack)
+scan     text to lines of tokens, and complaints with their place
+read     text to pieces (pack)
+answer   running `mark` and reading its lines
+board    lengths, K and standing pairs
+words    the meaning of each refusal number
+fault    what a file itself shows about its refusal
+explain  the verdict in words
+labels   places for the holes' numbers
+draw     the board as SVG
+command  the command line
+"""
