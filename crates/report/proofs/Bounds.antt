@@ -1,0 +1,129 @@
+-- How long the texts are: every one of the program fits 262,144 bytes, since a line of a strike has at most 15. Assumes nothing.
+use Prim.Native.Nat.{ℕ, zero, suc, _+_, _-_, _*_, _^_, _≤_, _<_}
+use mathlib.Core.Path.{_≡_, refl, sym}
+use mathlib.Core.Bool.{Bool, true, false}
+use mathlib.Core.List.{List, [], _∷_, _++_}
+use native.Mathlib.Omega.{arith}
+use lib.Dec.{eqb}
+use lib.ListN.{length, length-append}
+use Rattle.lengths.specs.Edge.{Edge, edge, edges, edgeCount, row, rows, tri}
+use Rattle.lengths.proofs.Edges.{edgeCount-tri, tri-mono, length-edges}
+use Rattle.rules.specs.EdgeSet.{count}
+use Rattle.report.specs.Text.{Room, Wrote, decimal, field, pointsWord, edgesWord, struckWord, space, verdictWord, recordWord, openWord, lineEnd}
+use Rattle.report.specs.Lines.{pointsLine, struckLine, markLine, markLines, struckLines, verdictLine, allLines, Large, LinesAsked, StrikesAsked}
+use Rattle.report.proofs.Decimals.{decimal-length}
+
+pub edges-few : {n : ℕ} → n ≤ 180 → edgeCount n ≤ 16110
+unfolding tri
+edges-few {n} h = omega (arith, edgeCount-tri n, tri-mono n 180 h)
+
+field-length : (k : ℕ) (word : List ℕ) (n : ℕ) → n < 10 ^ suc k → length (field word n) ≤ length word + suc k
+unfolding field
+field-length k word n h = omega (arith, length-append word (decimal n), decimal-length k n h)
+
+line-length : (t u v : List ℕ) → length (t ++ u ++ v) ≡ length t + length u + length v
+line-length t u v = omega (arith, length-append (t ++ u) v, length-append t u)
+
+struck-length : (a b : ℕ) → a ≤ 180 → b ≤ 180 → length (struckLine a b) ≤ 15
+unfolding struckLine
+struck-length a b h g = omega (
+  arith,
+  line-length (field struckWord a) (field space b) lineEnd,
+  field-length 2 struckWord a (omega arith),
+  field-length 2 space b (omega arith),
+)
+
+mark-length : (mark a b : ℕ) → a ≤ 180 → b ≤ 180 → length (markLine mark a b) ≤ 15
+unfolding markLine
+mark-length mark a b h g = go (eqb mark 0) refl
+  where
+    go : (t : Bool) → eqb mark 0 ≡ t → length (markLine mark a b) ≤ 15
+    go true e = rw (markLine, e) (struck-length a b h g)
+    go false e = rw (markLine, e) (omega arith)
+
+-- every point of the edges is one of the points 1 to 180
+abbrev Small : List Edge → Type 0
+Small [] = Unit {0}
+Small (edge a b ∷ es) = (a ≤ 180) × (b ≤ 180) × Small es
+
+small-both : (es fs : List Edge) → Small es → Small fs → Small (es ++ fs)
+small-both [] fs h g = g
+small-both (edge a b ∷ es) fs (h, k, l) g = (h, k, small-both es fs l g)
+
+small-row : (a b k : ℕ) → a ≤ 180 → b + k ≤ 181 → Small (row a b k)
+unfolding row
+small-row a b zero h g = tt
+small-row a b (suc k) h g = (h, omega arith, small-row a (suc b) k h (omega arith))
+
+small-rows : (a k : ℕ) → a + k ≤ 180 → Small (rows a k)
+unfolding rows
+small-rows a zero h = tt
+small-rows a (suc k) h = small-both (row a (suc a) (suc k)) (rows (suc a) k) (small-row a (suc a) (suc k) (omega arith) (omega arith)) (small-rows (suc a) k (omega arith))
+
+marks-length : (es : List Edge) (marks : List ℕ) → Small es → length (markLines es marks) ≤ 15 * length es
+unfolding markLines
+marks-length [] marks h = omega arith
+marks-length (e ∷ es) [] h = omega arith
+marks-length (edge a b ∷ es) (mark ∷ marks) (h, g, k) =
+    omega (arith, length-append (markLine mark a b) (markLines es marks), mark-length mark a b h g, marks-length es marks k)
+
+strikes-length : (n : ℕ) (marks : List ℕ) → 2 ≤ n → n ≤ 180 → length (struckLines n marks) ≤ 241650
+unfolding struckLines edges
+strikes-length n marks h g =
+    omega (arith, marks-length (rows 1 (n - 1)) marks (small-rows 1 (n - 1) (omega arith)), length-edges n (omega arith), edges-few g)
+
+points-length : (n : ℕ) → n ≤ 180 → length (pointsLine n) ≤ 23
+unfolding pointsLine
+points-length n h = omega (
+  arith,
+  line-length (field pointsWord n) (field edgesWord (edgeCount n)) lineEnd,
+  field-length 2 pointsWord n (omega arith),
+  field-length 4 edgesWord (edgeCount n) (omega (arith, edges-few h)),
+)
+
+verdict-length : (number rec opens : ℕ) → number < 2 ^ 8 → rec < 2 ^ 16 → opens ≤ 16110 → length (verdictLine number rec opens) ≤ 38
+unfolding verdictLine
+verdict-length number rec opens h g k = omega (
+  arith,
+  length-append (field verdictWord number ++ field recordWord rec ++ field openWord opens) lineEnd,
+  line-length (field verdictWord number) (field recordWord rec) (field openWord opens),
+  field-length 4 verdictWord number (omega arith),
+  field-length 4 recordWord rec (omega arith),
+  field-length 4 openWord opens (omega arith),
+)
+
+count-few : (v : ℕ) (l : List ℕ) → count v l ≤ length l
+unfolding count
+count-few v [] = omega arith
+count-few v (u ∷ us) = go (eqb u v) refl (count-few v us)
+  where
+    go : (t : Bool) → eqb u v ≡ t → count v us ≤ length us → count v (u ∷ us) ≤ length (u ∷ us)
+    go true e h = rw (count, e) (omega arith)
+    go false e h = rw (count, e) (omega arith)
+
+pub last-room : {out : List ℕ} {number : ℕ} → Large out → number < 2 ^ 8 → Room out 0 (verdictLine number 0 0)
+last-room {out} {number} l h = record { room = omega (arith, verdict-length number 0 0 h (omega arith) (omega arith)) }
+
+pub all-room : {n number rec : ℕ} {marks out : List ℕ} → LinesAsked n marks out → number < 2 ^ 8 → rec < 2 ^ 16 → Room out 0 (allLines n number rec marks)
+unfolding allLines
+all-room {n} {number} {rec} {marks} {out} p h g = record {
+  room = omega (
+    arith,
+    p .large,
+    line-length (pointsLine n) (struckLines n marks) (verdictLine number rec (count 1 marks)),
+    points-length n (p .few),
+    strikes-length n marks (p .some) (p .few),
+    verdict-length number rec (count 1 marks) h g (omega (arith, p .marked, edges-few (p .few), count-few 1 marks)),
+  );
+}
+
+pub strikes-asked : {n at : ℕ} {marks out mid : List ℕ} → LinesAsked n marks out → Room mid at (struckLines n marks) → StrikesAsked n marks mid at
+strikes-asked p r = record { some = p .some; few = p .few; marked = p .marked; room = r }
+
+-- the last line of an equal count
+pub verdict-room : {out : List ℕ} {at opens : ℕ} (number rec : ℕ) (marks : List ℕ) → opens ≡ count 1 marks → Room out at (verdictLine number rec (count 1 marks)) → Room out at (verdictLine number rec opens)
+verdict-room number rec marks h p = rw h p
+
+pub verdict-wrote : {out left : List ℕ} {at r opens : ℕ} (number rec : ℕ) (marks : List ℕ) → opens ≡ count 1 marks → Wrote out at (verdictLine number rec opens) r left
+    → Wrote out at (verdictLine number rec (count 1 marks)) r left
+verdict-wrote number rec marks h w = rw (sym h) w

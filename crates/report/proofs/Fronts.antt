@@ -1,0 +1,61 @@
+-- An input may be cut at any place past its 65,448th byte: the text is the same, so a buffer of more bytes than that sees enough.
+-- If nothing is cut there is nothing to show. If something is, the header's eight bytes are in front of the cut, so both have the same n.
+-- If n is out of range both get 1. If not, the coordinates end before the 1,449th byte, and both are too long, so both get 7.
+-- Assumes nothing.
+use Prim.Native.Nat.{ℕ, _+_, _*_, _≤_, _<_}
+use mathlib.Core.Path.{_≡_, refl, sym, _∙_, ap}
+use mathlib.Core.Bool.{Bool, true, false}
+use mathlib.Core.List.{List}
+use native.Mathlib.Decide.{decLe}
+use native.Mathlib.Omega.{arith}
+use lib.ListN.{length, take}
+use lib.Seq.{take-all, length-take-le, getD-take}
+use borrow.Author.Tests.{le-leb, lt-leb}
+use Rattle.lengths.specs.Instance.{inRange}
+use Rattle.lengths.proofs.Instances.{in-range}
+use Rattle.report.specs.Input.{number32, pointsIn, headerOf}
+use Rattle.report.specs.Output.{textFor, outputOf}
+use Rattle.report.specs.declared.header.Header.{Header}
+use Rattle.report.specs.declared.header.Header.the-variants.{Refused}
+
+points-front : (file : List ℕ) (k : ℕ) → 8 ≤ k → pointsIn (take k file) ≡ pointsIn file
+unfolding pointsIn number32
+points-front file k h = omega (
+  arith,
+  getD-take k file 4 0 (omega arith),
+  getD-take k file 5 0 (omega arith),
+  getD-take k file 6 0 (omega arith),
+  getD-take k file 7 0 (omega arith),
+)
+
+-- a file that is too long gets 1 or 7 by its n alone
+abbrev refusalOf : Bool → ℕ
+refusalOf true = 7
+refusalOf false = 1
+
+header-of-long : (file : List ℕ) → 65448 < length file → headerOf file ≡ Refused (refusalOf (inRange (pointsIn file)))
+unfolding headerOf
+header-of-long file h = go (inRange (pointsIn file)) refl
+  where
+    go : (b : Bool) → inRange (pointsIn file) ≡ b → headerOf file ≡ Refused (refusalOf (inRange (pointsIn file)))
+    go true e = rw (
+      headerOf,
+      le-leb 8 (length file) (omega arith),
+      e,
+      le-leb (8 + 8 * pointsIn file) (length file) (omega (arith, in-range (pointsIn file) e)),
+      lt-leb (length file) 65448 h,
+    )
+    go false e = rw (headerOf, le-leb 8 (length file) (omega arith), e)
+
+pub output-front : (file : List ℕ) (k : ℕ) → 65449 ≤ k → outputOf (take k file) ≡ outputOf file
+unfolding outputOf
+output-front file k h = elim (decLe (length file) k) [
+  | yes whole ↦ ap outputOf (take-all k file whole)
+  | no cut ↦
+      let number = refusalOf (inRange (pointsIn file)) in
+      let front : headerOf (take k file) ≡ Refused number =
+      header-of-long (take k file) (omega (arith, length-take-le k file (omega arith)))
+      ∙ ap (λ (n : ℕ). Refused (refusalOf (inRange n))) (points-front file k (omega arith)) in
+      let long : headerOf file ≡ Refused number = header-of-long file (omega arith) in
+      ap (λ (g : Header). textFor g (take k file)) front ∙ sym (ap (λ (g : Header). textFor g file) long)
+]

@@ -1,0 +1,86 @@
+-- The text of an instance from what measuring answers: tests 3 and 4, or the marking of its records. Assumes nothing.
+use Prim.Native.Nat.{ℕ, _+_, _-_, _*_}
+use mathlib.Core.Path.{_≡_, refl, sym, _∙_, ap, subst}
+use mathlib.Core.Bool.{Bool, true, false}
+use mathlib.Core.List.{List}
+use native.Mathlib.Omega.{arith}
+use lib.ListN.{length, take, drop, length-drop}
+use lib.Seq.{take-all}
+use borrow.Author.Tests.{eq-eqb}
+use Rattle.lengths.specs.Distance.{ruleOf}
+use Rattle.lengths.specs.Edge.{edgeCount}
+use Rattle.lengths.specs.Instance.{inRange}
+use Rattle.lengths.specs.Measure.{measured, measuredTable, tableAfter, leftBy, known, MeasuredAs}
+use Rattle.lengths.specs.Test.{unless, allAtMost}
+use Rattle.lengths.specs.declared.distance.NamedRule.{NamedRule}
+use Rattle.lengths.specs.declared.distance.NamedRule.the-variants.{Known, Unknown}
+use Rattle.lengths.specs.declared.measure.Measured.{Measured}
+use Rattle.lengths.specs.declared.measure.Measured.the-variants.{Done, Refused}
+use Rattle.marking.specs.Bytes.{whole16}
+use Rattle.marking.specs.Fresh.{freshMarks}
+use Rattle.marking.specs.Marking.{markSheet}
+use Rattle.report.specs.Input.{coordinatesIn, recordsIn}
+use Rattle.report.specs.Text.{Wrote}
+use Rattle.report.specs.Lines.{lastLine}
+use Rattle.report.specs.Output.{textBy, measuredText, markedText}
+
+-- tests 3 and 4
+abbrev later : NamedRule → Bool → Measured
+later named ok = unless (known named) (Refused 3) (unless ok (Refused 4) Done)
+
+refused-by : (named : NamedRule) (cs : List ℕ) (n : ℕ) (records : List ℕ) {k : ℕ} → later named (allAtMost 1000000 cs) ≡ Refused k → textBy named n cs records ≡ lastLine k
+refused-by Unknown cs n records {k} h = let e : 3 ≡ k = cc in ap lastLine e
+refused-by (Known rule) cs n records {k} h = go (allAtMost 1000000 cs) refl
+  where
+    go : (b : Bool) → allAtMost 1000000 cs ≡ b → textBy (Known rule) n cs records ≡ lastLine k
+    go true e = absurd (let z : _≡_ {A = ℕ} 0 1 = let g : Done ≡ Refused k = rw e at h in cc in omega arith)
+    go false e = let g : Refused 4 ≡ Refused k = rw e at h in let q : 4 ≡ k = cc in rw e (ap lastLine q)
+
+done-by : (named : NamedRule) (cs : List ℕ) (n : ℕ) (records table : List ℕ) → later named (allAtMost 1000000 cs) ≡ Done
+    → textBy named n cs records ≡ markedText n (markSheet n (leftBy Done named n cs table) (freshMarks n) records)
+done-by Unknown cs n records table h = absurd (let z : _≡_ {A = ℕ} 0 1 = cc in omega arith)
+done-by (Known rule) cs n records table h = go (allAtMost 1000000 cs) refl
+  where
+    go : (b : Bool) → allAtMost 1000000 cs ≡ b → textBy (Known rule) n cs records ≡ markedText n (markSheet n (measuredTable rule cs n) (freshMarks n) records)
+    go true e = rw e
+    go false e = absurd (let z : _≡_ {A = ℕ} 0 1 = let g : Refused 4 ≡ Done = rw e at h in cc in omega arith)
+
+module _ (n rule : ℕ) (cs table : List ℕ) (range : inRange n ≡ true) (located : length cs ≡ 2 * n) (sized : length table ≡ edgeCount n) where
+  measured-later : measured n rule cs (length table) ≡ later (ruleOf rule) (allAtMost 1000000 cs)
+  unfolding measured
+  measured-later = rw (measured, range, eq-eqb (length cs) (2 * n) located, eq-eqb (length table) (edgeCount n) sized)
+
+  pub refused-text : (records : List ℕ) {k : ℕ} {left : List ℕ} → MeasuredAs n rule cs table (Refused k) left → measuredText rule n cs records ≡ lastLine k
+  unfolding measuredText
+  refused-text records m = refused-by (ruleOf rule) cs n records (sym measured-later ∙ sym (m .answered))
+
+  pub done-text : (records : List ℕ) {left : List ℕ} → MeasuredAs n rule cs table Done left → measuredText rule n cs records ≡ markedText n (markSheet n left (freshMarks n) records)
+  unfolding measuredText tableAfter
+  done-text records {left} m =
+      done-by (ruleOf rule) cs n records table (sym measured-later ∙ sym (m .answered))
+      ∙ ap (λ (t : List ℕ). markedText n (markSheet n t (freshMarks n) records))
+      (sym (m .table-left ∙ ap (λ (a : Measured). leftBy a (ruleOf rule) n cs table) (sym (m .answered))))
+
+-- what is written once measuring has answered: the last line, or the text of the records
+module _ (n rule : ℕ) (file : List ℕ) {r : ℕ} {cs table left out done : List ℕ} (range : inRange n ≡ true) (read : cs ≡ coordinatesIn n file)
+    (located : length cs ≡ 2 * n) (sized : length table ≡ edgeCount n) where
+  pub wrote-refused : {a : Measured} {k : ℕ} → MeasuredAs n rule cs table a left → a ≡ Refused k → Wrote out 0 (lastLine k) r done
+      → Wrote out 0 (measuredText rule n (coordinatesIn n file) (recordsIn n file)) r done
+  wrote-refused m e w = subst (λ (t : List ℕ). Wrote out 0 t r done)
+      (sym
+      (ap (λ (l : List ℕ). measuredText rule n l (recordsIn n file)) (sym read)
+      ∙ refused-text n rule cs table range located sized (recordsIn n file) (subst (λ (b : Measured). MeasuredAs n rule cs table b left) e m))) w
+
+  pub wrote-done : {a : Measured} → MeasuredAs n rule cs table a left → a ≡ Done
+      → Wrote out 0 (markedText n (markSheet n left (freshMarks n) (whole16 (take (length file - (8 + 8 * n)) (drop (8 + 8 * n) file))))) r done
+      → Wrote out 0 (measuredText rule n (coordinatesIn n file) (recordsIn n file)) r done
+  unfolding recordsIn
+  wrote-done m e w =
+      let rest : take (length file - (8 + 8 * n)) (drop (8 + 8 * n) file) ≡ drop (8 + 8 * n) file =
+      take-all (length file - (8 + 8 * n)) (drop (8 + 8 * n) file) (omega (arith, length-drop (8 + 8 * n) file)) in
+      subst (λ (t : List ℕ). Wrote out 0 t r done)
+      (ap (λ (l : List ℕ). markedText n (markSheet n left (freshMarks n) (whole16 l))) rest
+      ∙ sym
+      (ap (λ (l : List ℕ). measuredText rule n l (recordsIn n file)) (sym read)
+      ∙ done-text n rule cs table range located sized (recordsIn n file) (subst (λ (b : Measured). MeasuredAs n rule cs table b left) e m)))
+      w

@@ -1,0 +1,132 @@
+-- The loop of `put_strikes`: what is written and the lines that are left make the whole, and the edge at the place is at hand.
+-- Assumes nothing.
+use Prim.Native.Nat.{ℕ, suc, _+_, _-_, _≤_, _<_}
+use mathlib.Core.Path.{_≡_, refl, sym, _∙_, ap}
+use mathlib.Core.List.{List, [], _∷_, _++_, append-assoc, append-nil}
+use native.Mathlib.Numerals.{add-one}
+use native.Mathlib.Omega.{arith}
+use lib.ListN.{length, take, drop, getD, length-append, drop-of-length-le}
+use lib.Seq.{drop-cons, length-take-le}
+use borrow.Author.Tests.{eq-eqb, ne-eqb}
+use Rattle.lengths.specs.Edge.{Edge, edge, edges, edgeCount, tri, placeUp, IsEdgeUp}
+use Rattle.lengths.proofs.Edges.{length-edges, edges-at, next-in-row, next-row}
+use Rattle.report.specs.Text.{Room, Wrote}
+use Rattle.report.specs.Lines.{struckLine, markLine, markLines, struckLines, StrikesAsked}
+use Rattle.report.proofs.Writing.{wrote-none}
+
+-- the line of a mark
+struck-line : (a b : ℕ) {mark : ℕ} → mark ≡ 0 → markLine mark a b ≡ struckLine a b
+unfolding markLine
+struck-line a b {mark} h = rw (markLine, eq-eqb mark 0 h)
+
+open-line : (a b : ℕ) {mark : ℕ} → (mark ≡ 0 → ⊥) → markLine mark a b ≡ []
+unfolding markLine
+open-line a b {mark} h = rw (markLine, ne-eqb mark 0 h)
+
+pub struck-room : {out : List ℕ} {at mark : ℕ} (a b : ℕ) → mark ≡ 0 → Room out at (markLine mark a b) → Room out at (struckLine a b)
+struck-room a b h p = rw (struck-line a b h) at p
+
+pub struck-wrote : {out left : List ℕ} {at r mark : ℕ} (a b : ℕ) → mark ≡ 0 → Wrote out at (struckLine a b) r left → Wrote out at (markLine mark a b) r left
+struck-wrote a b h w = rw (struck-line a b h) w
+
+pub open-wrote : {out : List ℕ} {at mark : ℕ} (a b : ℕ) → (mark ≡ 0 → ⊥) → Wrote out at (markLine mark a b) at out
+open-wrote {out} {at} a b h = rw (open-line a b h) (wrote-none out at)
+
+pub record Striking (n : ℕ) (marks out₀ : List ℕ) (at : ℕ) (out : List ℕ) (a b i next : ℕ) : Type 0 where
+  pub here : i < edgeCount n → IsEdgeUp n a b × (placeUp n a b ≡ i)
+  pub kept : length out ≡ length out₀
+  pub within : next ≤ length out
+  pub whole : take next out ++ markLines (drop i (edges n)) (drop i marks) ≡ take at out₀ ++ struckLines n marks
+
+pub first-edge : {n at : ℕ} {marks out : List ℕ} → StrikesAsked n marks out at → Striking n marks out at out 1 2 0 at
+unfolding placeUp struckLines
+first-edge {n} {at} {marks} {out} p = record {
+  here = λ _. (record { low = omega arith; up = omega arith; high = p .some }, start);
+  kept = refl;
+  within = omega (arith, p .room .room);
+  whole = refl;
+}
+  where
+    start : placeUp n 1 2 ≡ 0
+    start = let e : n + 1 - 1 ≡ n = omega arith in omega (arith, ap tri e)
+
+-- the length of what is written and what is left
+total : {n at : ℕ} {marks out₀ out : List ℕ} {a b i next : ℕ} → StrikesAsked n marks out₀ at → Striking n marks out₀ at out a b i next
+    → next + length (markLines (drop i (edges n)) (drop i marks)) ≡ at + length (struckLines n marks)
+total {n} {at} {marks} {out₀} {out} {i = i} {next = next} p s = omega (
+  arith,
+  ap length (s .whole),
+  length-append (take next out) (markLines (drop i (edges n)) (drop i marks)),
+  length-append (take at out₀) (struckLines n marks),
+  length-take-le next out (s .within),
+  length-take-le at out₀ (omega (arith, p .room .room)),
+)
+
+module _ {n at : ℕ} {marks out₀ out : List ℕ} {a b i next : ℕ} (p : StrikesAsked n marks out₀ at) (s : Striking n marks out₀ at out a b i next)
+    (h : i < length marks) where
+  at-edge : IsEdgeUp n a b × (placeUp n a b ≡ i)
+  at-edge = s .here (omega (arith, p .marked))
+
+  edges-here : drop i (edges n) ≡ edge a b ∷ drop (i + 1) (edges n)
+  edges-here =
+      drop-cons (edges n) i (edge 0 0) (omega (arith, p .marked, length-edges n (omega (arith, p .some))))
+      ∙ ap (λ (e : Edge). e ∷ drop (suc i) (edges n)) (ap (λ (j : ℕ). getD (edges n) j (edge 0 0)) (sym (at-edge .1)) ∙ edges-at (at-edge .0))
+      ∙ ap (λ (j : ℕ). edge a b ∷ drop j (edges n)) (sym (add-one i))
+
+  marks-here : drop i marks ≡ getD marks i 0 ∷ drop (i + 1) marks
+  marks-here = drop-cons marks i 0 h ∙ ap (λ (j : ℕ). getD marks i 0 ∷ drop j marks) (sym (add-one i))
+
+  lines-here : markLines (drop i (edges n)) (drop i marks) ≡ markLine (getD marks i 0) a b ++ markLines (drop (i + 1) (edges n)) (drop (i + 1) marks)
+  unfolding markLines
+  lines-here = ap (λ (es : List Edge). markLines es (drop i marks)) edges-here ∙ ap (markLines (edge a b ∷ drop (i + 1) (edges n))) marks-here
+
+  pub mark-room : Room out next (markLine (getD marks i 0) a b)
+  mark-room = record {
+    room = omega (
+      arith,
+      total p s,
+      ap length lines-here,
+      length-append (markLine (getD marks i 0) a b) (markLines (drop (i + 1) (edges n)) (drop (i + 1) marks)),
+      p .room .room,
+      s .kept,
+    );
+  }
+
+  pub row-small : (a + 1 ≤ 180) × (b ≤ 180)
+  row-small = (omega (arith, p .few, at-edge .0), omega (arith, p .few, at-edge .0))
+
+  module _ {r : ℕ} {left : List ℕ} (w : Wrote out next (markLine (getD marks i 0) a b) r left) where
+    text-on : take r left ++ markLines (drop (i + 1) (edges n)) (drop (i + 1) marks) ≡ take at out₀ ++ struckLines n marks
+    text-on =
+        ap (λ (l : List ℕ). l ++ markLines (drop (i + 1) (edges n)) (drop (i + 1) marks)) (w .front)
+        ∙ append-assoc (take next out) (markLine (getD marks i 0) a b) (markLines (drop (i + 1) (edges n)) (drop (i + 1) marks))
+        ∙ ap (λ (l : List ℕ). take next out ++ l) (sym lines-here)
+        ∙ s .whole
+
+    pub along : b < n → Striking n marks out₀ at left a (b + 1) (i + 1) r
+    along g = record {
+      here = λ _. next-in-row (at-edge .0) (at-edge .1) g;
+      kept = w .kept ∙ s .kept;
+      within = omega (arith, w .next, w .kept, mark-room .room);
+      whole = text-on;
+    }
+
+    pub down : n ≤ b → Striking n marks out₀ at left (a + 1) (a + 1 + 1) (i + 1) r
+    down g = record {
+      here = λ k. next-row (at-edge .0) (at-edge .1) g k;
+      kept = w .kept ∙ s .kept;
+      within = omega (arith, w .next, w .kept, mark-room .room);
+      whole = text-on;
+    }
+
+pub all-struck : {n at : ℕ} {marks out₀ out : List ℕ} {a b i next : ℕ} → StrikesAsked n marks out₀ at → Striking n marks out₀ at out a b i next
+    → length marks ≤ i → Wrote out₀ at (struckLines n marks) next out
+unfolding markLines
+all-struck {n} {at} {marks} {out₀} {out} {i = i} {next = next} p s h =
+    let over : markLines (drop i (edges n)) (drop i marks) ≡ [] =
+    ap (λ (es : List Edge). markLines es (drop i marks)) (drop-of-length-le (edges n) {i = i} (omega (arith, p .marked, length-edges n (omega (arith, p .some))))) in
+    record {
+      next = omega (arith, total p s, ap length over);
+      front = sym (append-nil (take next out)) ∙ ap (λ (l : List ℕ). take next out ++ l) (sym over) ∙ s .whole;
+      kept = s .kept;
+    }

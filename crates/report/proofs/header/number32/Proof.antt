@@ -1,0 +1,84 @@
+-- `report::header::number32` meets its contract: four bytes, each with its place's value. Assumes nothing.
+use native.Mathlib.Omega.{arith}
+use Rattle.report.specs.Input.{number32}
+use borrow.Author.Needs.{needs}
+use Rattle.report.proofs.header.number32.Statement.{statement}
+use Rattle.report.proofs.header.number32.Tie as tie
+
+shared-slice-read-byte : tie.Need-shared-slice-read-byte
+shared-slice-read-byte c = search needs
+
+byte-requires : tie.Need-byte-requires
+byte-requires c κs = search needs
+
+add-byte : tie.Need-add-byte
+add-byte c = search needs
+
+shared-slice-read-byte-2 : tie.Need-shared-slice-read-byte-2
+shared-slice-read-byte-2 c = search needs
+
+byte-requires-2 : tie.Need-byte-requires-2
+byte-requires-2 c κs = search needs
+
+mul-result : tie.Need-mul-result
+mul-result c = search needs
+
+add-result : tie.Need-add-result
+add-result c = search needs
+
+add-byte-2 : tie.Need-add-byte-2
+add-byte-2 c = search needs
+
+shared-slice-read-byte-3 : tie.Need-shared-slice-read-byte-3
+shared-slice-read-byte-3 c = search needs
+
+byte-requires-3 : tie.Need-byte-requires-3
+byte-requires-3 c κs = search needs
+
+mul-result-2 : tie.Need-mul-result-2
+mul-result-2 c = search needs
+
+add-result-2 : tie.Need-add-result-2
+add-result-2 c = search needs
+
+add-byte-3 : tie.Need-add-byte-3
+add-byte-3 c = search needs
+
+shared-slice-read-byte-4 : tie.Need-shared-slice-read-byte-4
+shared-slice-read-byte-4 c = search needs
+
+byte-requires-4 : tie.Need-byte-requires-4
+byte-requires-4 c κs = search needs
+
+mul-result-3 : tie.Need-mul-result-3
+mul-result-3 c = search needs
+
+add-result-3 : tie.Need-add-result-3
+add-result-3 c = search needs
+
+returns : tie.Need-returns
+unfolding number32
+returns c = omega (arith, c .before .before .before .before .before .before .byte .ensures .same, c .before .before .before .before .byte2 .ensures .same, c .before .before .byte3 .ensures .same, c .byte4 .ensures .same)
+
+pub number32-spec : {M : Type 1} → statement M
+number32-spec =
+    tie.close
+    (tie.spec
+    shared-slice-read-byte
+    byte-requires
+    add-byte
+    shared-slice-read-byte-2
+    byte-requires-2
+    mul-result
+    add-result
+    add-byte-2
+    shared-slice-read-byte-3
+    byte-requires-3
+    mul-result-2
+    add-result-2
+    add-byte-3
+    shared-slice-read-byte-4
+    byte-requires-4
+    mul-result-3
+    add-result-3
+    returns)

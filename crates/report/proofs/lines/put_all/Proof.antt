@@ -1,0 +1,42 @@
+-- `report::lines::put_all` meets its contract: line one, the strikes, the last line. Assumes nothing.
+use native.Mathlib.Omega.{arith}
+use denote.Ref.{now}
+use Rattle.report.specs.Lines.{allLines}
+use Rattle.report.proofs.Writing.{room-1, room-2, room-3, wrote-three}
+use Rattle.report.proofs.Bounds.{edges-few, all-room, strikes-asked, verdict-room, verdict-wrote}
+use borrow.Author.Needs.{needs}
+use Rattle.report.proofs.lines.put_all.Statement.{statement}
+use Rattle.report.proofs.lines.put_all.Tie as tie
+
+open-edges-requires : tie.Need-open-edges-requires
+open-edges-requires c κs = omega (arith, c .before .before .pre .marked, edges-few (c .before .before .pre .few))
+
+put-points-requires : tie.Need-put-points-requires
+unfolding allLines
+put-points-requires c κs = let s = c .before .before .before .before in (s .pre .few, room-1 _ _ (all-room (s .pre) (s .fits .number .fits) (s .fits .rec .fits)))
+
+put-strikes-requires : tie.Need-put-strikes-requires
+unfolding allLines
+put-strikes-requires c κs = let s = c .before .before .before .before .before .before .before .before in strikes-asked (s .pre) (room-2 _ (all-room (s .pre) (s .fits .number .fits) (s .fits .rec .fits)) (c .before .before .before .put-points .ensures))
+
+put-verdict-requires : tie.Need-put-verdict-requires
+unfolding allLines
+put-verdict-requires c κs = let s = c .before .before .before .before .before .before .before .before .before .before .before .before in verdict-room (s .args .number) (s .args .rec) (now (s .args .marks)) (c .before .before .before .before .before .before .before .before .before .open-edges .ensures .counted) (room-3 (all-room (s .pre) (s .fits .number .fits) (s .fits .rec .fits)) (c .before .before .before .before .before .before .before .put-points .ensures) (c .before .before .before .put-strikes .ensures))
+
+same-length : tie.Need-same-length
+same-length c = search needs
+
+returns : tie.Need-returns
+unfolding allLines
+returns c = let s = c .before .before .before .before .before .before .before .before .before .before .before .before .before .before .before in wrote-three (c .before .before .before .before .before .before .before .before .before .before .put-points .ensures) (c .before .before .before .before .before .before .put-strikes .ensures) (verdict-wrote (s .args .number) (s .args .rec) (now (s .args .marks)) (c .before .before .before .before .before .before .before .before .before .before .before .before .open-edges .ensures .counted) (c .before .before .put-verdict .ensures))
+
+pub put-all-spec : {M : Type 1} → statement M
+put-all-spec =
+    tie.close
+    (tie.spec
+    open-edges-requires
+    put-points-requires
+    put-strikes-requires
+    put-verdict-requires
+    same-length
+    returns)

@@ -1,0 +1,58 @@
+-- `report::lines::put_points` meets its contract: two fields and the end of the line. Assumes nothing.
+use native.Mathlib.Omega.{arith}
+use Rattle.report.specs.Text.{edgesWord}
+use Rattle.report.specs.Lines.{pointsLine}
+use Rattle.report.proofs.Writing.{room-1, room-2, room-3, wrote-three, field-room, field-wrote}
+use Rattle.report.proofs.Bounds.{edges-few}
+use borrow.Author.Needs.{needs}
+use Rattle.report.proofs.lines.put_points.Statement.{statement}
+use Rattle.report.proofs.lines.put_points.Tie as tie
+
+count-requires : tie.Need-count-requires
+count-requires c κs = search needs
+
+cast-edges : tie.Need-cast-edges
+cast-edges c = record { fits = omega (arith, c .count .ensures, edges-few (c .before .before .pre .0)) }
+
+slice-aggregate-put-field : tie.Need-slice-aggregate-put-field
+slice-aggregate-put-field c = search needs
+
+put-field-requires : tie.Need-put-field-requires
+unfolding pointsLine
+put-field-requires c κs = room-1 _ _ (c .before .before .before .before .pre .1)
+
+slice-aggregate-put-field-2 : tie.Need-slice-aggregate-put-field-2
+slice-aggregate-put-field-2 c = search needs
+
+put-field-requires-2 : tie.Need-put-field-requires-2
+unfolding pointsLine
+put-field-requires-2 c κs = field-room edgesWord (c .before .before .before .before .before .before .before .count .ensures) (room-2 _ (c .before .before .before .before .before .before .before .before .before .pre .1) (c .before .before .before .before .put-field .ensures))
+
+slice-aggregate-put-word : tie.Need-slice-aggregate-put-word
+slice-aggregate-put-word c = search needs
+
+put-word-requires : tie.Need-put-word-requires
+unfolding pointsLine
+put-word-requires c κs = room-3 (c .before .before .before .before .before .before .before .before .before .before .before .before .before .before .pre .1) (c .before .before .before .before .before .before .before .before .before .put-field .ensures) (field-wrote edgesWord (c .before .before .before .before .before .before .before .before .before .before .before .before .count .ensures) (c .before .before .before .before .put-field2 .ensures))
+
+same-length : tie.Need-same-length
+same-length c = search needs
+
+returns : tie.Need-returns
+unfolding pointsLine
+returns c = wrote-three (c .before .before .before .before .before .before .before .before .before .before .before .before .put-field .ensures) (field-wrote edgesWord (c .before .before .before .before .before .before .before .before .before .before .before .before .before .before .before .count .ensures) (c .before .before .before .before .before .before .before .put-field2 .ensures)) (c .before .before .put-word .ensures)
+
+pub put-points-spec : {M : Type 1} → statement M
+put-points-spec =
+    tie.close
+    (tie.spec
+    count-requires
+    cast-edges
+    slice-aggregate-put-field
+    put-field-requires
+    slice-aggregate-put-field-2
+    put-field-requires-2
+    slice-aggregate-put-word
+    put-word-requires
+    same-length
+    returns)

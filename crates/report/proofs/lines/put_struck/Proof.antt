@@ -1,0 +1,47 @@
+-- `report::lines::put_struck` meets its contract: two fields and the end of the line. Assumes nothing.
+use Rattle.report.specs.Lines.{struckLine}
+use Rattle.report.proofs.Writing.{room-1, room-2, room-3, wrote-three}
+use borrow.Author.Needs.{needs}
+use Rattle.report.proofs.lines.put_struck.Statement.{statement}
+use Rattle.report.proofs.lines.put_struck.Tie as tie
+
+slice-aggregate-put-field : tie.Need-slice-aggregate-put-field
+slice-aggregate-put-field c = search needs
+
+put-field-requires : tie.Need-put-field-requires
+unfolding struckLine
+put-field-requires c κs = room-1 _ _ (c .before .before .before .pre)
+
+slice-aggregate-put-field-2 : tie.Need-slice-aggregate-put-field-2
+slice-aggregate-put-field-2 c = search needs
+
+put-field-requires-2 : tie.Need-put-field-requires-2
+unfolding struckLine
+put-field-requires-2 c κs = room-2 _ (c .before .before .before .before .before .before .before .before .pre) (c .before .before .before .before .put-field .ensures)
+
+slice-aggregate-put-word : tie.Need-slice-aggregate-put-word
+slice-aggregate-put-word c = search needs
+
+put-word-requires : tie.Need-put-word-requires
+unfolding struckLine
+put-word-requires c κs = room-3 (c .before .before .before .before .before .before .before .before .before .before .before .before .before .pre) (c .before .before .before .before .before .before .before .before .before .put-field .ensures) (c .before .before .before .before .put-field2 .ensures)
+
+same-length : tie.Need-same-length
+same-length c = search needs
+
+returns : tie.Need-returns
+unfolding struckLine
+returns c = wrote-three (c .before .before .before .before .before .before .before .before .before .before .before .before .put-field .ensures) (c .before .before .before .before .before .before .before .put-field2 .ensures) (c .before .before .put-word .ensures)
+
+pub put-struck-spec : {M : Type 1} → statement M
+put-struck-spec =
+    tie.close
+    (tie.spec
+    slice-aggregate-put-field
+    put-field-requires
+    slice-aggregate-put-field-2
+    put-field-requires-2
+    slice-aggregate-put-word
+    put-word-requires
+    same-length
+    returns)

@@ -1,0 +1,56 @@
+-- `report::lines::put_verdict` meets its contract: three fields and the end of the line. Assumes nothing.
+use Rattle.report.specs.Lines.{verdictLine}
+use Rattle.report.proofs.Writing.{room-first, room-second, room-1, room-2, room-3, wrote-both, wrote-three}
+use borrow.Author.Needs.{needs}
+use Rattle.report.proofs.lines.put_verdict.Statement.{statement}
+use Rattle.report.proofs.lines.put_verdict.Tie as tie
+
+slice-aggregate-put-field : tie.Need-slice-aggregate-put-field
+slice-aggregate-put-field c = search needs
+
+put-field-requires : tie.Need-put-field-requires
+unfolding verdictLine
+put-field-requires c κs = room-1 _ _ (room-first _ (c .before .before .before .pre))
+
+slice-aggregate-put-field-2 : tie.Need-slice-aggregate-put-field-2
+slice-aggregate-put-field-2 c = search needs
+
+put-field-requires-2 : tie.Need-put-field-requires-2
+unfolding verdictLine
+put-field-requires-2 c κs = room-2 _ (room-first _ (c .before .before .before .before .before .before .before .before .pre)) (c .before .before .before .before .put-field .ensures)
+
+slice-aggregate-put-field-3 : tie.Need-slice-aggregate-put-field-3
+slice-aggregate-put-field-3 c = search needs
+
+put-field-requires-3 : tie.Need-put-field-requires-3
+unfolding verdictLine
+put-field-requires-3 c κs = room-3 (room-first _ (c .before .before .before .before .before .before .before .before .before .before .before .before .before .pre)) (c .before .before .before .before .before .before .before .before .before .put-field .ensures) (c .before .before .before .before .put-field2 .ensures)
+
+slice-aggregate-put-word : tie.Need-slice-aggregate-put-word
+slice-aggregate-put-word c = search needs
+
+put-word-requires : tie.Need-put-word-requires
+unfolding verdictLine
+put-word-requires c κs = room-second (c .before .before .before .before .before .before .before .before .before .before .before .before .before .before .before .before .before .before .pre) (wrote-three (c .before .before .before .before .before .before .before .before .before .before .before .before .before .before .put-field .ensures) (c .before .before .before .before .before .before .before .before .before .put-field2 .ensures) (c .before .before .before .before .put-field3 .ensures))
+
+same-length : tie.Need-same-length
+same-length c = search needs
+
+returns : tie.Need-returns
+unfolding verdictLine
+returns c = wrote-both (wrote-three (c .before .before .before .before .before .before .before .before .before .before .before .before .before .before .before .before .before .put-field .ensures) (c .before .before .before .before .before .before .before .before .before .before .before .before .put-field2 .ensures) (c .before .before .before .before .before .before .before .put-field3 .ensures)) (c .before .before .put-word .ensures)
+
+pub put-verdict-spec : {M : Type 1} → statement M
+put-verdict-spec =
+    tie.close
+    (tie.spec
+    slice-aggregate-put-field
+    put-field-requires
+    slice-aggregate-put-field-2
+    put-field-requires-2
+    slice-aggregate-put-field-3
+    put-field-requires-3
+    slice-aggregate-put-word
+    put-word-requires
+    same-length
+    returns)

@@ -1,0 +1,110 @@
+-- `report::report::measure_file` meets its contract: each answer of measuring has its lemma in `Measurings`. Assumes nothing.
+use mathlib.Core.Path.{_∙_}
+use denote.Ref.{now}
+use Rattle.report.proofs.Measurings.{wrote-refused, wrote-done}
+use Rattle.report.proofs.Sheets.{coordinates-read}
+use Rattle.report.proofs.Reports.{marking-asked}
+use borrow.Author.Needs.{needs}
+use Rattle.report.proofs.report.measure_file.Statement.{statement}
+use Rattle.report.proofs.report.measure_file.Tie as tie
+
+mul-body : tie.Need-mul-body
+mul-body c = search needs
+
+add-body : tie.Need-add-body
+add-body c = search needs
+
+sub-decode32 : tie.Need-sub-decode32
+sub-decode32 c = search needs
+
+part-decode32-start : tie.Need-part-decode32-start
+part-decode32-start c = search needs
+
+part-decode32-end : tie.Need-part-decode32-end
+part-decode32-end c = search needs
+
+decode32-requires : tie.Need-decode32-requires
+decode32-requires c κs = search needs
+
+measure-requires : tie.Need-measure-requires
+measure-requires c κs = search needs
+
+enum-known-number : tie.Need-enum-known-number
+enum-known-number c = search needs
+
+put-refusal-requires : tie.Need-put-refusal-requires
+put-refusal-requires c κs = search needs
+
+enum-told : tie.Need-enum-told
+enum-told c = search needs
+
+sub-mark-records : tie.Need-sub-mark-records
+sub-mark-records c = search needs
+
+part-mark-records-start : tie.Need-part-mark-records-start
+part-mark-records-start c = search needs
+
+part-mark-records-end : tie.Need-part-mark-records-end
+part-mark-records-end c = search needs
+
+mark-records-requires : tie.Need-mark-records-requires
+mark-records-requires c κs = marking-asked (c .before .before .before .before .before .before .before .before .before .before .before .before .before .before .before .before .before .before .before .before .before .pre .0) (c .before .before .before .before .before .before .before .before .before .before .before .before .before .before .before .before .before .before .before .before .before .pre .1) (c .before .before .before .before .before .before .before .before .measure .kept .1 .1 .1 .0)
+
+same-length : tie.Need-same-length
+same-length c = search needs
+
+same-length-2 : tie.Need-same-length-2
+same-length-2 c = search needs
+
+same-length-3 : tie.Need-same-length-3
+same-length-3 c = search needs
+
+returns : tie.Need-returns
+returns c =
+    let s = c .before .before .before .before .before .before .before .before .before .before .before .before .before .before .before .before .before .before .before .before .before .before in
+    wrote-refused (s .args .n) (s .args .rule) (now (s .args .file)) (s .pre .0 .range) (coordinates-read (s .args .n) (now (s .args .file)) (s .pre .0 .whole) (s .pre .1 .located) (c .before .before .before .before .before .before .before .before .before .before .before .before .before .before .decode32 .ensures)) (c .before .before .before .before .before .before .before .before .before .before .before .before .before .before .decode32 .kept .1 .0 ∙ s .pre .1 .located) (s .pre .1 .measured) (c .before .before .before .before .before .before .before .before .before .measure .ensures) (c .before .before .before .before .before .number .given .1) (c .before .before .put-refusal .ensures)
+
+same-length-4 : tie.Need-same-length-4
+same-length-4 c = search needs
+
+same-length-5 : tie.Need-same-length-5
+same-length-5 c = search needs
+
+same-length-6 : tie.Need-same-length-6
+same-length-6 c = search needs
+
+same-length-7 : tie.Need-same-length-7
+same-length-7 c = search needs
+
+returns-2 : tie.Need-returns-2
+returns-2 c =
+    let s = c .before .before .before .before .before .before .before .before .before .before .before .before .before .before .before .before .before .before .before .before .before .before .before .before .before .before in
+    wrote-done (s .args .n) (s .args .rule) (now (s .args .file)) (s .pre .0 .range) (coordinates-read (s .args .n) (now (s .args .file)) (s .pre .0 .whole) (s .pre .1 .located) (c .before .before .before .before .before .before .before .before .before .before .before .before .before .before .before .before .before .before .decode32 .ensures)) (c .before .before .before .before .before .before .before .before .before .before .before .before .before .before .before .before .before .before .decode32 .kept .1 .0 ∙ s .pre .1 .located) (s .pre .1 .measured) (c .before .before .before .before .before .before .before .before .before .before .before .before .before .measure .ensures) (c .before .before .before .before .before .before .before .before .before .enum-told .given .1) (c .before .before .before .before .mark-records .ensures)
+
+pub measure-file-spec : {M : Type 1} → statement M
+measure-file-spec =
+    tie.close
+    (tie.spec
+    mul-body
+    add-body
+    sub-decode32
+    part-decode32-start
+    part-decode32-end
+    decode32-requires
+    measure-requires
+    enum-known-number
+    put-refusal-requires
+    enum-told
+    sub-mark-records
+    part-mark-records-start
+    part-mark-records-end
+    mark-records-requires
+    same-length
+    same-length-2
+    same-length-3
+    returns
+    same-length-4
+    same-length-5
+    same-length-6
+    same-length-7
+    returns-2)

@@ -1,0 +1,24 @@
+-- `report::text::put_field` meets its contract: a word, then a number. Assumes nothing.
+use Rattle.report.specs.Text.{field}
+use Rattle.report.proofs.Writing.{room-first, room-second, wrote-both}
+use borrow.Author.Needs.{needs}
+use Rattle.report.proofs.text.put_field.Statement.{statement}
+use Rattle.report.proofs.text.put_field.Tie as tie
+
+put-word-requires : tie.Need-put-word-requires
+unfolding field
+put-word-requires c κs = room-first _ (c .before .before .before .pre)
+
+put-number-requires : tie.Need-put-number-requires
+unfolding field
+put-number-requires c κs = room-second (c .before .before .before .before .before .before .before .pre) (c .before .before .before .put-word .ensures)
+
+same-length : tie.Need-same-length
+same-length c = search needs
+
+returns : tie.Need-returns
+unfolding field
+returns c = wrote-both (c .before .before .before .before .before .before .put-word .ensures) (c .before .before .put-number .ensures)
+
+pub put-field-spec : {M : Type 1} → statement M
+put-field-spec = tie.close (tie.spec put-word-requires put-number-requires same-length returns)

@@ -1,0 +1,41 @@
+-- The program's input (01, "Layers and program"): rule and n, 2n coordinates, then records to the end; and the tests of the file.
+use Prim.Native.Nat.{ℕ, _+_, _*_, _≤_}
+use mathlib.Core.List.{List}
+use lib.Dec.{leb}
+use lib.ListN.{length, take, drop, getD}
+use Rattle.lengths.specs.Instance.{inRange}
+use Rattle.lengths.specs.Test.{unless}
+use Rattle.marking.specs.Bytes.{numbers32, whole16}
+use Rattle.report.specs.declared.header.Header.{Header}
+use Rattle.report.specs.declared.header.Header.the-variants.{Read, Refused}
+
+-- the 32-bit number whose four bytes, "all little-endian", begin at a place
+unfoldable pub number32 : List ℕ → ℕ → ℕ
+number32 file at = getD file at 0 + 256 * getD file (at + 1) 0 + 65536 * getD file (at + 2) 0 + 16777216 * getD file (at + 3) 0
+
+unfoldable pub ruleIn : List ℕ → ℕ
+ruleIn file = number32 file 0
+
+unfoldable pub pointsIn : List ℕ → ℕ
+pointsIn file = number32 file 4
+
+-- the 2n coordinates of 32 bits each
+unfoldable pub coordinatesIn : ℕ → List ℕ → List ℕ
+coordinatesIn n file = numbers32 (take (8 * n) (drop 8 file))
+
+-- what follows them to the end, as numbers of 16 bits: none where it is no whole number of them
+unfoldable pub recordsIn : ℕ → List ℕ → List ℕ
+recordsIn n file = whole16 (drop (8 + 8 * n) file)
+
+-- "A file under 8 bytes gets 7. Once n has passed test 1, a file that ends inside the coordinates or is longer than 65,448 bytes gets 7"
+unfoldable pub headerOf : List ℕ → Header
+headerOf file =
+    unless (leb 8 (length file)) (Refused 7)
+    (unless (inRange (pointsIn file)) (Refused 1)
+    (unless (leb (8 + 8 * pointsIn file) (length file)) (Refused 7)
+    (unless (leb (length file) 65448) (Refused 7)
+    (Read (ruleIn file) (pointsIn file)))))
+
+-- what `number32` asks
+pub record Four (file : List ℕ) (at : ℕ) : Type 0 where
+  pub inside : at + 4 ≤ length file

@@ -1,0 +1,67 @@
+-- The program's lines (01, "Layers and program").
+use Prim.Native.Nat.{ℕ, _≤_}
+use mathlib.Core.Path.{_≡_}
+use mathlib.Core.Bool.{true, false}
+use mathlib.Core.List.{List, [], _∷_, _++_}
+use lib.Dec.{eqb}
+use lib.ListN.{length}
+use Rattle.lengths.specs.Edge.{Edge, edge, edges, edgeCount}
+use Rattle.rules.specs.EdgeSet.{count}
+use Rattle.report.specs.Text.{field, pointsWord, edgesWord, struckWord, space, verdictWord, recordWord, openWord, lineEnd, Room}
+
+-- "Line one: n and the edge count"
+unfoldable pub pointsLine : ℕ → List ℕ
+pointsLine n = field pointsWord n ++ field edgesWord (edgeCount n) ++ lineEnd
+
+-- a strike, "lower point first"
+unfoldable pub struckLine : ℕ → ℕ → List ℕ
+struckLine a b = field struckWord a ++ field space b ++ lineEnd
+
+-- the line of an edge with this mark: none if it is open
+unfoldable pub markLine : ℕ → ℕ → ℕ → List ℕ
+markLine mark a b = elim (eqb mark 0) [ true ↦ struckLine a b | false ↦ [] ]
+
+-- the lines of edges with their marks
+unfoldable pub markLines : List Edge → List ℕ → List ℕ
+markLines [] marks = []
+markLines (e ∷ es) [] = []
+markLines (edge a b ∷ es) (mark ∷ marks) = markLine mark a b ++ markLines es marks
+
+-- "One line an accepted strike, .. in edge order"
+unfoldable pub struckLines : ℕ → List ℕ → List ℕ
+struckLines n marks = markLines (edges n) marks
+
+-- "Last: refusal number or 0, its record or 0, edges open"
+unfoldable pub verdictLine : ℕ → ℕ → ℕ → List ℕ
+verdictLine number rec opens = field verdictWord number ++ field recordWord rec ++ field openWord opens ++ lineEnd
+
+-- "only the last line appears, with open 0"
+unfoldable pub lastLine : ℕ → List ℕ
+lastLine number = verdictLine number 0 0
+
+-- "all lines appear"; an edge is open if its mark is 1
+unfoldable pub allLines : ℕ → ℕ → ℕ → List ℕ → List ℕ
+allLines n number rec marks = pointsLine n ++ struckLines n marks ++ verdictLine number rec (count 1 marks)
+
+-- the room that every text of the program fits
+abbrev pub Large : List ℕ → Type 0
+Large out = 262144 ≤ length out
+
+-- what the lines of the strikes ask: a mark for each edge, and room
+pub record StrikesAsked (n : ℕ) (marks out : List ℕ) (at : ℕ) : Type 0 where
+  pub some : 2 ≤ n
+  pub few : n ≤ 180
+  pub marked : length marks ≡ edgeCount n
+  pub room : Room out at (struckLines n marks)
+
+-- what all lines ask
+pub record LinesAsked (n : ℕ) (marks out : List ℕ) : Type 0 where
+  pub some : 2 ≤ n
+  pub few : n ≤ 180
+  pub marked : length marks ≡ edgeCount n
+  pub large : Large out
+
+-- so many marks are 1, and no more than there are
+pub record OpenIs (marks : List ℕ) (r : ℕ) : Type 0 where
+  pub counted : r ≡ count 1 marks
+  pub few : r ≤ length marks

@@ -1,0 +1,108 @@
+// The program's lines, each into a buffer at a place; each answers the next place.
+use crate::text::put_field;
+use crate::text::put_word;
+use lengths::edge;
+ghost use Prim.Native.Nat.{_≤_};
+ghost use lib.ListN.{length};
+ghost use Rattle.report.specs.Text.{Room, Wrote};
+ghost use Rattle.report.specs.Lines.{pointsLine, struckLine, markLine, struckLines, verdictLine, lastLine, allLines, Large, StrikesAsked, LinesAsked, OpenIs};
+
+// Line one: n and the edge count.
+fn put_points(n: u16, out: &mut [u8], at: usize) -> usize
+    requires { ⌜ (n ≤ 180) × Room (now out) at (pointsLine n) ⌝ }
+    ensures { λ r. ⌜ Wrote (now (out .entry)) at (pointsLine n) r (now (out .exit)) ⌝ }
+{
+    let edges = edge::count(n) as u16;
+    let mut next = put_field(b"points ", n, out, at);
+    next = put_field(b" edges ", edges, out, next);
+    put_word(b"\n", out, next)
+}
+
+// The line of a strike, whose lower point is a.
+fn put_struck(a: u16, b: u16, out: &mut [u8], at: usize) -> usize
+    requires { ⌜ Room (now out) at (struckLine a b) ⌝ }
+    ensures { λ r. ⌜ Wrote (now (out .entry)) at (struckLine a b) r (now (out .exit)) ⌝ }
+{
+    let mut next = put_field(b"struck ", a, out, at);
+    next = put_field(b" ", b, out, next);
+    put_word(b"\n", out, next)
+}
+
+// The line of the edge ab with this mark: none if it is open.
+fn put_mark(mark: u8, a: u16, b: u16, out: &mut [u8], at: usize) -> usize
+    requires { ⌜ Room (now out) at (markLine mark a b) ⌝ }
+    ensures { λ r. ⌜ Wrote (now (out .entry)) at (markLine mark a b) r (now (out .exit)) ⌝ }
+{
+    if mark == 0 {
+        return put_struck(a, b, out, at);
+    }
+    at
+}
+
+// The lines of the strikes, in edge order.
+fn put_strikes(n: u16, marks: &[u8], out: &mut [u8], at: usize) -> usize
+    requires { ⌜ StrikesAsked n (now marks) (now out) at ⌝ }
+    ensures { λ r. ⌜ Wrote (now (out .entry)) at (struckLines n (now (marks .entry))) r (now (out .exit)) ⌝ }
+{
+    let mut a: u16 = 1;
+    let mut b: u16 = 2;
+    let mut i = 0;
+    let mut next = at;
+    while i < marks.len() {
+        next = put_mark(marks[i], a, b, out, next);
+        i += 1;
+        if b < n {
+            b += 1;
+        } else {
+            a += 1;
+            b = a + 1;
+        }
+    }
+    next
+}
+
+// How many edges are open.
+fn open_edges(marks: &[u8]) -> u16
+    requires { ⌜ length (now marks) ≤ 16110 ⌝ }
+    ensures { λ r. ⌜ OpenIs (now (marks .entry)) r ⌝ }
+{
+    let mut opens: u16 = 0;
+    let mut i = 0;
+    while i < marks.len() {
+        if marks[i] == 1 {
+            opens += 1;
+        }
+        i += 1;
+    }
+    opens
+}
+
+// The last line: refusal number or 0, its record or 0, edges open.
+fn put_verdict(number: u8, rec: u16, opens: u16, out: &mut [u8], at: usize) -> usize
+    requires { ⌜ Room (now out) at (verdictLine number rec opens) ⌝ }
+    ensures { λ r. ⌜ Wrote (now (out .entry)) at (verdictLine number rec opens) r (now (out .exit)) ⌝ }
+{
+    let mut next = put_field(b"verdict ", number as u16, out, at);
+    next = put_field(b" record ", rec, out, next);
+    next = put_field(b" open ", opens, out, next);
+    put_word(b"\n", out, next)
+}
+
+// Only the last line, with open 0.
+pub fn put_refusal(number: u8, out: &mut [u8]) -> usize
+    requires { ⌜ Large (now out) ⌝ }
+    ensures { λ r. ⌜ Wrote (now (out .entry)) 0 (lastLine number) r (now (out .exit)) ⌝ }
+{
+    put_verdict(number, 0, 0, out, 0)
+}
+
+// All lines.
+pub fn put_all(n: u16, number: u8, rec: u16, marks: &[u8], out: &mut [u8]) -> usize
+    requires { ⌜ LinesAsked n (now marks) (now out) ⌝ }
+    ensures { λ r. ⌜ Wrote (now (out .entry)) 0 (allLines n number rec (now (marks .entry))) r (now (out .exit)) ⌝ }
+{
+    let opens = open_edges(marks);
+    let mut next = put_points(n, out, 0);
+    next = put_strikes(n, marks, out, next);
+    put_verdict(number, rec, opens, out, next)
+}

@@ -1,0 +1,105 @@
+// The whole text for an input: the file's tests, measuring, marking, and the lines.
+use crate::header::Header;
+use crate::lines::put_all;
+use crate::lines::put_refusal;
+use lengths::edge;
+use lengths::measure::Measured;
+use lengths::measure::measure;
+use marking::bytes::decode16;
+use marking::bytes::decode32;
+use marking::fresh::fresh_marks;
+use marking::mark::mark_sheet;
+use marking::sheet::Sheet;
+use marking::verdict::Verdict;
+ghost use Rattle.marking.specs.Bytes.{whole16};
+ghost use Rattle.marking.specs.Fresh.{freshMarks};
+ghost use Rattle.marking.specs.Marking.{markSheet, verdictOf};
+ghost use Rattle.report.specs.Input.{coordinatesIn, recordsIn};
+ghost use Rattle.report.specs.Text.{Wrote};
+ghost use Rattle.report.specs.Lines.{LinesAsked};
+ghost use Rattle.report.specs.Output.{linesFor, markedText, measuredText, MarkingAsked, InstanceAsked, Places, Reported};
+
+// Room for the coordinates and the edges of 180 points.
+const COORDINATES: usize = 360;
+
+const EDGES: usize = 16_110;
+
+// Room for every text: 16,110 lines of at most 15 bytes, and two more.
+pub const TEXT: usize = 262_144;
+
+// All lines for a verdict: its number and record, or 0 and 0.
+fn put_marked(n: u16, verdict: Verdict, marks: &[u8], out: &mut [u8]) -> usize
+    requires { ⌜ LinesAsked n (now marks) (now out) ⌝ }
+    ensures { λ r. ⌜ Wrote (now (out .entry)) 0 (linesFor n (verdictOf verdict) (now (marks .entry))) r (now (out .exit)) ⌝ }
+{
+    match verdict {
+        Verdict::Accepted => put_all(n, 0, 0, marks, out),
+        Verdict::Refused { refusal, record } => put_all(n, refusal, record, marks, out),
+    }
+}
+
+// The text of the records: marks them from fresh marks on, and writes all lines.
+fn mark_records(n: u16, table: &[u32], records: &[u8], marks: &mut [u8], out: &mut [u8]) -> usize
+    requires { ⌜ MarkingAsked n (now table) (now marks) (now out) ⌝ }
+    ensures { λ r. ⌜ Wrote (now (out .entry)) 0 (markedText n (markSheet n (now (table .entry)) (freshMarks n) (whole16 (now (records .entry))))) r (now (out .exit)) ⌝ }
+{
+    fresh_marks(n as u32, marks);
+    let mut sheet = [0u16; Sheet::MOST_RECORDS * Sheet::RECORD_SIZE];
+    let size = decode16(records, &mut sheet);
+    let marked = mark_sheet(n as u32, table, marks, &sheet[..size]);
+    let verdict = marked.verdict;
+    put_marked(n, verdict, marks, out)
+}
+
+// The text of an instance whose header was read: measures it, and goes on with its records.
+fn measure_file(
+    rule: u32,
+    n: u16,
+    file: &[u8],
+    coordinates: &mut [u32],
+    table: &mut [u32],
+    marks: &mut [u8],
+    out: &mut [u8],
+) -> usize
+    requires { ⌜ InstanceAsked n (now file) (now out) ⌝ }
+    requires { ⌜ Places n (now coordinates) (now table) (now marks) ⌝ }
+    ensures { λ r. ⌜ Wrote (now (out .entry)) 0 (measuredText rule n (coordinatesIn n (now (file .entry))) (recordsIn n (now (file .entry)))) r (now (out .exit)) ⌝ }
+{
+    let body = Header::BYTES + Header::POINT_BYTES * (n as usize);
+    decode32(&file[Header::BYTES..body], coordinates);
+    match measure(n as u32, rule, coordinates, table) {
+        Measured::Refused(number) => put_refusal(number, out),
+        Measured::Done => mark_records(n, table, &file[body..], marks, out),
+    }
+}
+
+// The same, with places for its coordinates, lengths and marks.
+fn report_instance(rule: u32, n: u16, file: &[u8], out: &mut [u8]) -> usize
+    requires { ⌜ InstanceAsked n (now file) (now out) ⌝ }
+    ensures { λ r. ⌜ Wrote (now (out .entry)) 0 (measuredText rule n (coordinatesIn n (now (file .entry))) (recordsIn n (now (file .entry)))) r (now (out .exit)) ⌝ }
+{
+    let mut coordinates = [0u32; COORDINATES];
+    let mut table = [0u32; EDGES];
+    let mut marks = [0u8; EDGES];
+    let numbers = 2 * (n as usize);
+    let edges = edge::count(n);
+    measure_file(
+        rule,
+        n,
+        file,
+        &mut coordinates[..numbers],
+        &mut table[..edges],
+        &mut marks[..edges],
+        out,
+    )
+}
+
+// Writes the text for the bytes of an input, and answers how long it is.
+pub fn report(file: &[u8], out: &mut [u8; TEXT]) -> usize
+    ensures { λ r. ⌜ Reported (now (file .entry)) r (now (out .exit)) ⌝ }
+{
+    match Header::read(file) {
+        Header::Refused(number) => put_refusal(number, out),
+        Header::Read { rule, points } => report_instance(rule, points, file, out),
+    }
+}
