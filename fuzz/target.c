@@ -1,0 +1,117 @@
+/*
+ * The fuzzing target over the two functions for C. An input is a file of the program `mark`: rule, n, coordinates, records.
+ *
+ * Every buffer ends at a page that must not be touched, so a read or write past its end is a crash. The archive carries no
+ * instrumentation; instead what a call answers (refusal, record, lines, strikes) is written into AFL's map, so that inputs with a new
+ * outcome are kept and go on from there. A broken promise aborts.
+ */
+#include <stdio.h>
+#include <stdlib.h>
+#include <string.h>
+#include <sys/mman.h>
+#include <unistd.h>
+
+#include "revosti.h"
+
+void __afl_coverage_interesting(unsigned char value, unsigned int id);
+__AFL_FUZZ_INIT()
+
+enum { PAGE = 4096, MOST = 1 << 17, MOST_EDGES = 16110 };
+
+/* A buffer whose last byte stands in front of a page that cannot be touched. */
+static uint8_t *guarded(void)
+{
+    uint8_t *at = mmap(NULL, MOST + PAGE, PROT_READ | PROT_WRITE, MAP_PRIVATE | MAP_ANONYMOUS, -1, 0);
+    if (at == MAP_FAILED || mprotect(at + MOST, PAGE, PROT_NONE) != 0) _exit(2);
+    return at + MOST;
+}
+
+static uint8_t *table_end, *marks_end, *sheet_end, *tour_end;
+
+static uint32_t get32(const uint8_t *at) { return at[0] | (uint32_t)at[1] << 8 | (uint32_t)at[2] << 16 | (uint32_t)at[3] << 24; }
+
+static void promise(int kept, const char *what)
+{
+    if (kept) return;
+    fprintf(stderr, "broken: %s\n", what);
+    abort();
+}
+
+/* What was seen, hashed into AFL's map. */
+static void seen(unsigned kind, unsigned a, unsigned b)
+{
+    uint32_t hash = kind * 0x9e3779b1u ^ a * 0x85ebca77u ^ b * 0xc2b2ae3du;
+    __afl_coverage_interesting(1, (hash ^ hash >> 15) & 0x7fff);
+}
+
+/* Any length will do here: the distance's bits, so that ties and broken triangles occur. */
+static uint32_t length(const uint8_t *coordinates, uint32_t a, uint32_t b)
+{
+    uint64_t x = (uint64_t)get32(coordinates + 8 * (a - 1)) + get32(coordinates + 8 * (b - 1));
+    uint64_t y = (uint64_t)get32(coordinates + 8 * (a - 1) + 4) ^ get32(coordinates + 8 * (b - 1) + 4);
+    return (uint32_t)((x * 31 + y * 17) % 2000003);
+}
+
+static unsigned struck(const uint8_t *marks, size_t edges)
+{
+    unsigned count = 0;
+    for (size_t i = 0; i < edges; i++) count += marks[i] == REVOSTI_STRUCK;
+    return count;
+}
+
+static void try_tour(uint32_t n, const uint8_t *table, size_t table_len, const uint8_t *marks, size_t edges)
+{
+    uint8_t *tour = tour_end - 2 * n;
+    for (uint32_t i = 0; i < n; i++) tour[2 * i] = (uint8_t)(i + 1), tour[2 * i + 1] = 0;
+    uint64_t answer = revosti_check_tour(n, table, table_len, marks, edges, tour, 2 * n);
+    promise(revosti_refusal(answer) != REVOSTI_TOUR, "1, 2, .., n is a tour");
+    seen(3, revosti_refusal(answer), (unsigned)revosti_tour_open(answer));
+    tour[0] = tour[2];
+    answer = revosti_check_tour(n, table, table_len, marks, edges, tour, 2 * n);
+    promise(answer != 0 && answer <= REVOSTI_TOUR, "a point twice is no tour");
+}
+
+static void run(const uint8_t *file, size_t size)
+{
+    if (size < 8) return;
+    uint32_t rule = get32(file), n = get32(file + 4);
+    size_t points = n <= 200 ? n : 200;
+    if (size < 8 + 8 * points) return;
+    const uint8_t *coordinates = file + 8;
+    size_t edges = points < 2 ? 0 : points * (points - 1) / 2, sheet_len = size - 8 - 8 * points;
+    if (sheet_len > MOST) return;
+    uint8_t *table = table_end - 4 * edges, *marks = marks_end - edges, *sheet = sheet_end - sheet_len;
+    for (uint32_t a = 1; a <= points; a++)
+        for (uint32_t b = a + 1; b <= points; b++) {
+            uint32_t l = length(coordinates, a, b);
+            uint8_t *at = table + 4 * revosti_place((uint32_t)points, a, b);
+            at[0] = (uint8_t)l, at[1] = (uint8_t)(l >> 8), at[2] = (uint8_t)(l >> 16), at[3] = (uint8_t)(l >> 24);
+        }
+    memset(marks, REVOSTI_OPEN, edges);
+    memcpy(sheet, file + size - sheet_len, sheet_len);
+    if (rule % 5 == 4 && edges) marks[rule % edges] = (uint8_t)(rule >> 8);
+
+    static uint8_t before[MOST_EDGES * 2];
+    memcpy(before, marks, edges);
+    size_t table_len = 4 * edges - (rule % 7 == 6 && edges ? rule >> 4 & 3 : 0);
+    uint64_t answer = revosti_mark_sheet(n, table + (4 * edges - table_len), table_len, marks, edges, sheet, sheet_len);
+    unsigned refusal = revosti_refusal(answer), record = revosti_record(answer), lines = revosti_lines(answer);
+    promise(refusal <= REVOSTI_NO_SAVING && answer >> 40 == 0, "the answer's parts");
+    promise(record * 16u <= sheet_len, "the record is one of the sheet");
+    promise((record == 0) == (refusal < REVOSTI_INDEX_ABOVE), "a record is named exactly by 8 to 16");
+    promise(lines == struck(marks, edges) - struck(before, edges), "lines accepted are marks changed");
+    if (refusal != 0 && refusal <= REVOSTI_SHEET) promise(memcmp(before, marks, edges) == 0, "a refused call changes no mark");
+    for (size_t i = 0; i < edges; i++) promise(marks[i] == before[i] || (before[i] == 1 && marks[i] == 0), "marks only go from open to struck");
+    seen(1, refusal, record < 40 ? record : 40 + record / 64);
+    seen(2, lines < 60 ? lines : 60, refusal);
+    if (n == points && n >= 2) try_tour(n, table, 4 * edges, marks, edges);
+}
+
+int main(void)
+{
+    table_end = guarded(), marks_end = guarded(), sheet_end = guarded(), tour_end = guarded();
+    __AFL_INIT();
+    unsigned char *file = __AFL_FUZZ_TESTCASE_BUF;
+    while (__AFL_LOOP(10000)) run(file, (size_t)__AFL_FUZZ_TESTCASE_LEN);
+    return 0;
+}
