@@ -17,18 +17,32 @@ put-points-requires c κs = let s = c .before .before .before .before in (s .pre
 
 put-strikes-requires : tie.Need-put-strikes-requires
 unfolding allLines
-put-strikes-requires c κs = let s = c .before .before .before .before .before .before .before .before in strikes-asked (s .pre) (room-2 _ (all-room (s .pre) (s .fits .number .fits) (s .fits .rec .fits)) (c .before .before .before .put-points .ensures))
+put-strikes-requires c κs =
+    let p = c .before .before .before in
+    let s = p .before .before .before .before .before in
+    strikes-asked (s .pre) (room-2 _ (all-room (s .pre) (s .fits .number .fits) (s .fits .rec .fits)) (p .put-points .ensures))
 
 put-verdict-requires : tie.Need-put-verdict-requires
 unfolding allLines
-put-verdict-requires c κs = let s = c .before .before .before .before .before .before .before .before .before .before .before .before in verdict-room (s .args .number) (s .args .rec) (now (s .args .marks)) (c .before .before .before .before .before .before .before .before .before .open-edges .ensures .counted) (room-3 (all-room (s .pre) (s .fits .number .fits) (s .fits .rec .fits)) (c .before .before .before .before .before .before .before .put-points .ensures) (c .before .before .before .put-strikes .ensures))
+put-verdict-requires c κs =
+    let t = c .before .before .before in
+    let p = t .before .before .before .before in
+    let o = p .before .before in
+    let s = o .before .before .before in
+    verdict-room (s .args .number) (s .args .rec) (now (s .args .marks)) (o .open-edges .ensures .counted) (room-3 (all-room (s .pre) (s .fits .number .fits) (s .fits .rec .fits)) (p .put-points .ensures) (t .put-strikes .ensures))
 
 same-length : tie.Need-same-length
 same-length c = search needs
 
 returns : tie.Need-returns
 unfolding allLines
-returns c = let s = c .before .before .before .before .before .before .before .before .before .before .before .before .before .before .before in wrote-three (c .before .before .before .before .before .before .before .before .before .before .put-points .ensures) (c .before .before .before .before .before .before .put-strikes .ensures) (verdict-wrote (s .args .number) (s .args .rec) (now (s .args .marks)) (c .before .before .before .before .before .before .before .before .before .before .before .before .open-edges .ensures .counted) (c .before .before .put-verdict .ensures))
+returns c =
+    let v = c .before .before in
+    let t = v .before .before .before .before in
+    let p = t .before .before .before .before in
+    let o = p .before .before in
+    let s = o .before .before .before in
+    wrote-three (p .put-points .ensures) (t .put-strikes .ensures) (verdict-wrote (s .args .number) (s .args .rec) (now (s .args .marks)) (o .open-edges .ensures .counted) (v .put-verdict .ensures))
 
 pub put-all-spec : {M : Type 1} → statement M
 put-all-spec =

@@ -26,21 +26,32 @@ slice-aggregate-put-field-2 c = search needs
 
 put-field-requires-2 : tie.Need-put-field-requires-2
 unfolding pointsLine
-put-field-requires-2 c κs = field-room edgesWord (c .before .before .before .before .before .before .before .count .ensures) (room-2 _ (c .before .before .before .before .before .before .before .before .before .pre .1) (c .before .before .before .before .put-field .ensures))
+put-field-requires-2 c κs =
+    let f = c .before .before .before .before in
+    let k = f .before .before .before in
+    field-room edgesWord (k .count .ensures) (room-2 _ (k .before .before .pre .1) (f .put-field .ensures))
 
 slice-aggregate-put-word : tie.Need-slice-aggregate-put-word
 slice-aggregate-put-word c = search needs
 
 put-word-requires : tie.Need-put-word-requires
 unfolding pointsLine
-put-word-requires c κs = room-3 (c .before .before .before .before .before .before .before .before .before .before .before .before .before .before .pre .1) (c .before .before .before .before .before .before .before .before .before .put-field .ensures) (field-wrote edgesWord (c .before .before .before .before .before .before .before .before .before .before .before .before .count .ensures) (c .before .before .before .before .put-field2 .ensures))
+put-word-requires c κs =
+    let g = c .before .before .before .before in
+    let f = g .before .before .before .before .before in
+    let k = f .before .before .before in
+    room-3 (k .before .before .pre .1) (f .put-field .ensures) (field-wrote edgesWord (k .count .ensures) (g .put-field2 .ensures))
 
 same-length : tie.Need-same-length
 same-length c = search needs
 
 returns : tie.Need-returns
 unfolding pointsLine
-returns c = wrote-three (c .before .before .before .before .before .before .before .before .before .before .before .before .put-field .ensures) (field-wrote edgesWord (c .before .before .before .before .before .before .before .before .before .before .before .before .before .before .before .count .ensures) (c .before .before .before .before .before .before .before .put-field2 .ensures)) (c .before .before .put-word .ensures)
+returns c =
+    let w = c .before .before in
+    let g = w .before .before .before .before .before in
+    let f = g .before .before .before .before .before in
+    wrote-three (f .put-field .ensures) (field-wrote edgesWord (f .before .before .before .count .ensures) (g .put-field2 .ensures)) (w .put-word .ensures)
 
 pub put-points-spec : {M : Type 1} → statement M
 put-points-spec =

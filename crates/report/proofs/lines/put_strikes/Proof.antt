@@ -26,25 +26,37 @@ add-i : tie.Need-add-i Inv-loop μ-loop
 add-i c = search needs
 
 add-b : tie.Need-add-b Inv-loop μ-loop
-add-b c = record { fits = omega (arith, row-small (c .before .before .before .before .before .before .before .before .before .before .pre) (c .before .before .before .before .before .before .before .loop .inv) (c .before .before .before .before .before .before .loop-test .taken)) }
+add-b c =
+    let k = c .before .before .before .before .before .before in
+    record { fits = omega (arith, row-small (k .before .before .before .before .pre) (k .before .loop .inv) (k .loop-test .taken)) }
 
 loop-less : tie.Need-loop-less Inv-loop μ-loop
 loop-less c = search needs
 
 loop-again : tie.Need-loop-again Inv-loop μ-loop
-loop-again c = along (c .before .before .before .before .before .before .before .before .before .before .pre) (c .before .before .before .before .before .before .before .loop .inv) (c .before .before .before .before .before .before .loop-test .taken) (c .before .before .before .put-mark .ensures) (c .if1 .taken)
+loop-again c =
+    let p = c .before .before .before in
+    let k = p .before .before .before in
+    along (k .before .before .before .before .pre) (k .before .loop .inv) (k .loop-test .taken) (p .put-mark .ensures) (c .if1 .taken)
 
 add-a : tie.Need-add-a Inv-loop μ-loop
-add-a c = record { fits = omega (arith, row-small (c .before .before .before .before .before .before .before .before .before .before .pre) (c .before .before .before .before .before .before .before .loop .inv) (c .before .before .before .before .before .before .loop-test .taken)) }
+add-a c =
+    let k = c .before .before .before .before .before .before in
+    record { fits = omega (arith, row-small (k .before .before .before .before .pre) (k .before .loop .inv) (k .loop-test .taken)) }
 
 add-b-2 : tie.Need-add-b-2 Inv-loop μ-loop
-add-b-2 c = record { fits = omega (arith, row-small (c .before .before .before .before .before .before .before .before .before .before .pre) (c .before .before .before .before .before .before .before .loop .inv) (c .before .before .before .before .before .before .loop-test .taken)) }
+add-b-2 c =
+    let k = c .before .before .before .before .before .before in
+    record { fits = omega (arith, row-small (k .before .before .before .before .pre) (k .before .loop .inv) (k .loop-test .taken)) }
 
 loop-less-2 : tie.Need-loop-less-2 Inv-loop μ-loop
 loop-less-2 c = search needs
 
 loop-again-2 : tie.Need-loop-again-2 Inv-loop μ-loop
-loop-again-2 c = down (c .before .before .before .before .before .before .before .before .before .before .pre) (c .before .before .before .before .before .before .before .loop .inv) (c .before .before .before .before .before .before .loop-test .taken) (c .before .before .before .put-mark .ensures) (c .if1 .left)
+loop-again-2 c =
+    let p = c .before .before .before in
+    let k = p .before .before .before in
+    down (k .before .before .before .before .pre) (k .before .loop .inv) (k .loop-test .taken) (p .put-mark .ensures) (c .if1 .left)
 
 same-length : tie.Need-same-length Inv-loop μ-loop
 same-length c = c .before .loop .inv .kept

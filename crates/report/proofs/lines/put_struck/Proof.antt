@@ -17,21 +17,30 @@ slice-aggregate-put-field-2 c = search needs
 
 put-field-requires-2 : tie.Need-put-field-requires-2
 unfolding struckLine
-put-field-requires-2 c κs = room-2 _ (c .before .before .before .before .before .before .before .before .pre) (c .before .before .before .before .put-field .ensures)
+put-field-requires-2 c κs =
+    let f = c .before .before .before .before in
+    room-2 _ (f .before .before .before .before .pre) (f .put-field .ensures)
 
 slice-aggregate-put-word : tie.Need-slice-aggregate-put-word
 slice-aggregate-put-word c = search needs
 
 put-word-requires : tie.Need-put-word-requires
 unfolding struckLine
-put-word-requires c κs = room-3 (c .before .before .before .before .before .before .before .before .before .before .before .before .before .pre) (c .before .before .before .before .before .before .before .before .before .put-field .ensures) (c .before .before .before .before .put-field2 .ensures)
+put-word-requires c κs =
+    let g = c .before .before .before .before in
+    let f = g .before .before .before .before .before in
+    room-3 (f .before .before .before .before .pre) (f .put-field .ensures) (g .put-field2 .ensures)
 
 same-length : tie.Need-same-length
 same-length c = search needs
 
 returns : tie.Need-returns
 unfolding struckLine
-returns c = wrote-three (c .before .before .before .before .before .before .before .before .before .before .before .before .put-field .ensures) (c .before .before .before .before .before .before .before .put-field2 .ensures) (c .before .before .put-word .ensures)
+returns c =
+    let w = c .before .before in
+    let g = w .before .before .before .before .before in
+    let f = g .before .before .before .before .before in
+    wrote-three (f .put-field .ensures) (g .put-field2 .ensures) (w .put-word .ensures)
 
 pub put-struck-spec : {M : Type 1} → statement M
 put-struck-spec =

@@ -17,28 +17,42 @@ slice-aggregate-put-field-2 c = search needs
 
 put-field-requires-2 : tie.Need-put-field-requires-2
 unfolding verdictLine
-put-field-requires-2 c κs = room-2 _ (room-first _ (c .before .before .before .before .before .before .before .before .pre)) (c .before .before .before .before .put-field .ensures)
+put-field-requires-2 c κs =
+    let f = c .before .before .before .before in
+    room-2 _ (room-first _ (f .before .before .before .before .pre)) (f .put-field .ensures)
 
 slice-aggregate-put-field-3 : tie.Need-slice-aggregate-put-field-3
 slice-aggregate-put-field-3 c = search needs
 
 put-field-requires-3 : tie.Need-put-field-requires-3
 unfolding verdictLine
-put-field-requires-3 c κs = room-3 (room-first _ (c .before .before .before .before .before .before .before .before .before .before .before .before .before .pre)) (c .before .before .before .before .before .before .before .before .before .put-field .ensures) (c .before .before .before .before .put-field2 .ensures)
+put-field-requires-3 c κs =
+    let g = c .before .before .before .before in
+    let f = g .before .before .before .before .before in
+    room-3 (room-first _ (f .before .before .before .before .pre)) (f .put-field .ensures) (g .put-field2 .ensures)
 
 slice-aggregate-put-word : tie.Need-slice-aggregate-put-word
 slice-aggregate-put-word c = search needs
 
 put-word-requires : tie.Need-put-word-requires
 unfolding verdictLine
-put-word-requires c κs = room-second (c .before .before .before .before .before .before .before .before .before .before .before .before .before .before .before .before .before .before .pre) (wrote-three (c .before .before .before .before .before .before .before .before .before .before .before .before .before .before .put-field .ensures) (c .before .before .before .before .before .before .before .before .before .put-field2 .ensures) (c .before .before .before .before .put-field3 .ensures))
+put-word-requires c κs =
+    let h = c .before .before .before .before in
+    let g = h .before .before .before .before .before in
+    let f = g .before .before .before .before .before in
+    room-second (f .before .before .before .before .pre) (wrote-three (f .put-field .ensures) (g .put-field2 .ensures) (h .put-field3 .ensures))
 
 same-length : tie.Need-same-length
 same-length c = search needs
 
 returns : tie.Need-returns
 unfolding verdictLine
-returns c = wrote-both (wrote-three (c .before .before .before .before .before .before .before .before .before .before .before .before .before .before .before .before .before .put-field .ensures) (c .before .before .before .before .before .before .before .before .before .before .before .before .put-field2 .ensures) (c .before .before .before .before .before .before .before .put-field3 .ensures)) (c .before .before .put-word .ensures)
+returns c =
+    let w = c .before .before in
+    let h = w .before .before .before .before .before in
+    let g = h .before .before .before .before .before in
+    let f = g .before .before .before .before .before in
+    wrote-both (wrote-three (f .put-field .ensures) (g .put-field2 .ensures) (h .put-field3 .ensures)) (w .put-word .ensures)
 
 pub put-verdict-spec : {M : Type 1} → statement M
 put-verdict-spec =

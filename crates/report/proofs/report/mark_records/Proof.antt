@@ -27,7 +27,10 @@ mark-sheet-requires : tie.Need-mark-sheet-requires
 mark-sheet-requires c κs = search needs
 
 put-marked-requires : tie.Need-put-marked-requires
-put-marked-requires c κs = lines-asked (c .before .before .before .before .before .before .before .before .before .before .before .before .before .before .before .before .before .before .pre) (c .before .before .before .before .mark-sheet .kept .1 .1 .0 ∙ c .before .before .before .before .before .before .before .before .before .before .before .before .fresh-marks .kept .1 .0)
+put-marked-requires c κs =
+    let m = c .before .before .before .before in
+    let f = m .before .before .before .before .before .before .before .before in
+    lines-asked (f .before .before .before .before .before .before .pre) (m .mark-sheet .kept .1 .1 .0 ∙ f .fresh-marks .kept .1 .0)
 
 same-length : tie.Need-same-length
 same-length c = search needs
@@ -37,9 +40,13 @@ same-length-2 c = search needs
 
 returns : tie.Need-returns
 returns c =
-    let s = c .before .before .before .before .before .before .before .before .before .before .before .before .before .before .before .before .before .before .before .before .before in
-    let m = c .before .before .before .before .before .before .before .mark-sheet in
-    marked-wrote (s .args .n) (now (s .args .table)) (now (s .args .records)) (m .result) (m .last .1 .1 .0) (m .ensures) (fresh-left (s .pre .range) (s .pre .marked) (c .before .before .before .before .before .before .before .before .before .before .before .before .before .before .before .fresh-marks .ensures)) (c .before .before .before .before .before .before .before .before .before .before .before .decode16 .ensures .front) (c .before .before .put-marked .ensures)
+    let p = c .before .before in
+    let m = p .before .before .before .before .before in
+    let d = m .before .before .before .before in
+    let f = d .before .before .before .before in
+    let s = f .before .before .before .before .before .before in
+    marked-wrote (s .args .n) (now (s .args .table)) (now (s .args .records)) (m .mark-sheet .result) (m .mark-sheet .last .1 .1 .0) (m .mark-sheet .ensures)
+    (fresh-left (s .pre .range) (s .pre .marked) (f .fresh-marks .ensures)) (d .decode16 .ensures .front) (p .put-marked .ensures)
 
 pub mark-records-spec : {M : Type 1} → statement M
 mark-records-spec =

@@ -48,7 +48,10 @@ part-mark-records-end : tie.Need-part-mark-records-end
 part-mark-records-end c = search needs
 
 mark-records-requires : tie.Need-mark-records-requires
-mark-records-requires c κs = marking-asked (c .before .before .before .before .before .before .before .before .before .before .before .before .before .before .before .before .before .before .before .before .before .pre .0) (c .before .before .before .before .before .before .before .before .before .before .before .before .before .before .before .before .before .before .before .before .before .pre .1) (c .before .before .before .before .before .before .before .before .measure .kept .1 .1 .1 .0)
+mark-records-requires c κs =
+    let m = c .before .before .before .before .before .before .before .before in
+    let s = m .before .before .before .before .before .before .before .before .before .before .before .before .before in
+    marking-asked (s .pre .0) (s .pre .1) (m .measure .kept .1 .1 .1 .0)
 
 same-length : tie.Need-same-length
 same-length c = search needs
@@ -61,8 +64,14 @@ same-length-3 c = search needs
 
 returns : tie.Need-returns
 returns c =
-    let s = c .before .before .before .before .before .before .before .before .before .before .before .before .before .before .before .before .before .before .before .before .before .before in
-    wrote-refused (s .args .n) (s .args .rule) (now (s .args .file)) (s .pre .0 .range) (coordinates-read (s .args .n) (now (s .args .file)) (s .pre .0 .whole) (s .pre .1 .located) (c .before .before .before .before .before .before .before .before .before .before .before .before .before .before .decode32 .ensures)) (c .before .before .before .before .before .before .before .before .before .before .before .before .before .before .decode32 .kept .1 .0 ∙ s .pre .1 .located) (s .pre .1 .measured) (c .before .before .before .before .before .before .before .before .before .measure .ensures) (c .before .before .before .before .before .number .given .1) (c .before .before .put-refusal .ensures)
+    let r = c .before .before in
+    let e = r .before .before .before in
+    let m = e .before .before .before .before in
+    let d = m .before .before .before .before .before in
+    let s = d .before .before .before .before .before .before .before .before in
+    wrote-refused (s .args .n) (s .args .rule) (now (s .args .file)) (s .pre .0 .range)
+    (coordinates-read (s .args .n) (now (s .args .file)) (s .pre .0 .whole) (s .pre .1 .located) (d .decode32 .ensures)) (d .decode32 .kept .1 .0 ∙ s .pre .1 .located)
+    (s .pre .1 .measured) (m .measure .ensures) (e .number .given .1) (r .put-refusal .ensures)
 
 same-length-4 : tie.Need-same-length-4
 same-length-4 c = search needs
@@ -78,8 +87,14 @@ same-length-7 c = search needs
 
 returns-2 : tie.Need-returns-2
 returns-2 c =
-    let s = c .before .before .before .before .before .before .before .before .before .before .before .before .before .before .before .before .before .before .before .before .before .before .before .before .before .before in
-    wrote-done (s .args .n) (s .args .rule) (now (s .args .file)) (s .pre .0 .range) (coordinates-read (s .args .n) (now (s .args .file)) (s .pre .0 .whole) (s .pre .1 .located) (c .before .before .before .before .before .before .before .before .before .before .before .before .before .before .before .before .before .before .decode32 .ensures)) (c .before .before .before .before .before .before .before .before .before .before .before .before .before .before .before .before .before .before .decode32 .kept .1 .0 ∙ s .pre .1 .located) (s .pre .1 .measured) (c .before .before .before .before .before .before .before .before .before .before .before .before .before .measure .ensures) (c .before .before .before .before .before .before .before .before .before .enum-told .given .1) (c .before .before .before .before .mark-records .ensures)
+    let r = c .before .before .before .before in
+    let e = r .before .before .before .before .before in
+    let m = e .before .before .before .before in
+    let d = m .before .before .before .before .before in
+    let s = d .before .before .before .before .before .before .before .before in
+    wrote-done (s .args .n) (s .args .rule) (now (s .args .file)) (s .pre .0 .range)
+    (coordinates-read (s .args .n) (now (s .args .file)) (s .pre .0 .whole) (s .pre .1 .located) (d .decode32 .ensures)) (d .decode32 .kept .1 .0 ∙ s .pre .1 .located)
+    (s .pre .1 .measured) (m .measure .ensures) (e .enum-told .given .1) (r .mark-records .ensures)
 
 pub measure-file-spec : {M : Type 1} → statement M
 measure-file-spec =

@@ -31,7 +31,10 @@ slice-aggregate-measure-file-3 : tie.Need-slice-aggregate-measure-file-3
 slice-aggregate-measure-file-3 c = part-length _ _ (count-few (c .before .before .before .before .before .before .pre) (c .before .before .before .count .ensures))
 
 measure-file-requires : tie.Need-measure-file-requires
-measure-file-requires c κs = (c .before .before .before .before .before .before .before .pre, places (replicate 360 0) (replicate 16110 0) (replicate 16110 0) (c .before .before .before .before .before .before .before .pre) (c .before .before .before .before .count .ensures) refl refl refl)
+measure-file-requires c κs =
+    let k = c .before .before .before .before in
+    let s = k .before .before .before in
+    (s .pre, places (replicate 360 0) (replicate 16110 0) (replicate 16110 0) (s .pre) (k .count .ensures) refl refl refl)
 
 same-length : tie.Need-same-length
 same-length c = search needs

@@ -61,7 +61,11 @@ put-number-put-digit-requires-2 : (t : ℕ) → put-number-lts.Need-put-digit-re
   put-number-below t,
   put-number.Post,
 ) (put-number-at t) put-number.Post
-put-number-put-digit-requires-2 t c κs = digit-asked-more (c .before .before .before .before .before .before .before .args .n) (c .before .before .before .before .before .if1 .left) (c .before .before .before .before .before .before .before .pre .1) (c .before .before .before .put-number .ensures)
+put-number-put-digit-requires-2 t c κs =
+    let p = c .before .before .before in
+    let k = p .before .before in
+    let s = k .before .before in
+    digit-asked-more (s .args .n) (k .if1 .left) (s .pre .1) (p .put-number .ensures)
 
 put-number-same-length-2 : (t : ℕ) → put-number-lts.Need-same-length-2 (
   put-digit-reads.Asked,
@@ -77,7 +81,11 @@ put-number-returns-2 : (t : ℕ) → put-number-lts.Need-returns-2 (
   put-number-below t,
   put-number.Post,
 ) (put-number-at t) put-number.Post
-put-number-returns-2 t c = wrote-more (c .before .before .before .before .before .before .before .before .before .before .args .n) (c .before .before .before .before .before .before .before .before .if1 .left) (c .before .before .before .before .before .before .put-number .ensures) (c .before .before .put-digit2 .ensures)
+put-number-returns-2 t c =
+    let d = c .before .before in
+    let p = d .before .before .before .before in
+    let k = p .before .before in
+    wrote-more (k .before .before .args .n) (k .if1 .left) (p .put-number .ensures) (d .put-digit2 .ensures)
 
 pub +put-number-spec : {M : Type 1} → statement M
 +put-number-spec = close μ-put-number λ t. put-number-lts.spec (

@@ -41,13 +41,19 @@ returns-3 : tie.Need-returns-3
 returns-3 c = header-cut _ (c .before .before .before .before .before .number32 .ensures) (c .before .before .before .before .before .before .if1 .left) (admits (c .before)) (c .if2 .taken)
 
 returns-4 : tie.Need-returns-4
-returns-4 c = header-long _ (c .before .before .before .before .before .before .number32 .ensures) (c .before .before .before .before .before .before .before .if1 .left) (admits (c .before .before)) (c .before .if2 .left) (c .if3 .taken)
+returns-4 c =
+    let k = c .before .before in
+    let n = k .before .before .before .before in
+    header-long _ (n .number32 .ensures) (n .before .if1 .left) (admits k) (c .before .if2 .left) (c .if3 .taken)
 
 number32-requires-2 : tie.Need-number32-requires-2
 number32-requires-2 c κs = search needs
 
 returns-5 : tie.Need-returns-5
-returns-5 c = header-read _ (c .before .before .before .before .before .before .before .number32 .ensures) (c .before .before .before .before .before .before .before .before .if1 .left) (admits (c .before .before .before)) (c .before .before .if2 .left) (c .before .if3 .left) (c .number322 .ensures)
+returns-5 c =
+    let k = c .before .before .before in
+    let n = k .before .before .before .before in
+    header-read _ (n .number32 .ensures) (n .before .if1 .left) (admits k) (c .before .before .if2 .left) (c .before .if3 .left) (c .number322 .ensures)
 
 pub read-spec : {M : Type 1} → statement M
 read-spec =
