@@ -21,6 +21,7 @@ use Rattle.rules.specs.declared.edge_set.EdgeSet.{EdgeSet}
 use Rattle.rules.specs.declared.pairs.NextPair.{NextPair}
 use Rattle.rules.specs.declared.pairs.NextPair.the-variants.{Pair, End}
 use Rattle.rules.specs.declared.split.Split.{Split}
+use Rattle.rules.proofs.WaysBeyond.{fit-of}
 use Rattle.rules.proofs.PairLists.{keep-yes, keep-no, feasibleAfter-start}
 use Rattle.rules.proofs.Searches.{next-is-pair, next-is-end}
 use Rattle.marking.specs.Listing.{numbersOf, Found, FindAsked, CopyAsked}
@@ -75,14 +76,15 @@ finding-start {n} {table} {marks} {k} {c} {found} g =
 
 -- what `next_pair` answers is the first of the pairs left
 pub next-of : {n : ℕ} {table marks : List ℕ} {k : EdgeSet} {c x y : ℕ} {s : Split} {r p : NextPair} → SplitOf n table marks k c s
-    → Next n table (s .legs) (s .bound) k c x y r → r ≡ p → firstOf (feasibleAfter n (lengthOf n table) (openIn n marks) (edgeList k) c x y) ≡ p
-next-of {n} {marks = marks} sp next e = sym (next .first (openIn n marks) (sp .prepared)) ∙ e
+    → Next n table (s .legs) (s .bound) (s .ways) (s .centre) k x y r → r ≡ p → firstOf (feasibleAfter n (lengthOf n table) (openIn n marks) (edgeList k) c x y) ≡ p
+next-of {n} {marks = marks} {c = c} sp next e = sym (next .first (openIn n marks) c (sp .prepared) (sp .scouted)) ∙ e
 
 pub searchable : {n : ℕ} {table marks : List ℕ} {k : EdgeSet} {c : ℕ} {found₀ : List ℕ} {s : Split} {l : ℕ → ℕ → ℕ} {open? : ℕ → ℕ → Bool} {K : List Edge}
     {found : List ℕ} {x y count : ℕ} → FindAsked n table marks k c found₀ → SplitOf n table marks k c s → Finding n l open? K c found x y count
-    → Searchable n table (s .legs) (s .bound) k x y
+    → Searchable n table (s .legs) (s .bound) (s .ways) (s .centre) k x y
 searchable g sp f = record {
   row = record { lengths = g .split .legs .lengths; bounded = sp .bounded; low = f .low; up = f .up; high = f .high };
+  fit = fit-of (sp .scouted);
   stored = g .split .held .stored;
 }
 

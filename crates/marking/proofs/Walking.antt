@@ -14,12 +14,15 @@ use Rattle.rules.specs.Pairs.{feasibleAfter}
 use Rattle.rules.specs.NextPair.{Searchable, Next}
 use Rattle.rules.specs.Split.{Bounded, Prepared, SplitAsked, SplitOf}
 use Rattle.rules.specs.Stored.{edgeList, Added}
+use Rattle.rules.specs.Ways.{Scouted}
 use Rattle.rules.specs.ClosingTest.{crossedBy, refusalOf, Crossable}
 use Rattle.rules.specs.declared.edge_set.EdgeSet.{EdgeSet}
+use Rattle.rules.specs.declared.near.Near.{Near}
 use Rattle.rules.specs.declared.pairs.NextPair.{NextPair}
 use Rattle.rules.specs.declared.split.Split as split
 use Rattle.rules.specs.declared.closing.Crossed.{Crossed}
 use Rattle.rules.specs.declared.closing.Crossed.the-variants.{Settled, NoCrossing, NoSaving}
+use Rattle.rules.proofs.WaysBeyond.{fit-of}
 use Rattle.rules.proofs.PairLists.{feasibleAfter-start, feasibleAfter-next}
 use Rattle.argument.specs.Verdict.{Verdict, accepted, refused, unless}
 use Rattle.argument.specs.Record.{records, howFits}
@@ -55,10 +58,11 @@ spotAt n table marks k left c x y last index high =
     }
 
 -- the loop's invariant
-pub record Following (n : ℕ) (table marks sheet : List ℕ) (k : EdgeSet) (left i c first : ℕ) (legs : List ℕ) (bound x y last index high : ℕ) : Type 0 where
+pub record Following (n : ℕ) (table marks sheet : List ℕ) (k : EdgeSet) (left i c first : ℕ) (legs : List ℕ) (bound : ℕ) (ways : List ℕ) (centre : Near) (x y last index high : ℕ) : Type 0 where
   pub asked : ChainAsked n table marks sheet k left c
   pub bounded : Bounded legs bound
   pub prepared : Prepared n (lengthOf n table) (openIn n marks) (edgeList k) c legs bound
+  pub scouted : Scouted (edgeList k) c ways centre
   pub low : 1 ≤ x
   pub up : x ≤ y
   pub top : y ≤ n
@@ -68,7 +72,7 @@ module _ {n : ℕ} {table marks sheet : List ℕ} {k : EdgeSet} {left c : ℕ} (
   pub chain-split : SplitAsked n table marks k c
   chain-split = record { legs = record { lengths = asked .tried .lengths; marked = asked .tried .marked; centre = asked .centre }; held = asked .held }
 
-  pub follow-start : {p : split.Split} (i first : ℕ) → SplitOf n table marks k c p → Following n table marks sheet k left i c first (p .legs) (p .bound) 1 1 i first i
+  pub follow-start : {p : split.Split} (i first : ℕ) → SplitOf n table marks k c p → Following n table marks sheet k left i c first (p .legs) (p .bound) (p .ways) (p .centre) 1 1 i first i
   unfolding opening
   follow-start i first s =
       let e : left ≡ suc left - 1 = omega arith in
@@ -76,30 +80,31 @@ module _ {n : ℕ} {table marks sheet : List ℕ} {k : EdgeSet} {left c : ℕ} (
         asked = asked;
         bounded = s .bounded;
         prepared = s .prepared;
+        scouted = s .scouted;
         low = omega arith;
         up = omega arith;
         top = omega (arith, asked .centre);
         walks = ap₂ (λ (l : ℕ) (ps : List Edge). walk (rulesOf n table marks) sheet record { left = l; known = edgeList k; point = c; pairs = ps; last = i; index = first; high = i }) e (feasibleAfter-start n (lengthOf n table) (openIn n marks) (edgeList k) c);
       }
 
-module _ {n : ℕ} {table marks sheet : List ℕ} {k : EdgeSet} {left i c first : ℕ} {legs : List ℕ} {bound x y last index high : ℕ} (f : Following n table marks sheet k left i c first legs bound x y last index high) where
+module _ {n : ℕ} {table marks sheet : List ℕ} {k : EdgeSet} {left i c first : ℕ} {legs : List ℕ} {bound : ℕ} {ways : List ℕ} {centre : Near} {x y last index high : ℕ} (f : Following n table marks sheet k left i c first legs bound ways centre x y last index high) where
   abbrev rules : Rules
   rules = rulesOf n table marks
 
   abbrev here : Spot
   here = spotAt n table marks k left c x y last index high
 
-  pub follow-search : Searchable n table legs bound k x y
-  follow-search = record { row = record { lengths = f .asked .tried .lengths; bounded = f .bounded; low = f .low; up = f .up; high = f .top }; stored = f .asked .held .stored }
+  pub follow-search : Searchable n table legs bound ways centre k x y
+  follow-search = record { row = record { lengths = f .asked .tried .lengths; bounded = f .bounded; low = f .low; up = f .up; high = f .top }; fit = fit-of (f .scouted); stored = f .asked .held .stored }
 
   pub follow-few : k .count ≤ 11
   follow-few = omega (arith, f .asked .room)
 
   -- what the code's look answers is what the walk looks at
-  module _ {next : NextPair} (found : Next n table legs bound k c x y next) {r : Looked} (e : lookedOf r ≡ look (pointsOnly n) sheet (spotOf next last index high)) where
+  module _ {next : NextPair} (found : Next n table legs bound ways centre k x y next) {r : Looked} (e : lookedOf r ≡ look (pointsOnly n) sheet (spotOf next last index high)) where
     looks : {r′ : Looked} → r ≡ r′ → look rules sheet here ≡ lookedOf r′
     looks g =
-        look-heads rules sheet left (edgeList k) c _ last index high ∙ ap (λ (p : NextPair). look (pointsOnly n) sheet (spotOf p last index high)) (sym (found .first (openIn n marks) (f .prepared))) ∙ sym e ∙ ap lookedOf g
+        look-heads rules sheet left (edgeList k) c _ last index high ∙ ap (λ (p : NextPair). look (pointsOnly n) sheet (spotOf p last index high)) (sym (found .first (openIn n marks) c (f .prepared) (f .scouted))) ∙ sym e ∙ ap lookedOf g
 
     pub follow-ends : r ≡ looking.Ends → accepted high ≡ walk rules sheet (opening rules (suc left) (edgeList k) i c first)
     follow-ends g = sym (walk-ends rules sheet here (looks g)) ∙ f .walks
@@ -135,7 +140,7 @@ module _ {n : ℕ} {table marks sheet : List ℕ} {k : EdgeSet} {left i c first 
             unfolding walk
             follow-falls = omega (arith, taken .entered, close-rises rules sheet (walk rules sheet) (walk-rises rules sheet (suc (records sheet))) left _ index (howOf (x′ .closing)) reached (closes w))
 
-            pub follow-on : Following n table marks sheet k left i c first legs bound (x′ .a) (x′ .b) index (x′ .next) reached
+            pub follow-on : Following n table marks sheet k left i c first legs bound ways centre (x′ .a) (x′ .b) index (x′ .next) reached
             unfolding behind
             follow-on =
                 let t = taken in
@@ -144,6 +149,7 @@ module _ {n : ℕ} {table marks sheet : List ℕ} {k : EdgeSet} {left i c first 
                   asked = f .asked;
                   bounded = f .bounded;
                   prepared = f .prepared;
+                  scouted = f .scouted;
                   low = h .0 .low;
                   up = omega (arith, h .0 .up);
                   top = h .0 .high;

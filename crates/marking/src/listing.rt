@@ -39,11 +39,13 @@ fn find_pairs(
     let split = prepare(n, table, marks, k, c);
     let legs = split.legs;
     let bound = split.bound;
+    let ways = split.ways;
+    let centre = split.centre;
     let mut x: u16 = 1;
     let mut y: u16 = 1;
     let mut count: u16 = 0;
     loop {
-        let NextPair::Pair(a, b) = next_pair(n, table, &legs, bound, k, c, x, y) else {
+        let NextPair::Pair(a, b) = next_pair(n, table, &legs, bound, &ways, centre, k, x, y) else {
             return count;
         };
         let at = 2 * count as usize;

@@ -144,13 +144,15 @@ pub fn chain(
     let split = prepare(n, table, marks, k, c);
     let legs = split.legs;
     let bound = split.bound;
+    let ways = split.ways;
+    let centre = split.centre;
     let mut x: u16 = 1;
     let mut y: u16 = 1;
     let mut last = i;
     let mut index = first;
     let mut high = i;
     loop {
-        let next = next_pair(n, table, &legs, bound, k, c, x, y);
+        let next = next_pair(n, table, &legs, bound, &ways, centre, k, x, y);
         match look(n, sheet, next, last, index, high) {
             Looked::Ends => return Walked::Closed(high),
             Looked::Refused(number, at) => return Walked::Refused(number, at),

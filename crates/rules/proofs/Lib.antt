@@ -6,3 +6,4 @@ pub mod PairLists
 pub mod PairTests
 pub mod Searches
 pub mod Splits
+pub mod WaysBeyond

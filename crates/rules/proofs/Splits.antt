@@ -19,6 +19,9 @@ use Rattle.rules.specs.Split.{Lengths, legOf, narrowed, tightened, bound
 use Rattle.rules.specs.Mark.{openIn}
 use Rattle.rules.specs.Stored.{edgesOf, edgeList}
 use Rattle.rules.specs.declared.edge_set.EdgeSet.{EdgeSet}
+use Rattle.rules.specs.declared.near.Near.{Near}
+use Rattle.rules.specs.Near.{neighbours}
+use Rattle.rules.specs.Ways.{Named, WaysAsked, Ways}
 use Rattle.rules.specs.NextPair.{passes?}
 
 -- no length is above 2,000,000
@@ -283,14 +286,27 @@ take-on {n} {table} {marks} {c} {from} {to} {count} {legs} {bound} {i} {legs′}
           });
     }
 
-pub take-end : {n : ℕ} {table marks : List ℕ} {k : EdgeSet} {c : ℕ} {legs : List ℕ} {bound i : ℕ} → Taking n table marks c (k .from) (k .to) (k .count) legs bound i → k .count ≤ i
-    → SplitOf n table marks k c (record { legs = legs; bound = bound })
+-- the points of K are places of the array
+pub take-ways : {n : ℕ} {table marks : List ℕ} {k : EdgeSet} {c : ℕ} → SplitAsked n table marks k c → WaysAsked k
+take-ways {n} a = record {
+  stored = a .held .stored;
+  from-named = λ i h. named (a .held .points .from-point i h);
+  to-named = λ i h. named (a .held .points .to-point i h);
+}
+  where
+    named : {u : ℕ} → Point n u → Named u
+    named p = record { low = p .low; high = omega (arith, p .high, a .legs .lengths .few) }
+
+pub take-end : {n : ℕ} {table marks : List ℕ} {k : EdgeSet} {c : ℕ} {legs : List ℕ} {bound i : ℕ} {ways : List ℕ} {centre : Near}
+    → Taking n table marks c (k .from) (k .to) (k .count) legs bound i → k .count ≤ i → Ways (edgeList k) c ways → centre ≡ neighbours (edgeList k) c
+    → SplitOf n table marks k c (record { legs = legs; bound = bound; ways = ways; centre = centre })
 unfolding edgeList
-take-end {n} {table} {marks} {k} {c} {legs} {bound} {i} s h =
+take-end {n} {table} {marks} {k} {c} {legs} {bound} {i} s h w m =
     let e : i ≡ k .count = omega (arith, s .within) in
     record {
       bounded = s .bounded;
       prepared = subst (λ (j : ℕ). Prepared n (lengthOf n table) (openIn n marks) (edgesOf (k .from) (k .to) j) c legs bound) e (s .prepared);
+      scouted = record { each = w; own = m };
     }
 
 -- One comparison decides conditions 1, 4 and 5. Write M for 2,000,000, the most that a length can be, and A for l(cx) + M + l(cy).

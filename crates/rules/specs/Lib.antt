@@ -12,3 +12,4 @@ pub mod Rising
 pub mod Shape
 pub mod Split
 pub mod Stored
+pub mod Ways

@@ -11,6 +11,7 @@ use Rattle.lengths.specs.Table.{lengthOf}
 use Rattle.rules.specs.PairTest.{leg?}
 use Rattle.rules.specs.Mark.{openIn}
 use Rattle.rules.specs.Stored.{edgeList, Held}
+use Rattle.rules.specs.Ways.{Scouted}
 use Rattle.rules.specs.declared.edge_set.EdgeSet.{EdgeSet}
 use Rattle.rules.specs.declared.split.Split.{Split}
 
@@ -108,3 +109,4 @@ pub record SplitAsked (n : ℕ) (table marks : List ℕ) (k : EdgeSet) (c : ℕ)
 pub record SplitOf (n : ℕ) (table marks : List ℕ) (k : EdgeSet) (c : ℕ) (s : Split) : Type 0 where
   pub bounded : Bounded (s .legs) (s .bound)
   pub prepared : Prepared n (lengthOf n table) (openIn n marks) (edgeList k) c (s .legs) (s .bound)
+  pub scouted : Scouted (edgeList k) c (s .ways) (s .centre)

@@ -6,3 +6,4 @@ pub mod near;
 pub mod pairs;
 pub mod shape;
 pub mod split;
+pub mod ways;

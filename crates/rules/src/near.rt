@@ -1,6 +1,6 @@
 // The neighbours of a point in an edge set, as far as they matter: none, one, two, or more.
 ghost use mathlib.Core.Path.{_≡_};
-ghost use Rattle.rules.specs.Near.{withPoint, seen, neighbours, either?, within?, beyond, endsOf};
+ghost use Rattle.rules.specs.Near.{withPoint, seen, neighbours, beyond, endsOf};
 ghost use Rattle.rules.specs.Stored.{edgeList, Stored};
 use crate::edge_set::EdgeSet;
 
@@ -64,23 +64,6 @@ impl Near {
         self
     }
 
-    // Are all the neighbours x or y?
-    pub fn within(self, x: u16, y: u16) -> bool
-        ensures { λ r. ⌜ r ≡ within? self x y ⌝ }
-    {
-        match self {
-            Near::None => true,
-            Near::One(a) => either(a, x, y),
-            Near::Two(a, b) => {
-                if either(a, x, y) {
-                    return either(b, x, y);
-                }
-                false
-            }
-            Near::More => false,
-        }
-    }
-
     // The neighbours other than from.
     pub fn beyond(self, from: u16) -> Next
         ensures { λ r. ⌜ r ≡ beyond self from ⌝ }
@@ -105,16 +88,6 @@ impl Near {
             Near::More => Next::Fork,
         }
     }
-}
-
-// Is a one of x and y?
-fn either(a: u16, x: u16, y: u16) -> bool
-    ensures { λ r. ⌜ r ≡ either? a x y ⌝ }
-{
-    if a == x {
-        return true;
-    }
-    a == y
 }
 
 // The different neighbours of v in k.

@@ -1,6 +1,9 @@
-// What the search at a split point looks up for every pair, computed once: the legs and the bound.
+// What the search at a split point looks up for every pair, computed once.
 use crate::edge_set::EdgeSet;
 use crate::marks::is_open;
+use crate::near::Near;
+use crate::near::neighbours;
+use crate::ways::ways_beyond;
 use lengths::instance::Instance;
 use lengths::table::length_between;
 ghost use mathlib.Core.Path.{_≡_};
@@ -11,9 +14,12 @@ ghost use Rattle.rules.specs.Split.{legOf, narrowed, tightened, LegAsked
 
 // legs[x] is the length from the split point c to x where cx is open and compatible with every edge of K, else FAR.
 // A pair x, y meets conditions 1, 4 and 5 exactly when legs[x] + legs[y] + MOST_LENGTH is at most l(xy) + bound.
+// ways[x] is what x has in K beyond c: 0 for nothing, the point where it is one, else FORK. `centre` has c's neighbours in K.
 pub struct Split {
     pub legs: [u32; Split::PLACES],
     pub bound: u32,
+    pub ways: [u16; Split::PLACES],
+    pub centre: Near,
 }
 
 impl Split {
@@ -25,6 +31,9 @@ impl Split {
 
     // The bound where no edge of K asks for less: two legs that are not FAR always meet it.
     pub const LOOSE: u32 = 3 * Instance::MOST_LENGTH;
+
+    // Several neighbours beyond the split point: no point has this number.
+    pub const FORK: u16 = 65535;
 }
 
 // The leg of x where K is empty: the length from c to x where x is not c and cx is open.
@@ -122,7 +131,7 @@ fn tighten(n: u16, table: &[u32], c: u16, u: u16, v: u16, bound: u32) -> u32
     bound
 }
 
-// The legs and the bound of k at c.
+// What the search looks up for k at c.
 pub fn prepare(n: u16, table: &[u32], marks: &[u8], k: EdgeSet, c: u16) -> Split
     requires { ⌜ SplitAsked n (now table) (now marks) k c ⌝ }
     ensures { λ r. ⌜ SplitOf n (now (table .entry)) (now (marks .entry)) k c r ⌝ }
@@ -140,8 +149,12 @@ pub fn prepare(n: u16, table: &[u32], marks: &[u8], k: EdgeSet, c: u16) -> Split
         bound = tighten(n, table, c, u, v, bound);
         i += 1;
     }
+    let ways = ways_beyond(k, c);
+    let centre = neighbours(k, c);
     Split {
         legs: legs,
         bound: bound,
+        ways: ways,
+        centre: centre,
     }
 }

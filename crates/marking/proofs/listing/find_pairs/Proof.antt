@@ -16,29 +16,29 @@ use Rattle.marking.proofs.listing.find_pairs.Statement.{statement}
 use Rattle.marking.proofs.listing.find_pairs.Tie as tie
 
 abbrev Inv-loop : tie.InvT-loop
-Inv-loop n table marks k c found₀ legs bound x₀ y₀ count₀ found x y count = Finding n (lengthOf n table) (openIn n marks) (edgeList k) c found x y count
+Inv-loop n table marks k c found₀ legs bound ways centre x₀ y₀ count₀ found x y count = Finding n (lengthOf n table) (openIn n marks) (edgeList k) c found x y count
 
 abbrev μ-loop : tie.MeasureT-loop
-μ-loop n table marks k c found₀ legs bound x₀ y₀ count₀ found x y count = length (feasibleAfter n (lengthOf n table) (openIn n marks) (edgeList k) c x y)
+μ-loop n table marks k c found₀ legs bound ways centre x₀ y₀ count₀ found x y count = length (feasibleAfter n (lengthOf n table) (openIn n marks) (edgeList k) c x y)
 
 -- the pair at hand is the first of those left
-next : (c : tie.After-known-told Inv-loop μ-loop) → let s = c .before .before .before .before .before .before .before .before .before .before in
+next : (c : tie.After-known-told Inv-loop μ-loop) → let s = c .before .before .before .before .before .before .before .before .before .before .before .before in
     firstOf (feasibleAfter (s .args .n) (lengthOf (s .args .n) (now (s .args .table))) (openIn (s .args .n) (now (s .args .marks))) (edgeList (s .args .k)) (s .args .c)
-    (c .before .before .before .before .before .loop .x) (c .before .before .before .before .before .loop .y)) ≡ Pair (c .before .a .given .0 .0) (c .before .a .given .0 .1 .0)
-next c = next-of (c .before .before .before .before .before .before .before .prepare .ensures) (c .before .before .before .next-pair .ensures) (c .before .a .given .1)
+    (c .before .before .before .before .before .before .loop .x) (c .before .before .before .before .before .before .loop .y)) ≡ Pair (c .before .a .given .0 .0) (c .before .a .given .0 .1 .0)
+next c = next-of (c .before .before .before .before .before .before .before .before .before .prepare .ensures) (c .before .before .before .next-pair .ensures) (c .before .a .given .1)
 
 -- and there is room for it
-room : (c : tie.After-known-told Inv-loop μ-loop) → 2 * c .before .before .before .before .before .loop .count + 1 < 32220
-room c = space (c .before .before .before .before .before .loop .inv) (next c)
+room : (c : tie.After-known-told Inv-loop μ-loop) → 2 * c .before .before .before .before .before .before .loop .count + 1 < 32220
+room c = space (c .before .before .before .before .before .before .loop .inv) (next c)
 
 prepare-requires : tie.Need-prepare-requires Inv-loop μ-loop
 prepare-requires c κs = c .before .before .pre .split
 
 loop-holds : tie.Need-loop-holds Inv-loop μ-loop
-loop-holds c = finding-start (c .before .before .before .before .pre)
+loop-holds c = finding-start (c .before .before .before .before .before .pre)
 
 next-pair-requires : tie.Need-next-pair-requires Inv-loop μ-loop
-next-pair-requires c κs = searchable (c .before .before .before .before .before .before .pre) (c .before .before .before .prepare .ensures) (c .before .loop .inv)
+next-pair-requires c κs = searchable (c .before .before .before .before .before .before .before .before .pre) (c .before .before .before .before .before .prepare .ensures) (c .before .before .loop .inv)
 
 enum-known-a : tie.Need-enum-known-a Inv-loop μ-loop
 enum-known-a c = search needs
@@ -47,7 +47,7 @@ enum-told : tie.Need-enum-told Inv-loop μ-loop
 enum-told c = search needs
 
 returns : tie.Need-returns Inv-loop μ-loop
-returns c = all-found (c .before .before .before .before .loop .inv) (next-of (c .before .before .before .before .before .before .prepare .ensures) (c .before .before .next-pair .ensures) (c .enum-told .given .1))
+returns c = all-found (c .before .before .before .before .before .loop .inv) (next-of (c .before .before .before .before .before .before .before .before .prepare .ensures) (c .before .before .next-pair .ensures) (c .enum-told .given .1))
 
 cast-at : tie.Need-cast-at Inv-loop μ-loop
 cast-at c = record { fits = omega (arith, room c) }
@@ -74,10 +74,10 @@ add-count : tie.Need-add-count Inv-loop μ-loop
 add-count c = record { fits = omega (arith, room c) }
 
 loop-less : tie.Need-loop-less Inv-loop μ-loop
-loop-less c = fewer-left (c .before .before .before .before .before .loop .inv) (next c)
+loop-less c = fewer-left (c .before .before .before .before .before .before .loop .inv) (next c)
 
 loop-again : tie.Need-loop-again Inv-loop μ-loop
-loop-again c = finding-on (c .before .before .before .before .before .loop .inv) (next c)
+loop-again c = finding-on (c .before .before .before .before .before .before .loop .inv) (next c)
 
 pub find-pairs-spec : {M : Type 1} → statement M
 find-pairs-spec =

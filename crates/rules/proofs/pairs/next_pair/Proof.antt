@@ -1,6 +1,7 @@
 -- `rules::pairs::next_pair` meets its contract: the loop's invariant is `Walking`, the measure the rows left and then the points left. Assumes nothing.
 use Prim.Native.Nat.{_+_, _*_, _-_}
-use mathlib.Core.Path.{sym, _∙_}
+use mathlib.Core.Bool.{not}
+use mathlib.Core.Path.{sym, _∙_, ap}
 use native.Mathlib.Omega.{arith}
 use Rattle.rules.proofs.Searches.{Walking, walk-start, walk-above, walk-found, walk-on, walk-row, walk-end}
 use borrow.Author.Needs.{needs}
@@ -8,28 +9,46 @@ use Rattle.rules.proofs.pairs.next_pair.Statement.{statement}
 use Rattle.rules.proofs.pairs.next_pair.Tie as tie
 
 abbrev Inv-loop : tie.InvT-loop
-Inv-loop n table legs bound k c x y a₀ b₀ a b = Walking n table legs bound k c x y a b
+Inv-loop n table legs bound ways centre k x y a₀ b₀ a b = Walking n table legs bound ways centre k x y a b
 
 abbrev μ-loop : tie.MeasureT-loop
-μ-loop n table legs bound k c x y a₀ b₀ a b = 1000 * (n - a) + (n - b)
+μ-loop n table legs bound ways centre k x y a₀ b₀ a b = 1000 * (n - a) + (n - b)
 
 loop-holds : tie.Need-loop-holds Inv-loop μ-loop
-loop-holds c = walk-start _ (c .before .pre)
+loop-holds c = walk-start (c .before .pre)
 
-next-in-row-requires : tie.Need-next-in-row-requires Inv-loop μ-loop
-next-in-row-requires c κs = search needs
+next-beside-requires : tie.Need-next-beside-requires Inv-loop μ-loop
+next-beside-requires c κs = let s = c .before .loop .inv .asked in record { row = s .row; apart = s .fit .apart }
 
-keeps-shape-requires : tie.Need-keeps-shape-requires Inv-loop μ-loop
-keeps-shape-requires c κs = search needs
+cast-shuts : tie.Need-cast-shuts Inv-loop μ-loop
+cast-shuts c = search needs
+
+mul-shuts : tie.Need-mul-shuts Inv-loop μ-loop
+mul-shuts c = search needs
+
+element-copy-out-shuts : tie.Need-element-copy-out-shuts Inv-loop μ-loop
+element-copy-out-shuts c = search needs
+
+cast-shuts-2 : tie.Need-cast-shuts-2 Inv-loop μ-loop
+cast-shuts-2 c = search needs
+
+mul-shuts-2 : tie.Need-mul-shuts-2 Inv-loop μ-loop
+mul-shuts-2 c = search needs
+
+element-copy-out-shuts-2 : tie.Need-element-copy-out-shuts-2 Inv-loop μ-loop
+element-copy-out-shuts-2 c = search needs
+
+shuts-requires : tie.Need-shuts-requires Inv-loop μ-loop
+shuts-requires c κs = search needs
 
 returns : tie.Need-returns Inv-loop μ-loop
-returns c = walk-found (c .before .before .before .before .before .loop .inv) _ (c .before .before .before .next-in-row .ensures) (c .before .before .if1 .taken) (sym (c .before .keeps-shape .ensures) ∙ c .if2 .taken)
+returns c = walk-found (c .before .before .before .before .before .before .before .loop .inv) _ (c .before .before .before .before .before .next-beside .ensures) (c .before .before .before .before .if1 .taken) (ap not (sym (c .before .shuts .ensures)) ∙ c .if2 .taken)
 
 loop-less : tie.Need-loop-less Inv-loop μ-loop
-loop-less c = omega (arith, walk-above (c .before .before .before .before .before .loop .inv) _ (c .before .before .before .next-in-row .ensures), c .before .before .if1 .taken)
+loop-less c = omega (arith, walk-above (c .before .before .before .before .before .before .before .loop .inv) _ (c .before .before .before .before .before .next-beside .ensures), c .before .before .before .before .if1 .taken)
 
 loop-again : tie.Need-loop-again Inv-loop μ-loop
-loop-again c = walk-on (c .before .before .before .before .before .loop .inv) _ (c .before .before .before .next-in-row .ensures) (c .before .before .if1 .taken) (sym (c .before .keeps-shape .ensures) ∙ c .if2 .left)
+loop-again c = walk-on (c .before .before .before .before .before .before .before .loop .inv) _ (c .before .before .before .before .before .next-beside .ensures) (c .before .before .before .before .if1 .taken) (ap not (sym (c .before .shuts .ensures)) ∙ c .if2 .left)
 
 add-a : tie.Need-add-a Inv-loop μ-loop
 add-a c = search needs
@@ -38,7 +57,7 @@ loop-less-2 : tie.Need-loop-less-2 Inv-loop μ-loop
 loop-less-2 c = search needs
 
 loop-again-2 : tie.Need-loop-again-2 Inv-loop μ-loop
-loop-again-2 c = walk-row (c .before .before .before .loop .inv) _ (c .before .next-in-row .ensures) (c .if1 .left) (c .before .before .loop-test .taken)
+loop-again-2 c = walk-row (c .before .before .before .loop .inv) _ (c .before .next-beside .ensures) (c .if1 .left) (c .before .before .loop-test .taken)
 
 returns-2 : tie.Need-returns-2 Inv-loop μ-loop
 returns-2 c = walk-end (c .before .loop .inv) (c .loop-test .left)
@@ -50,8 +69,14 @@ next-pair-spec =
     Inv-loop
     μ-loop
     loop-holds
-    next-in-row-requires
-    keeps-shape-requires
+    next-beside-requires
+    cast-shuts
+    mul-shuts
+    element-copy-out-shuts
+    cast-shuts-2
+    mul-shuts-2
+    element-copy-out-shuts-2
+    shuts-requires
     returns
     loop-less
     loop-again

@@ -2,15 +2,15 @@
 -- Assumes nothing.
 use Prim.Native.Nat.{_-_}
 use borrow.Author.Needs.{needs}
-use Rattle.rules.proofs.Splits.{Taking, take-start, take-edge, take-narrow, take-on, take-end}
+use Rattle.rules.proofs.Splits.{Taking, take-start, take-edge, take-narrow, take-on, take-ways, take-end}
 use Rattle.rules.proofs.split.prepare.Statement.{statement}
 use Rattle.rules.proofs.split.prepare.Tie as tie
 
 abbrev Inv-loop : tie.InvT-loop
-Inv-loop n table marks c from to count legs₀ bound₀ i₀ legs bound i = Taking n table marks c from to count legs bound i
+Inv-loop n table marks k c from to count legs₀ bound₀ i₀ legs bound i = Taking n table marks c from to count legs bound i
 
 abbrev μ-loop : tie.MeasureT-loop
-μ-loop n table marks c from to count legs₀ bound₀ i₀ legs bound i = count - i
+μ-loop n table marks k c from to count legs₀ bound₀ i₀ legs bound i = count - i
 
 open-legs-requires : tie.Need-open-legs-requires Inv-loop μ-loop
 open-legs-requires c κs = search needs
@@ -45,8 +45,14 @@ loop-less c = search needs
 loop-again : tie.Need-loop-again Inv-loop μ-loop
 loop-again c = take-on (c .before .before .before .before .loop .inv) (c .before .before .before .loop-test .taken) (c .before .narrow .ensures) (c .tighten .ensures)
 
+ways-beyond-requires : tie.Need-ways-beyond-requires Inv-loop μ-loop
+ways-beyond-requires c κs = take-ways (c .before .before .before .before .before .before .before .pre)
+
+neighbours-requires : tie.Need-neighbours-requires Inv-loop μ-loop
+neighbours-requires c κs = search needs
+
 returns : tie.Need-returns Inv-loop μ-loop
-returns c = take-end (c .before .loop .inv) (c .loop-test .left)
+returns c = take-end (c .before .before .before .loop .inv) (c .before .before .loop-test .left) (c .before .ways-beyond .ensures) (c .neighbours .ensures)
 
 pub prepare-spec : {M : Type 1} → statement M
 prepare-spec =
@@ -65,4 +71,6 @@ prepare-spec =
     add-i
     loop-less
     loop-again
+    ways-beyond-requires
+    neighbours-requires
     returns)
