@@ -1,0 +1,14 @@
+-- `examples::tally::some_numbers` meets its contract: the count is at most the length. Assumes nothing.
+use native.Mathlib.Omega.{arith}
+use Rattle.io.proofs.Counting.{counts}
+use Rattle.examples.proofs.tally.some_numbers.Statement.{statement}
+use Rattle.examples.proofs.tally.some_numbers.Tie as tie
+
+returns : tie.Need-returns
+returns c = counts _ _ (omega arith)
+
+returns-2 : tie.Need-returns-2
+returns-2 c = counts _ _ (omega arith)
+
+pub some-numbers-spec : {M : Type 1} → statement M
+some-numbers-spec = tie.close (tie.spec returns returns-2)

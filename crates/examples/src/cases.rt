@@ -1,0 +1,275 @@
+// "Mark a sheet": accepted arguments, the refusals of a case, 13 to 16, and their order.
+use crate::fixtures;
+use crate::sheets::mark_part;
+use crate::sheets::put;
+use crate::sheets::square;
+use crate::sheets::square_made;
+use crate::tally::Tally;
+use crate::tally::subject;
+use crate::tally::text;
+
+// The first so many numbers of a sheet, on four points at equal distances, with fresh marks that stay.
+fn flat_4(t: Tally, sheet: &[u16; 56], size: usize, number: u64, record: u64) -> Tally {
+    text(b"mark, 4 flat,");
+    let mut bytes = fixtures::FRESH_4;
+    mark_part(
+        t,
+        4,
+        &fixtures::FLAT_4,
+        &mut bytes,
+        sheet,
+        size,
+        number,
+        record,
+        0,
+        &fixtures::FRESH_4,
+    )
+}
+
+// The same on five points at equal distances.
+fn flat_5(t: Tally, sheet: &[u16; 56], size: usize, number: u64, record: u64) -> Tally {
+    text(b"mark, 5 flat,");
+    let mut bytes = fixtures::FRESH_5;
+    mark_part(
+        t,
+        5,
+        &fixtures::FLAT_5,
+        &mut bytes,
+        sheet,
+        size,
+        number,
+        record,
+        0,
+        &fixtures::FRESH_5,
+    )
+}
+
+// A crossing under K = 1-2, 1-3, 3-4, 2-4, a cycle of all four points.
+fn in_cycle(t: Tally, p: u16, q: u16, r: u16, s: u16, number: u64) -> Tally {
+    let mut sheet = [0u16; 56];
+    put(&mut sheet, 0, &[1, 1, 2, 0, 0, 3, 2, 0]);
+    put(&mut sheet, 1, &[2, 1, 4, 0, 0, 4, 3, 0]);
+    put(&mut sheet, 2, &[3, 2, 3, p, q, r, s, 0]);
+    flat_4(t, &sheet, 24, number, 3)
+}
+
+// A crossing under K = 1-2, 1-3, 3-4: of five points, 5 has no edge.
+fn in_part(t: Tally, p: u16, q: u16, r: u16, s: u16, number: u64) -> Tally {
+    let mut sheet = [0u16; 56];
+    put(&mut sheet, 0, &[1, 1, 2, 0, 0, 3, 2, 0]);
+    put(&mut sheet, 1, &[3, 1, 4, p, q, r, s, 0]);
+    flat_5(t, &sheet, 16, number, 2)
+}
+
+// A crossing under K = 1-2, 1-3, 3-4, 4-5, the path 2-1-3-4-5 of five points.
+fn in_path(t: Tally, p: u16, q: u16, r: u16, s: u16, number: u64) -> Tally {
+    let mut sheet = [0u16; 56];
+    put(&mut sheet, 0, &[1, 1, 2, 0, 0, 3, 2, 0]);
+    put(&mut sheet, 1, &[2, 1, 4, 0, 0, 4, 3, 0]);
+    put(&mut sheet, 2, &[3, 3, 5, p, q, r, s, 0]);
+    flat_5(t, &sheet, 24, number, 3)
+}
+
+// A crossing under K = 1-2, 1-3, 3-4, 2-5, 4-5, a cycle of all five points, for the pair a, b; the next index.
+fn in_tour(
+    t: Tally,
+    a: u16,
+    b: u16,
+    p: u16,
+    q: u16,
+    r: u16,
+    s: u16,
+    next: u16,
+    number: u64,
+) -> Tally {
+    let mut sheet = [0u16; 56];
+    put(&mut sheet, 0, &[1, 1, 2, 0, 0, 3, 2, 0]);
+    put(&mut sheet, 1, &[2, 1, 4, 0, 0, 5, 3, 0]);
+    put(&mut sheet, 2, &[3, a, b, p, q, r, s, next]);
+    flat_5(t, &sheet, 24, number, 3)
+}
+
+// Six splits at 3, and a last case a, b with u, split point c and first index d: the pair (1,4) stands again and again.
+fn seventh(t: Tally, a: u16, b: u16, u: u16, c: u16, d: u16, number: u64) -> Tally {
+    let mut sheet = [0u16; 56];
+    put(&mut sheet, 0, &[1, 1, 2, 0, 0, 3, 2, 0]);
+    put(&mut sheet, 1, &[2, 1, 4, 0, 0, 3, 3, 0]);
+    put(&mut sheet, 2, &[2, 1, 4, 0, 0, 3, 4, 0]);
+    put(&mut sheet, 3, &[2, 1, 4, 0, 0, 3, 5, 0]);
+    put(&mut sheet, 4, &[2, 1, 4, 0, 0, 3, 6, 0]);
+    put(&mut sheet, 5, &[2, 1, 4, 0, 0, 3, 7, 0]);
+    put(&mut sheet, 6, &[2, a, b, u, 0, c, d, 0]);
+    square_made(t, &sheet, 56, number, 7, 0, &fixtures::FRESH_4)
+}
+
+// Two cases, each with a split at which nothing stands.
+fn two_cases(t: Tally) -> Tally {
+    let mut sheet = [0u16; 56];
+    put(&mut sheet, 0, &[1, 1, 3, 0, 0, 1, 2, 0]);
+    put(&mut sheet, 1, &[2, 2, 3, 0, 0, 4, 0, 3]);
+    put(&mut sheet, 2, &[2, 3, 4, 0, 0, 2, 0, 0]);
+    square_made(t, &sheet, 24, 0, 0, 1, &[1, 0, 1, 1, 1, 1])
+}
+
+// Six splits one inside another, and a second case of the first.
+fn six_splits(t: Tally) -> Tally {
+    let mut sheet = [0u16; 56];
+    put(&mut sheet, 0, &[1, 1, 3, 0, 0, 1, 2, 0]);
+    put(&mut sheet, 1, &[2, 2, 3, 0, 0, 1, 3, 7]);
+    put(&mut sheet, 2, &[2, 2, 3, 0, 0, 1, 4, 0]);
+    put(&mut sheet, 3, &[2, 2, 3, 0, 0, 1, 5, 0]);
+    put(&mut sheet, 4, &[2, 2, 3, 0, 0, 1, 6, 0]);
+    put(&mut sheet, 5, &[2, 2, 3, 0, 0, 4, 0, 0]);
+    put(&mut sheet, 6, &[2, 3, 4, 0, 0, 2, 0, 0]);
+    square_made(t, &sheet, 56, 0, 0, 1, &[1, 0, 1, 1, 1, 1])
+}
+
+// A sheet on five points of which a crossing saves.
+fn crossed(t: Tally, sheet: &[u16; 56]) -> Tally {
+    text(b"mark, 5 crossed,");
+    let mut bytes = fixtures::FRESH_5;
+    let left = [0, 1, 1, 1, 1, 1, 1, 1, 1, 1];
+    mark_part(
+        t,
+        5,
+        &fixtures::CROSSED,
+        &mut bytes,
+        sheet,
+        32,
+        0,
+        0,
+        1,
+        &left,
+    )
+}
+
+// Two cases with a split, the second closed by a crossing.
+fn a_crossing(t: Tally) -> Tally {
+    let mut sheet = [0u16; 56];
+    put(&mut sheet, 0, &[1, 1, 2, 0, 0, 4, 2, 0]);
+    put(&mut sheet, 1, &[2, 1, 5, 0, 0, 2, 0, 3]);
+    put(&mut sheet, 2, &[2, 2, 5, 0, 0, 3, 4, 0]);
+    put(&mut sheet, 3, &[3, 1, 5, 3, 5, 1, 4, 0]);
+    crossed(t, &sheet)
+}
+
+fn accepted(t: Tally) -> Tally {
+    subject(b"mark a sheet: accepted: cases with splits, six splits, a crossing");
+    let t = two_cases(t);
+    let t = six_splits(t);
+    a_crossing(t)
+}
+
+// A case (1,4) twice.
+fn pair_twice(t: Tally) -> Tally {
+    let mut sheet = [0u16; 56];
+    put(&mut sheet, 0, &[1, 1, 2, 0, 0, 3, 2, 0]);
+    put(&mut sheet, 1, &[2, 1, 4, 0, 0, 2, 0, 3]);
+    put(&mut sheet, 2, &[2, 1, 4, 0, 0, 2, 0, 0]);
+    square_made(t, &sheet, 24, 14, 3, 0, &fixtures::FRESH_4)
+}
+
+// A chain whose last record is 2, though 3 was entered; (3,4) is left.
+fn ends_above(t: Tally) -> Tally {
+    let mut sheet = [0u16; 56];
+    put(&mut sheet, 0, &[1, 1, 3, 0, 0, 1, 2, 0]);
+    put(&mut sheet, 1, &[2, 2, 3, 0, 0, 1, 3, 0]);
+    put(&mut sheet, 2, &[2, 2, 3, 0, 0, 4, 0, 0]);
+    square_made(t, &sheet, 24, 14, 2, 0, &fixtures::FRESH_4)
+}
+
+// 14: a wrong pair.
+fn wrong_pair(t: Tally) -> Tally {
+    subject(
+        b"mark a sheet: 14: not the next pair, its points the wrong way round, a pair too many, a pair twice",
+    );
+    let t = square(t, &[1, 1, 2, 0, 0, 3, 2, 0, 2, 2, 4, 0, 0, 1, 0, 0], 14, 2);
+    let t = square(t, &[1, 1, 2, 0, 0, 3, 2, 0, 2, 4, 1, 0, 0, 2, 0, 0], 14, 2);
+    let t = square(t, &[1, 1, 3, 0, 0, 2, 2, 0, 2, 1, 4, 0, 0, 2, 0, 0], 14, 2);
+    pair_twice(t)
+}
+
+// 14: a chain that ends early.
+fn ends_early(t: Tally) -> Tally {
+    subject(b"mark a sheet: 14: a chain ends early: its last record, or the owner of an empty one");
+    let t = square(t, &[1, 1, 2, 0, 0, 3, 2, 0, 2, 1, 4, 0, 0, 2, 0, 0], 14, 2);
+    let t = ends_above(t);
+    let t = square(t, &[1, 1, 2, 0, 0, 3, 0, 0], 14, 1);
+    square(t, &[1, 1, 2, 0, 0, 3, 2, 0, 2, 1, 4, 0, 0, 3, 0, 0], 14, 2)
+}
+
+// 13, and the order at the case with the seventh split.
+fn seventh_split(t: Tally) -> Tally {
+    subject(b"mark a sheet: 13, after 10, 11 and 14, before 8, 9 and 14 of its own split");
+    // Nothing stands at 2, and (1,4) does at 3.
+    let t = seventh(t, 1, 4, 0, 2, 0, 13);
+    let t = seventh(t, 1, 4, 1, 2, 0, 10);
+    let t = seventh(t, 1, 4, 0, 5, 0, 11);
+    let t = seventh(t, 2, 4, 0, 2, 0, 14);
+    let t = seventh(t, 1, 4, 0, 2, 8, 13);
+    let t = seventh(t, 1, 4, 0, 2, 7, 13);
+    seventh(t, 1, 4, 0, 3, 0, 13)
+}
+
+// 15: each condition of a crossing, broken alone.
+fn crossing_conditions(t: Tally) -> Tally {
+    subject(b"mark a sheet: 15: pq not in K; r = s; r = p, r = q, s = p, s = q; rs in K");
+    let t = in_cycle(t, 2, 3, 1, 4, 15);
+    let t = in_cycle(t, 3, 4, 1, 1, 15);
+    let t = in_cycle(t, 1, 2, 1, 4, 15);
+    let t = in_cycle(t, 2, 1, 1, 4, 15);
+    let t = in_cycle(t, 1, 2, 4, 1, 15);
+    let t = in_cycle(t, 2, 1, 4, 1, 15);
+    in_cycle(t, 2, 4, 1, 3, 15)
+}
+
+fn centre_edges(t: Tally) -> Tally {
+    subject(b"mark a sheet: 15: r has one edge; s has one; r or s has none");
+    let t = in_path(t, 1, 3, 2, 4, 15);
+    let t = in_path(t, 1, 3, 4, 2, 15);
+    let t = in_part(t, 3, 4, 5, 1, 15);
+    in_part(t, 3, 4, 1, 5, 15)
+}
+
+// 16, and the order at a crossing.
+fn no_saving(t: Tally) -> Tally {
+    subject(b"mark a sheet: 16, after 11 and 14, before 8 and 9 of its next index");
+    let t = in_tour(t, 2, 4, 1, 2, 3, 5, 0, 16);
+    let t = in_tour(t, 2, 2, 1, 2, 3, 5, 0, 11);
+    let t = in_tour(t, 4, 2, 1, 2, 3, 5, 0, 14);
+    let t = in_tour(t, 2, 4, 1, 2, 3, 5, 4, 16);
+    in_tour(t, 2, 4, 1, 2, 3, 5, 3, 16)
+}
+
+fn crossing_order(t: Tally) -> Tally {
+    subject(b"mark a sheet: 15 after 11 and 14, before 16, and before 8 and 9 of its next index");
+    let t = in_tour(t, 2, 4, 1, 1, 3, 5, 0, 15);
+    let t = in_tour(t, 2, 4, 1, 1, 3, 0, 0, 11);
+    let t = in_tour(t, 4, 2, 1, 1, 3, 5, 0, 14);
+    let t = in_tour(t, 2, 4, 1, 1, 3, 5, 4, 15);
+    let t = in_tour(t, 2, 4, 1, 1, 3, 5, 3, 15);
+    // 3-4 is in K, and no labelling saves.
+    in_tour(t, 2, 4, 1, 2, 3, 4, 0, 15)
+}
+
+// The order at a case: 10, 11, 14, then its own split.
+fn case_order(t: Tally) -> Tally {
+    subject(b"mark a sheet, at a case: 10 before 11 and 14; 11 before 14; 14 before 8 and 9");
+    let t = square(t, &[1, 1, 2, 0, 0, 3, 2, 0, 2, 1, 5, 1, 0, 2, 0, 0], 10, 2);
+    let t = square(t, &[1, 1, 2, 0, 0, 3, 2, 0, 2, 2, 4, 0, 1, 2, 0, 0], 10, 2);
+    let t = square(t, &[1, 1, 2, 0, 0, 3, 2, 0, 2, 2, 4, 0, 0, 5, 0, 0], 11, 2);
+    let t = square(t, &[1, 1, 2, 0, 0, 3, 2, 0, 2, 2, 4, 0, 0, 2, 3, 0], 14, 2);
+    square(t, &[1, 1, 2, 0, 0, 3, 2, 0, 2, 2, 4, 0, 0, 2, 2, 0], 14, 2)
+}
+
+pub fn run(t: Tally) -> Tally {
+    let t = accepted(t);
+    let t = wrong_pair(t);
+    let t = ends_early(t);
+    let t = seventh_split(t);
+    let t = crossing_conditions(t);
+    let t = centre_edges(t);
+    let t = no_saving(t);
+    let t = crossing_order(t);
+    case_order(t)
+}

@@ -1,0 +1,278 @@
+// "List pairs" on the square: each refusal and their order. A refused call leaves the list as it was, all 9.
+use crate::sheets::given_text;
+use crate::tally::Tally;
+use crate::tally::figure;
+use crate::tally::numbers;
+use crate::tally::same_numbers;
+use crate::tally::some_lengths;
+use crate::tally::some_marks;
+use crate::tally::some_numbers;
+use crate::tally::subject;
+use crate::tally::text;
+use marking::listing::Listed;
+use marking::listing::list_pairs;
+
+// A list that nothing was written to.
+const UNTOUCHED: [u16; 8] = [9, 9, 9, 9, 9, 9, 9, 9];
+
+// The refusal number, or 0.
+fn number_of(listed: Listed) -> u64 {
+    match listed {
+        Listed::Pairs(_) => 0,
+        Listed::Refused(number) => number as u64,
+    }
+}
+
+// The number of pairs, or 0.
+fn count_of(listed: Listed) -> u64 {
+    match listed {
+        Listed::Pairs(count) => count as u64,
+        Listed::Refused(_) => 0,
+    }
+}
+
+// Writes an answer with what is left in the list.
+fn answer(number: u64, count: u64, left: &[u16]) {
+    figure(b" ", number);
+    figure(b" pairs ", count);
+    text(b" list");
+    numbers(left);
+}
+
+// Holds an answer and what is left in the list to what they should be.
+fn hold(
+    t: Tally,
+    got: u64,
+    found: u64,
+    list: &[u16; 8],
+    number: u64,
+    count: u64,
+    left: &[u16; 8],
+) -> Tally {
+    answer(got, found, list);
+    text(b", should be");
+    answer(number, count, left);
+    let same = same_numbers(list, left);
+    t.judged(got == number && found == count && same)
+}
+
+// Writes the question: K = {ab}, the split point c, and how many places the list has.
+fn question(a: u16, b: u16, c: u16, places: usize) {
+    figure(b" edge ", a as u64);
+    figure(b" ", b as u64);
+    figure(b" split ", c as u64);
+    figure(b", places ", places as u64);
+    text(b":");
+}
+
+// Lists the pairs of ab at c, of the square as `sheets::given` lends it, into so many places.
+fn pairs(
+    t: Tally,
+    n: u32,
+    entries: usize,
+    first: u32,
+    bytes: usize,
+    mark_1: u8,
+    a: u16,
+    b: u16,
+    c: u16,
+    places: usize,
+    number: u64,
+    count: u64,
+    left: &[u16; 8],
+) -> Tally {
+    given_text(b"pairs,", n, entries, first, bytes, mark_1);
+    question(a, b, c, places);
+    let table = [first, 14, 10, 10, 14, 10, 10];
+    let marks = [mark_1, 1, 1, 1, 1, 1, 1];
+    let mut list = UNTOUCHED;
+    let k = some_lengths(entries, &table);
+    let m = some_marks(bytes, &marks);
+    let p = some_numbers(places, &list);
+    let listed = list_pairs(n, &table[..k], &marks[..m], a, b, c, &mut list[..p]);
+    hold(
+        t,
+        number_of(listed),
+        count_of(listed),
+        &list,
+        number,
+        count,
+        left,
+    )
+}
+
+// The same, where the pairs are listed.
+fn listed(
+    t: Tally,
+    mark_1: u8,
+    a: u16,
+    b: u16,
+    c: u16,
+    places: usize,
+    count: u64,
+    left: &[u16; 8],
+) -> Tally {
+    pairs(t, 4, 6, 10, 6, mark_1, a, b, c, places, 0, count, left)
+}
+
+// The same, where the question is refused.
+fn asked(t: Tally, mark_1: u8, a: u16, b: u16, c: u16, places: usize, number: u64) -> Tally {
+    pairs(
+        t,
+        4,
+        6,
+        10,
+        6,
+        mark_1,
+        a,
+        b,
+        c,
+        places,
+        number,
+        0,
+        &UNTOUCHED,
+    )
+}
+
+// The same, where what is lent is refused, though nothing is wrong with the question.
+fn lent(
+    t: Tally,
+    n: u32,
+    entries: usize,
+    first: u32,
+    bytes: usize,
+    mark_1: u8,
+    number: u64,
+) -> Tally {
+    pairs(
+        t,
+        n,
+        entries,
+        first,
+        bytes,
+        mark_1,
+        1,
+        2,
+        3,
+        8,
+        number,
+        0,
+        &UNTOUCHED,
+    )
+}
+
+// The same with a = b.
+fn lent_point(t: Tally, n: u32, entries: usize, first: u32, bytes: usize, number: u64) -> Tally {
+    pairs(
+        t,
+        n,
+        entries,
+        first,
+        bytes,
+        1,
+        1,
+        1,
+        3,
+        8,
+        number,
+        0,
+        &UNTOUCHED,
+    )
+}
+
+// The same with a list of no places.
+fn lent_no_list(t: Tally, n: u32, entries: usize, first: u32, bytes: usize, number: u64) -> Tally {
+    pairs(
+        t,
+        n,
+        entries,
+        first,
+        bytes,
+        1,
+        1,
+        2,
+        3,
+        0,
+        number,
+        0,
+        &UNTOUCHED,
+    )
+}
+
+// What is listed: places past the list keep their nines, and a struck edge has no pair.
+fn accepted(t: Tally) -> Tally {
+    subject(b"list pairs: places past the list keep their old numbers");
+    let t = listed(t, 1, 1, 2, 3, 4, 2, &[1, 4, 2, 4, 9, 9, 9, 9]);
+    let t = listed(t, 1, 2, 1, 3, 8, 2, &[1, 4, 2, 4, 9, 9, 9, 9]);
+    let t = listed(t, 1, 1, 3, 2, 0, 0, &UNTOUCHED);
+    let t = listed(t, 1, 3, 4, 1, 8, 2, &[2, 3, 2, 4, 9, 9, 9, 9]);
+    listed(t, 0, 3, 4, 1, 8, 0, &UNTOUCHED)
+}
+
+fn lendings(t: Tally) -> Tally {
+    subject(b"list pairs: 1, 2, 5, 6");
+    let t = lent(t, 3, 3, 10, 3, 1, 1);
+    let t = lent(t, 181, 6, 10, 6, 1, 1);
+    let t = lent(t, 4, 5, 10, 6, 1, 2);
+    let t = lent(t, 4, 7, 10, 6, 1, 2);
+    let t = lent(t, 4, 6, 2_000_001, 6, 1, 5);
+    let t = lent(t, 4, 6, 10, 5, 1, 6);
+    let t = lent(t, 4, 6, 10, 7, 1, 6);
+    lent(t, 4, 6, 10, 6, 2, 6)
+}
+
+fn questions(t: Tally) -> Tally {
+    subject(b"list pairs: 11, 12, 18");
+    let t = asked(t, 1, 0, 2, 3, 8, 11);
+    let t = asked(t, 1, 5, 2, 3, 8, 11);
+    let t = asked(t, 1, 1, 0, 3, 8, 11);
+    let t = asked(t, 1, 1, 5, 3, 8, 11);
+    let t = asked(t, 1, 1, 2, 0, 8, 11);
+    let t = asked(t, 1, 1, 2, 5, 8, 11);
+    let t = asked(t, 1, 1, 1, 3, 8, 11);
+    let t = asked(t, 0, 1, 2, 3, 8, 12);
+    let t = asked(t, 1, 1, 2, 3, 0, 18);
+    asked(t, 1, 1, 2, 3, 3, 18)
+}
+
+fn points_first(t: Tally) -> Tally {
+    subject(b"list pairs: 1 before 2, 5, 6, 11, 12, 18");
+    let t = lent(t, 3, 6, 10, 3, 1, 1);
+    let t = lent(t, 3, 3, 2_000_001, 3, 1, 1);
+    let t = lent(t, 3, 3, 10, 3, 2, 1);
+    let t = lent_point(t, 3, 3, 10, 3, 1);
+    let t = lent(t, 3, 3, 10, 3, 0, 1);
+    lent_no_list(t, 3, 3, 10, 3, 1)
+}
+
+fn table_first(t: Tally) -> Tally {
+    subject(b"list pairs: 2 before 5, 6, 11, 12, 18; 5 before 6, 11, 12, 18");
+    let t = lent(t, 4, 5, 2_000_001, 6, 1, 2);
+    let t = lent(t, 4, 5, 10, 5, 1, 2);
+    let t = lent_point(t, 4, 5, 10, 6, 2);
+    let t = lent(t, 4, 5, 10, 6, 0, 2);
+    let t = lent_no_list(t, 4, 5, 10, 6, 2);
+    let t = lent(t, 4, 6, 2_000_001, 5, 1, 5);
+    let t = lent_point(t, 4, 6, 2_000_001, 6, 5);
+    let t = lent(t, 4, 6, 2_000_001, 6, 0, 5);
+    lent_no_list(t, 4, 6, 2_000_001, 6, 5)
+}
+
+fn marks_first(t: Tally) -> Tally {
+    subject(b"list pairs: 6 before 11, 12, 18; 11 before 12, 18; 12 before 18");
+    let t = lent_point(t, 4, 6, 10, 5, 6);
+    let t = lent(t, 4, 6, 10, 5, 0, 6);
+    let t = lent_no_list(t, 4, 6, 10, 5, 6);
+    let t = asked(t, 0, 1, 2, 5, 8, 11);
+    let t = asked(t, 1, 1, 1, 3, 0, 11);
+    asked(t, 0, 1, 2, 3, 0, 12)
+}
+
+pub fn run(t: Tally) -> Tally {
+    let t = accepted(t);
+    let t = lendings(t);
+    let t = questions(t);
+    let t = points_first(t);
+    let t = table_first(t);
+    marks_first(t)
+}
