@@ -43,5 +43,9 @@ bisect-least {test} grows (suc k) from below top =
     halve true h lower upper = rw (bisect-passed test k from h) (lower h)
     halve false h lower upper = rw (bisect-failed test k from h) (upper h)
 
+-- what passes next to a number that fails is the least
+pub least-after : {test : ℕ → Bool} → Growing test → (d e : ℕ) → e ≤ d + 1 → test d ≡ false → test e ≡ true → Least test e
+least-after grows d e h f t = record { passed = t; least = λ n p. omega (arith, fails-below grows d n f p) }
+
 pub least-unique : {test : ℕ → Bool} {d e : ℕ} → Least test d → Least test e → d ≡ e
 least-unique {d = d} {e} l m = le-antisymm (l .least e (m .passed)) (m .least d (l .passed))

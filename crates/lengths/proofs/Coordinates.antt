@@ -4,6 +4,7 @@ use mathlib.Core.Path.{_≡_, ap₂}
 use mathlib.Core.List.{List}
 use native.Mathlib.Nat.{mul-le-mul, add-comm}
 use native.Mathlib.Omega.{arith}
+use Rattle.lengths.specs.Distance.{Gaps}
 use Rattle.lengths.specs.Measure.{xOf, yOf, gapOf, squares, Located}
 
 pub gap-up : {a b : ℕ} → a < b → b - a ≡ gapOf a b
@@ -29,16 +30,16 @@ squares-symmetric cs a b =
 
 -- where the coordinates are within the limit, so are their differences r and q, whose squares add up to at most 2,000,000,000,000
 module _ {cs : List ℕ} {a b r q : ℕ} (at : Located cs a b) (x : r ≡ gapOf (xOf cs a) (xOf cs b)) (y : q ≡ gapOf (yOf cs a) (yOf cs b)) where
-  pub x-small : r ≤ 1000000
+  x-small : r ≤ 1000000
   unfolding xOf
   x-small = rw x (gap-small (at .small _ (omega (arith, at))) (at .small _ (omega (arith, at))))
 
-  pub y-small : q ≤ 1000000
+  y-small : q ≤ 1000000
   unfolding yOf
   y-small = rw y (gap-small (at .small _ (omega (arith, at))) (at .small _ (omega (arith, at))))
 
-  pub squares-small : r * r + q * q ≤ 2000000000000
-  squares-small = omega (arith, mul-le-mul x-small x-small, mul-le-mul y-small y-small)
+  pub gaps : Gaps (r * r + q * q) r q
+  gaps = record { sum = omega (arith, mul-le-mul x-small x-small, mul-le-mul y-small y-small); x = x-small; y = y-small }
 
   pub squares-is : r * r + q * q ≡ squares cs a b
   unfolding squares

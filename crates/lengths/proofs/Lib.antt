@@ -4,6 +4,7 @@ pub mod Coordinates
 pub mod Distances
 pub mod Edges
 pub mod Filling
+pub mod Guesses
 pub mod Instances
 pub mod Limits
 pub mod Measuring

@@ -1,4 +1,4 @@
--- The loop of `distance`: what holds at its head, and that each half keeps it. Assumes nothing.
+-- The loop of `by_halving`: what holds at its head, and that each half keeps it. Assumes nothing.
 use Prim.Native.Nat.{ℕ, suc, _+_, _-_, _/_, _^_, _≤_, _<_}
 use mathlib.Core.Path.{_≡_, refl, sym, _∙_, ap, subst}
 use mathlib.Core.Bool.{true, false}

@@ -45,6 +45,24 @@ pub record Distance (rule : Rule) (s d : ℕ) : Type 0 where
   pub at : d ≡ distanceBy rule s
   pub bits : d < 2 ^ 21
 
+-- the guess is at most one from the least number that passes: two below it fails, one above it passes
+pub record Close (rule : Rule) (s guess : ℕ) : Type 0 where
+  pub low : 2 ≤ guess
+  pub high : guess ≤ 2000000
+  pub failed : passes rule s (guess - 2) ≡ false
+  pub passed : passes rule s (guess + 1) ≡ true
+
+-- how far to go from a number whose test answers so, to reach one that passes or is untried
+unfoldable pub stepFrom : Bool → ℕ
+stepFrom true = 0
+stepFrom false = 1
+
+-- what a guess is made from: the gaps of two points of an instance, and a sum of their squares
+pub record Gaps (s dx dy : ℕ) : Type 0 where
+  pub sum : s ≤ 2000000000000
+  pub x : dx ≤ 1000000
+  pub y : dy ≤ 1000000
+
 -- 01's rule 1: (2d - 1)² ≤ 4S < (2d + 1)², and d = 0 for S = 0
 pub record IsEuc2d (s d : ℕ) : Type 0 where
   pub none : s ≡ 0 → d ≡ 0

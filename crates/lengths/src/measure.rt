@@ -2,6 +2,7 @@
 use crate::distance::NamedRule;
 use crate::distance::Rule;
 use crate::distance::distance;
+use crate::distance::guess;
 use crate::edge;
 use crate::instance::Admission;
 use crate::instance::Instance;
@@ -36,7 +37,8 @@ fn between(rule: Rule, coordinates: &[u32], a: u16, b: u16) -> u32
     let j = 2 * (b as usize - 1);
     let dx = gap(coordinates[i], coordinates[j]);
     let dy = gap(coordinates[i + 1], coordinates[j + 1]);
-    distance(rule, dx * dx + dy * dy) as u32
+    let s = dx * dx + dy * dy;
+    distance(rule, s, guess(s, dx, dy)) as u32
 }
 
 // Writes the distance of each edge to its place.

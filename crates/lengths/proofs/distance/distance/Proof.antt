@@ -1,65 +1,51 @@
--- `lengths::distance::distance` meets its contract: the loop is the search by halves of the definition. Assumes nothing.
+-- `lengths::distance::distance` meets its contract: a close guess is corrected, and any other leaves the search. Assumes nothing.
 use native.Mathlib.Omega.{arith}
+use Rattle.lengths.proofs.Guesses.{step-small, corrected}
 use borrow.Author.Needs.{needs}
-use borrow.Author.Tests.{not-true, not-false}
-use mathlib.Core.Path.{sym, _∙_}
-use Rattle.lengths.proofs.Searching.{Searching, half, lower, upper, start, found}
 use Rattle.lengths.proofs.distance.distance.Statement.{statement}
 use Rattle.lengths.proofs.distance.distance.Tie as tie
 
-abbrev Inv-loop : tie.InvT-loop
-Inv-loop rule s least₀ width₀ bits₀ least width bits = Searching rule s least width bits
+is-close-requires : tie.Need-is-close-requires
+is-close-requires c κs = search needs
 
-abbrev μ-loop : tie.MeasureT-loop
-μ-loop rule s least₀ width₀ bits₀ least width bits = bits
+sub-result : tie.Need-sub-result
+sub-result c = omega (arith, c .before .is-close .ensures (c .if1 .taken))
 
-loop-holds : tie.Need-loop-holds Inv-loop μ-loop
-loop-holds c = start _ _
+sub-step : tie.Need-sub-step
+sub-step c = omega (arith, c .before .is-close .ensures (c .if1 .taken))
 
-sub-bits : tie.Need-sub-bits Inv-loop μ-loop
-sub-bits c = search needs
+step-requires : tie.Need-step-requires
+step-requires c κs = record { sum = c .before .before .pre; bits = omega (arith, c .before .is-close .ensures (c .if1 .taken)) }
 
-add-test : tie.Need-add-test Inv-loop μ-loop
-add-test c = search needs
+add-result : tie.Need-add-result
+add-result c = record { fits = omega (arith, c .before .before .is-close .ensures (c .before .if1 .taken), step-small _ (c .step .ensures)) }
 
-sub-test : tie.Need-sub-test Inv-loop μ-loop
-sub-test c = omega (arith, half (c .before .loop .inv .wide) (c .loop-test .taken))
+step-requires-2 : tie.Need-step-requires-2
+step-requires-2 c κs = record { sum = c .before .before .before .pre; bits = omega (arith, c .before .before .is-close .ensures (c .before .if1 .taken)) }
 
-test-requires : tie.Need-test-requires Inv-loop μ-loop
-test-requires c κs = search needs
+add-result-2 : tie.Need-add-result-2
+add-result-2 c = record { fits = omega (arith, c .before .before .before .is-close .ensures (c .before .before .if1 .taken), step-small _ (c .before .step .ensures), step-small _ (c .step2 .ensures)) }
 
-add-least : tie.Need-add-least Inv-loop μ-loop
-add-least c = search needs
+returns : tie.Need-returns
+returns c = corrected (c .before .before .before .before .pre) (c .before .before .before .is-close .ensures (c .before .before .if1 .taken)) (c .before .step .ensures) (c .step2 .ensures)
 
-loop-less : tie.Need-loop-less Inv-loop μ-loop
-loop-less c = search needs
+by-halving-requires : tie.Need-by-halving-requires
+by-halving-requires c κs = search needs
 
-loop-again : tie.Need-loop-again Inv-loop μ-loop
-loop-again c = upper (c .before .before .before .loop .inv) (c .before .before .loop-test .taken) (sym (c .before .test .ensures) ∙ not-true _ (c .if1 .taken))
-
-loop-less-2 : tie.Need-loop-less-2 Inv-loop μ-loop
-loop-less-2 c = search needs
-
-loop-again-2 : tie.Need-loop-again-2 Inv-loop μ-loop
-loop-again-2 c = lower (c .before .before .before .loop .inv) (c .before .before .loop-test .taken) (sym (c .before .test .ensures) ∙ not-false _ (c .if1 .left))
-
-returns : tie.Need-returns Inv-loop μ-loop
-returns c = found (c .before .loop .inv) (c .loop-test .left)
+returns-2 : tie.Need-returns-2
+returns-2 c = search needs
 
 pub distance-spec : {M : Type 1} → statement M
 distance-spec =
     tie.close
     (tie.spec
-    Inv-loop
-    μ-loop
-    loop-holds
-    sub-bits
-    add-test
-    sub-test
-    test-requires
-    add-least
-    loop-less
-    loop-again
-    loop-less-2
-    loop-again-2
-    returns)
+    is-close-requires
+    sub-result
+    sub-step
+    step-requires
+    add-result
+    step-requires-2
+    add-result-2
+    returns
+    by-halving-requires
+    returns-2)

@@ -3,7 +3,7 @@ use mathlib.Core.Path.{_∙_, ap}
 use native.Mathlib.Omega.{arith}
 use Rattle.lengths.specs.Distance.{distanceBy}
 use Rattle.lengths.specs.Measure.{xOf, yOf}
-use Rattle.lengths.proofs.Coordinates.{x-small, y-small, squares-small, squares-is}
+use Rattle.lengths.proofs.Coordinates.{gaps, squares-is}
 use Rattle.lengths.proofs.Products.{product-fits}
 use borrow.Author.Needs.{needs}
 use Rattle.lengths.proofs.measure.between.Statement.{statement}
@@ -57,21 +57,29 @@ shared-slice-read-gap-4 c = search needs
 gap-requires-2 : tie.Need-gap-requires-2
 gap-requires-2 c κs = search needs
 
-mul-distance : tie.Need-mul-distance
+mul-s : tie.Need-mul-s
 unfolding xOf yOf
-mul-distance c = product-fits 1000000 1000000 (x-small (c .before .before .before .before .before .before .before .pre) (c .before .before .before .gap .ensures) (c .gap2 .ensures)) (x-small (c .before .before .before .before .before .before .before .pre) (c .before .before .before .gap .ensures) (c .gap2 .ensures)) tt
+mul-s c =
+    let g = gaps (c .before .before .before .before .before .before .before .pre) (c .before .before .before .gap .ensures) (c .gap2 .ensures) in
+    product-fits 1000000 1000000 (g .x) (g .x) tt
 
-mul-distance-2 : tie.Need-mul-distance-2
+mul-s-2 : tie.Need-mul-s-2
 unfolding xOf yOf
-mul-distance-2 c = product-fits 1000000 1000000 (y-small (c .before .before .before .before .before .before .before .pre) (c .before .before .before .gap .ensures) (c .gap2 .ensures)) (y-small (c .before .before .before .before .before .before .before .pre) (c .before .before .before .gap .ensures) (c .gap2 .ensures)) tt
+mul-s-2 c =
+    let g = gaps (c .before .before .before .before .before .before .before .pre) (c .before .before .before .gap .ensures) (c .gap2 .ensures) in
+    product-fits 1000000 1000000 (g .y) (g .y) tt
 
-add-distance : tie.Need-add-distance
+add-s : tie.Need-add-s
 unfolding xOf yOf
-add-distance c = record { fits = omega (arith, squares-small (c .before .before .before .before .before .before .before .pre) (c .before .before .before .gap .ensures) (c .gap2 .ensures)) }
+add-s c = record { fits = omega (arith, gaps (c .before .before .before .before .before .before .before .pre) (c .before .before .before .gap .ensures) (c .gap2 .ensures)) }
+
+guess-requires : tie.Need-guess-requires
+unfolding xOf yOf
+guess-requires c κs = gaps (c .before .before .before .before .before .before .before .pre) (c .before .before .before .gap .ensures) (c .gap2 .ensures)
 
 distance-requires : tie.Need-distance-requires
 unfolding xOf yOf
-distance-requires c κs = squares-small (c .before .before .before .before .before .before .before .pre) (c .before .before .before .gap .ensures) (c .gap2 .ensures)
+distance-requires c κs = gaps (c .before .before .before .before .before .before .before .before .pre) (c .before .before .before .before .gap .ensures) (c .before .gap2 .ensures) .sum
 
 cast-result : tie.Need-cast-result
 cast-result c = search needs
@@ -80,7 +88,7 @@ returns : tie.Need-returns
 unfolding xOf yOf
 returns c =
     c .distance .ensures .at
-    ∙ ap (distanceBy _) (squares-is (c .before .before .before .before .before .before .before .before .pre) (c .before .before .before .before .gap .ensures) (c .before .gap2 .ensures))
+    ∙ ap (distanceBy _) (squares-is (c .before .before .before .before .before .before .before .before .before .pre) (c .before .before .before .before .before .gap .ensures) (c .before .before .gap2 .ensures))
 
 pub between-spec : {M : Type 1} → statement M
 between-spec =
@@ -102,9 +110,10 @@ between-spec =
     mul-gap-4
     shared-slice-read-gap-4
     gap-requires-2
-    mul-distance
-    mul-distance-2
-    add-distance
+    mul-s
+    mul-s-2
+    add-s
+    guess-requires
     distance-requires
     cast-result
     returns)
