@@ -1,7 +1,7 @@
 -- The test of a limit, one number after the other, and what it says of each. Assumes nothing.
 use Prim.Native.Nat.{ℕ, zero, suc, _+_, _≤_, _<_}
-use mathlib.Core.Path.{_≡_}
-use mathlib.Core.Bool.{true, false}
+use mathlib.Core.Path.{_≡_, refl}
+use mathlib.Core.Bool.{Bool, true, false, _&&_, and-true, and-false}
 use mathlib.Core.List.{List, [], _∷_}
 use native.Mathlib.Nat.{le-of-suc-le-suc}
 use native.Mathlib.Numerals.{add-one}
@@ -13,21 +13,35 @@ use borrow.Author.Tests.{le-leb, lt-leb, leb-true}
 use Rattle.lengths.specs.Test.{allAtMost, AtMost}
 use Rattle.lengths.proofs.Bools.{and-left, and-right}
 
-module _ (limit : ℕ) (xs : List ℕ) (i : ℕ) where
-  -- a number within the limit is passed over
-  pub limit-pass : i < length xs → getD xs i 0 ≤ limit → allAtMost limit (drop i xs) ≡ allAtMost limit (drop (i + 1) xs)
-  unfolding allAtMost
-  limit-pass h g = rw (add-one, drop-cons xs i 0 h, le-leb (getD xs i 0) limit g)
+-- the loop of the test, at number i: `within` and the numbers that are left say what the test of all says
+pub record Looked (limit : ℕ) (xs : List ℕ) (within : Bool) (i : ℕ) : Type 0 where
+  pub inside : i ≤ length xs
+  pub same : (within && allAtMost limit (drop i xs)) ≡ allAtMost limit xs
 
-  -- one above it fails the test
-  pub limit-stop : i < length xs → limit < getD xs i 0 → allAtMost limit (drop i xs) ≡ false
+module _ {limit : ℕ} {xs : List ℕ} {within : Bool} {i : ℕ} (at : Looked limit xs within i) where
+  -- a number within the limit changes nothing
+  pub look-pass : {next : Bool} → i < length xs → getD xs i 0 ≤ limit → next ≡ within → Looked limit xs next (i + 1)
   unfolding allAtMost
-  limit-stop h g = rw (drop-cons xs i 0 h, lt-leb (getD xs i 0) limit g)
+  look-pass h g e = record {
+    inside = omega arith;
+    same = rw (e, add-one) (rw (drop-cons xs i 0 h, le-leb (getD xs i 0) limit g) at (at .same));
+  }
 
-  -- nothing is left to fail it
-  pub limit-done : length xs ≤ i → true ≡ allAtMost limit (drop i xs)
+  -- one above it decides
+  pub look-stop : {next : Bool} → i < length xs → limit < getD xs i 0 → next ≡ false → Looked limit xs next (i + 1)
   unfolding allAtMost
-  limit-done h = rw (drop-of-length-le xs h)
+  look-stop h g e = record {
+    inside = omega arith;
+    same = rw e (rw (drop-cons xs i 0 h, lt-leb (getD xs i 0) limit g, and-false) at (at .same));
+  }
+
+  -- where no number is left, `within` is the answer
+  pub look-done : length xs ≤ i → within ≡ allAtMost limit xs
+  unfolding allAtMost
+  look-done h = rw (drop-of-length-le xs h, and-true) at (at .same)
+
+pub look-start : (limit : ℕ) (xs : List ℕ) → Looked limit xs true 0
+look-start limit xs = record { inside = omega arith; same = refl }
 
 -- the test says that each number is within the limit
 pub limit-each : (limit : ℕ) (xs : List ℕ) → allAtMost limit xs ≡ true → AtMost limit xs

@@ -6,12 +6,13 @@ ghost use Rattle.lengths.specs.Test.{allAtMost};
 pub fn all_at_most(numbers: &[u32], limit: u32) -> bool
     ensures { λ r. ⌜ r ≡ allAtMost limit (now (numbers .entry)) ⌝ }
 {
+    let mut within = true;
     let mut i = 0;
     while i < numbers.len() {
         if limit < numbers[i] {
-            return false;
+            within = false;
         }
         i += 1;
     }
-    true
+    within
 }

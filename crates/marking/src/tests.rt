@@ -18,14 +18,15 @@ pub enum Tested {
 fn marks_within(marks: &[u8]) -> bool
     ensures { λ r. ⌜ r ≡ allAtMost 1 (now (marks .entry)) ⌝ }
 {
+    let mut within = true;
     let mut i = 0;
     while i < marks.len() {
         if 1 < marks[i] {
-            return false;
+            within = false;
         }
         i += 1;
     }
-    true
+    within
 }
 
 // Tests 1, 2, 5 and 6: the number of points, the table's size and its entries, the marks' size and their bytes.
