@@ -2,6 +2,7 @@
 use Prim.Native.Nat.{ℕ, zero, suc, _+_, _≤_, _<_}
 use mathlib.Core.Path.{_≡_, refl}
 use mathlib.Core.Bool.{Bool, true, false, _&&_, and-true, and-false}
+use mathlib.Core.Logic.{_⊎_, inl, inr}
 use mathlib.Core.List.{List, [], _∷_}
 use native.Mathlib.Nat.{le-of-suc-le-suc}
 use native.Mathlib.Numerals.{add-one}
@@ -19,20 +20,17 @@ pub record Looked (limit : ℕ) (xs : List ℕ) (within : Bool) (i : ℕ) : Type
   pub same : (within && allAtMost limit (drop i xs)) ≡ allAtMost limit xs
 
 module _ {limit : ℕ} {xs : List ℕ} {within : Bool} {i : ℕ} (at : Looked limit xs within i) where
-  -- a number within the limit changes nothing
-  pub look-pass : {next : Bool} → i < length xs → getD xs i 0 ≤ limit → next ≡ within → Looked limit xs next (i + 1)
+  -- one turn, by the way that its branch went: A, a number above the limit decides; B, any other changes nothing
+  pub look-on : {next : Bool} {A B : Type 0} → i < length xs → (A → limit < getD xs i 0) → (B → getD xs i 0 ≤ limit)
+      → (A × (next ≡ false)) ⊎ (B × (next ≡ within)) → Looked limit xs next (i + 1)
   unfolding allAtMost
-  look-pass h g e = record {
+  look-on h above below (inl (a, e)) = record {
     inside = omega arith;
-    same = rw (e, add-one) (rw (drop-cons xs i 0 h, le-leb (getD xs i 0) limit g) at (at .same));
+    same = rw e (rw (drop-cons xs i 0 h, lt-leb (getD xs i 0) limit (above a), and-false) at (at .same));
   }
-
-  -- one above it decides
-  pub look-stop : {next : Bool} → i < length xs → limit < getD xs i 0 → next ≡ false → Looked limit xs next (i + 1)
-  unfolding allAtMost
-  look-stop h g e = record {
+  look-on h above below (inr (b, e)) = record {
     inside = omega arith;
-    same = rw e (rw (drop-cons xs i 0 h, lt-leb (getD xs i 0) limit g, and-false) at (at .same));
+    same = rw (e, add-one) (rw (drop-cons xs i 0 h, le-leb (getD xs i 0) limit (below b)) at (at .same));
   }
 
   -- where no number is left, `within` is the answer

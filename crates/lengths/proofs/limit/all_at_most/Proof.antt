@@ -1,9 +1,8 @@
 -- `lengths::limit::all_at_most` meets its contract: what is found so far and the test of what is left are the test of all. Assumes nothing.
 use Prim.Native.Nat.{_-_}
-use mathlib.Core.Logic.{⊎-elim}
 use borrow.Author.Needs.{needs}
 use lib.ListN.{length}
-use Rattle.lengths.proofs.Limits.{Looked, look-start, look-pass, look-stop, look-done}
+use Rattle.lengths.proofs.Limits.{Looked, look-start, look-on, look-done}
 use Rattle.lengths.proofs.limit.all_at_most.Statement.{statement}
 use Rattle.lengths.proofs.limit.all_at_most.Tie as tie
 
@@ -29,10 +28,7 @@ loop-less : tie.Need-loop-less Inv-loop μ-loop
 loop-less c = search needs
 
 loop-again : tie.Need-loop-again Inv-loop μ-loop
-loop-again c = ⊎-elim
-    (λ w. look-stop (c .before .before .before .loop .inv) (c .before .before .loop-test .taken) (w .0 .taken) (w .1))
-    (λ w. look-pass (c .before .before .before .loop .inv) (c .before .before .loop-test .taken) (w .0 .left) (w .1))
-    (c .if1 .came)
+loop-again c = look-on (c .before .before .before .loop .inv) (c .before .before .loop-test .taken) (λ w. w .taken) (λ w. w .left) (c .if1 .came)
 
 returns : tie.Need-returns Inv-loop μ-loop
 returns c = look-done (c .before .loop .inv) (c .loop-test .left)
