@@ -52,12 +52,12 @@ pub record Close (rule : Rule) (s guess : ℕ) : Type 0 where
   pub failed : passes rule s (guess - 2) ≡ false
   pub passed : passes rule s (guess + 1) ≡ true
 
--- how far to go from a number whose test answers so, to reach one that passes or is untried
+-- how far to go on from a number whose test answers so
 unfoldable pub stepFrom : Bool → ℕ
 stepFrom true = 0
 stepFrom false = 1
 
--- what a guess is made from: the gaps of two points of an instance, and a sum of their squares
+-- what a guess is made from: a sum of squares and two gaps, within an instance's limits
 pub record Gaps (s dx dy : ℕ) : Type 0 where
   pub sum : s ≤ 2000000000000
   pub x : dx ≤ 1000000
