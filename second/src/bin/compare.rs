@@ -1,7 +1,8 @@
 //! Compares Revosti (feature `revosti`), or the naive checker, with the second program.
 //!
-//! `compare [--sheets N] [--seed S] [--case K]`
+//! `compare [--sheets N] [--seed S] [--case K] [--save FOLDER]`; the inputs of the program are kept in the folder.
 
+use std::path::PathBuf;
 use std::process::exit;
 use std::time::Instant;
 
@@ -13,19 +14,21 @@ struct Options {
     sheets: u64,
     seed: u64,
     case: Option<u64>,
+    save: Option<PathBuf>,
 }
 
 fn options() -> Options {
-    let mut options = Options { sheets: 20_000, seed: 1, case: None };
+    let mut options = Options { sheets: 20_000, seed: 1, case: None, save: None };
     let mut words = std::env::args().skip(1);
     while let Some(word) = words.next() {
-        let number = words.next().and_then(|value| value.parse().ok());
-        match (word.as_str(), number) {
-            ("--sheets", Some(number)) => options.sheets = number,
-            ("--seed", Some(number)) => options.seed = number,
-            ("--case", Some(number)) => options.case = Some(number),
+        let value = words.next().unwrap_or_default();
+        match (word.as_str(), value.parse()) {
+            ("--sheets", Ok(number)) => options.sheets = number,
+            ("--seed", Ok(number)) => options.seed = number,
+            ("--case", Ok(number)) => options.case = Some(number),
+            ("--save", _) if !value.is_empty() => options.save = Some(value.into()),
             _ => {
-                eprintln!("compare [--sheets N] [--seed S] [--case K]");
+                eprintln!("compare [--sheets N] [--seed S] [--case K] [--save FOLDER]");
                 exit(2);
             }
         }
@@ -48,6 +51,7 @@ fn main() {
     let other = Guarded(other());
     let start = Instant::now();
     let mut comparison = Comparison::new(&Second, &other, options.seed);
+    comparison.save = options.save;
     let outcome = match options.case {
         Some(case) => comparison.run_case(case),
         None => comparison.run(options.sheets),

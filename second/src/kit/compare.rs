@@ -1,6 +1,7 @@
 //! Two programs on the same inputs; everything that they show is compared.
 
 use std::fmt::{self, Debug, Write};
+use std::path::PathBuf;
 
 use super::boards::{self, Board};
 use super::brute;
@@ -27,6 +28,9 @@ pub struct Comparison<'a> {
     case: u64,
     /// Sheets compared so far.
     pub sheets: u64,
+    /// A folder where each input of the program is kept.
+    pub save: Option<PathBuf>,
+    saved: u64,
     pub coverage: Coverage,
 }
 
@@ -38,7 +42,7 @@ const DAMAGED: usize = 6;
 
 impl<'a> Comparison<'a> {
     pub fn new(one: &'a dyn Checker, other: &'a dyn Checker, seed: u64) -> Self {
-        Comparison { one, other, seed, case: 0, sheets: 0, coverage: Coverage::default() }
+        Comparison { one, other, seed, case: 0, sheets: 0, save: None, saved: 0, coverage: Coverage::default() }
     }
 
     /// Runs cases from 0 on until so many sheets are compared.
@@ -243,11 +247,20 @@ impl<'a> Comparison<'a> {
         if rng.chance(15) {
             spoil::file(rng, board.n, &mut file);
         }
+        self.keep(&file);
         let text = self.one.program(&file);
         let other = self.other.program(&file);
         self.count_program(&text);
         let (text, other) = (String::from_utf8_lossy(&text), String::from_utf8_lossy(&other));
         self.same("program", text, other, || format!("file {}\n", hex(&file)))
+    }
+
+    /// Writes an input of the program to the folder, if there is one.
+    fn keep(&mut self, file: &[u8]) {
+        let Some(folder) = &self.save else { return };
+        self.saved += 1;
+        let path = folder.join(format!("{:06}.sheet", self.saved));
+        std::fs::write(&path, file).unwrap_or_else(|error| panic!("{}: {error}", path.display()));
     }
 
     fn count_program(&mut self, text: &[u8]) {
