@@ -1,14 +1,14 @@
 //! Times the second program and Revosti (feature `revosti`) on the same inputs in the same run.
 //!
 //! `bench [--runs N]` prints a table; `bench --once SIDE NAME` makes one call of one side, for
-//! instruction counts; `bench --names` prints the names of the inputs.
+//! instruction counts; `bench --names` prints the names of the inputs that are counted so.
 
 use std::hint::black_box;
 use std::process::exit;
 use std::time::Instant;
 
 use second::kit::checker::{Checker, Second};
-use second::kit::workloads::{all, Workload};
+use second::kit::workloads::{counted, named, names, Workload};
 
 #[cfg(feature = "revosti")]
 fn sides() -> Vec<Box<dyn Checker>> {
@@ -75,7 +75,7 @@ fn race(workload: &Workload, sides: &[Box<dyn Checker>], runs: usize) {
 fn once(side: &str, name: &str) {
     let sides = sides();
     let side = sides.iter().find(|s| s.name() == side).unwrap_or_else(|| fail("no such side"));
-    let workload = all().into_iter().find(|w| w.name == name).unwrap_or_else(|| fail("no such input"));
+    let workload = named(name).unwrap_or_else(|| fail("no such input"));
     println!("{} {name}: answer {}", side.name(), workload.call.run(&**side, &mut workload.call.buffers()));
 }
 
@@ -91,15 +91,15 @@ fn main() {
         [] => 301,
         ["--runs", runs] => runs.parse().unwrap_or_else(|_| fail("no number")),
         ["--once", side, name] => return once(side, name),
-        ["--names"] => return all().iter().for_each(|w| println!("{}", w.name)),
+        ["--names"] => return counted().iter().for_each(|name| println!("{name}")),
         _ => fail("unknown words"),
     };
     let sides = sides();
-    let names: Vec<&str> = sides.iter().map(|side| side.name()).collect();
-    println!("{runs} runs, sides in turn: {}. Microseconds a run, median (quarters);", names.join(", "));
+    let sides_named: Vec<&str> = sides.iter().map(|side| side.name()).collect();
+    println!("{runs} runs, sides in turn: {}. Microseconds a run, median (quarters);", sides_named.join(", "));
     println!("marks, list and table are set anew before each run, outside the clock;");
     println!("each timed run follows one that is not.");
-    for workload in all() {
+    for workload in names().iter().filter_map(|name| named(name)) {
         race(&workload, &sides, runs);
     }
 }

@@ -2,11 +2,12 @@
 
 use super::boards::{self, Board};
 use super::checker::Checker;
-use super::drafts::sheet_bytes;
+use super::drafts::{sheet_bytes, CaseNote, Draft};
 use super::rng::Rng;
 use super::search::Effort;
 use super::sheets::{self, Plan};
 use crate::lengths::Lengths;
+use crate::sheet::{Record, Sheet};
 
 /// One input with the buffers of a call.
 pub struct Workload {
@@ -72,26 +73,55 @@ impl Call {
 
 const SIZES: [usize; 3] = [30, 90, 180];
 
-/// Marking and listing at 30, 90 and 180 points, and measuring 180.
-pub fn all() -> Vec<Workload> {
-    let mut workloads = Vec::new();
-    for n in SIZES {
-        workloads.push(marking(n, false));
-        workloads.push(marking(n, true));
+/// A split under K of 11 edges: the sheet up to its record, and up to the end of its chain. The instructions between
+/// the two are those of the split; they are counted, not timed.
+const BEFORE: &str = "line 180 before the split under 11 edges";
+const AFTER: &str = "line 180 after the split under 11 edges";
+
+/// The timed inputs: marking and listing at 30, 90 and 180 points, and measuring 180.
+pub fn names() -> Vec<String> {
+    let marking = SIZES.iter().flat_map(|n| ["shallow", "deep"].map(|kind| format!("mark {n} {kind}")));
+    let listing = SIZES.iter().map(|n| format!("list {n}"));
+    marking.chain(listing).chain(["measure 180".to_string()]).collect()
+}
+
+/// The inputs whose instructions are counted.
+pub fn counted() -> Vec<String> {
+    names().into_iter().chain([BEFORE.to_string(), AFTER.to_string()]).collect()
+}
+
+/// The input of this name.
+pub fn named(name: &str) -> Option<Workload> {
+    match name.split(' ').collect::<Vec<_>>()[..] {
+        ["mark", n, kind] => Some(marking(n.parse().ok()?, kind == "deep")),
+        ["list", n] => Some(listing(n.parse().ok()?)),
+        ["measure", _] => Some(measuring()),
+        _ if name == BEFORE => Some(under_eleven(false)),
+        _ if name == AFTER => Some(under_eleven(true)),
+        _ => None,
     }
-    workloads.extend(SIZES.map(listing));
-    workloads.push(measuring());
-    workloads
+}
+
+/// So many records of a sheet on a board, from fresh marks.
+fn sheet(name: String, note: String, board: &Board, records: &[Record]) -> Workload {
+    Workload {
+        name,
+        note,
+        call: Call::Mark {
+            n: u32::from(board.n),
+            table: board.table.iter().flat_map(|l| l.to_le_bytes()).collect(),
+            marks: vec![1; board.table.len()],
+            sheet: sheet_bytes(records),
+        },
+    }
 }
 
 fn random_board(n: usize) -> Board {
     boards::points_on_square(&mut Rng::new(1, n as u64), n, 1_000_000)
 }
 
-/// A sheet of several lines, all accepted, from fresh marks.
-fn marking(n: usize, deep: bool) -> Workload {
-    let board = random_board(n);
-    let marks = vec![1; board.table.len()];
+/// A sheet of several lines, all accepted, from fresh marks; deep ones have six splits one inside another.
+fn lines(board: &Board, deep: bool) -> Draft {
     let plan = Plan {
         effort: if deep { Effort::DEEP } else { Effort::LARGE },
         lines: 12,
@@ -101,18 +131,39 @@ fn marking(n: usize, deep: bool) -> Workload {
         most_records: 4_000,
     };
     let lengths = Lengths::new(board.n, &board.table);
-    let draft = sheets::valid(&mut Rng::new(2, n as u64), &lengths, &marks, plan);
+    sheets::valid(&mut Rng::new(2, u64::from(board.n)), &lengths, &vec![1; board.table.len()], plan)
+}
+
+fn marking(n: usize, deep: bool) -> Workload {
+    let board = random_board(n);
+    let draft = lines(&board, deep);
     let depth = draft.notes.iter().map(|note| note.depth).max().unwrap_or(0);
-    Workload {
-        name: format!("mark {n} {}", if deep { "deep" } else { "shallow" }),
-        note: format!("{} records, cases up to {depth} splits deep, fresh marks", draft.records.len()),
-        call: Call::Mark {
-            n: n as u32,
-            table: board.table.iter().flat_map(|l| l.to_le_bytes()).collect(),
-            marks,
-            sheet: sheet_bytes(&draft.records),
-        },
+    let splits = draft.records.iter().filter(|record| record[0] != Sheet::CASE_CROSSING).count();
+    let note = format!("{} records, {splits} splits, up to {depth} one inside another", draft.records.len());
+    sheet(format!("mark {n} {}", if deep { "deep" } else { "shallow" }), note, &board, &draft.records)
+}
+
+/// The deep sheet of 180 points, cut at its first split under K of 11 edges: before it, where its record is a closing that
+/// does not cross, or after the last case of its chain.
+fn under_eleven(after: bool) -> Workload {
+    let board = random_board(180);
+    let mut records = lines(&board, true).records;
+    let at = first_under_eleven(&lines(&board, true)).expect("the deep sheet has a split under 11 edges");
+    let cases =
+        records[at..].iter().take_while(|record| record[0] == Sheet::CASE_CROSSING && record[7] != 0).count() + 1;
+    records.truncate(at + cases);
+    if !after {
+        let [_, a, b, _, _, _, _, next] = records[at - 1];
+        records[at - 1] = [Sheet::CASE_CROSSING, a, b, a, b, a, b, next];
     }
+    let name = if after { AFTER } else { BEFORE };
+    sheet(name.to_string(), format!("{cases} cases"), &board, &records)
+}
+
+/// The first record that holds a split under K of 11 edges.
+fn first_under_eleven(draft: &Draft) -> Option<usize> {
+    let holds = |note: &&CaseNote| note.known.len() == 11 && draft.records[note.index - 1][0] == Sheet::CASE_SPLIT;
+    draft.notes.iter().find(holds).map(|note| note.index)
 }
 
 /// Twenty random splits.
