@@ -1,6 +1,6 @@
 -- The order of edges: the place of an edge lies in the table, places rise in 01's order, every place is the place of exactly
 -- one edge, and the list of edges has each edge at its place. Assumes nothing.
-use Prim.Native.Nat.{ℕ, zero, suc, _+_, _-_, _*_, _/_, _^_, _≤_, _<_}
+use Prim.Native.Nat.{ℕ, zero, suc, _+_, _-_, _*_, _/_, _^_, _≤_, _<_, min}
 use mathlib.Core.Path.{_≡_, refl, sym, _∙_, ap, ap₂}
 use mathlib.Core.Logic.{_⊎_, inl, inr, ⊎-elim}
 use mathlib.Core.List.{_++_}
@@ -42,12 +42,12 @@ tri-mono m n h = le-ind (λ (k : ℕ). tri m ≤ tri k) (omega arith) (λ k _ ih
     step k ih = omega arith
 
 -- an edge takes its places from the row of its lower point, which ends where the rows above it begin
-tri-row : (n a : ℕ) → a ≤ n → tri (n + 1 - a) ≡ tri (n - a) + (n - a)
+pub tri-row : (n a : ℕ) → a ≤ n → tri (n + 1 - a) ≡ tri (n - a) + (n - a)
 unfolding tri
 tri-row n a h = ap tri (let e : n + 1 - a ≡ suc (n - a) = omega arith in e)
 
 module _ {n a b : ℕ} (e : IsEdgeUp n a b) where
-  placeUp-sum : placeUp n a b + tri (n + 1 - a) ≡ tri n + (b - a - 1)
+  pub placeUp-sum : placeUp n a b + tri (n + 1 - a) ≡ tri n + (b - a - 1)
   unfolding placeUp
   placeUp-sum = omega (arith, tri-mono (n + 1 - a) n (omega arith), e)
 
@@ -73,6 +73,19 @@ place-up n a b h = rw (place, lt-ltb a b h)
 pub place-down : (n a b : ℕ) → b ≤ a → place n a b ≡ placeUp n b a
 unfolding place
 place-down n a b h = rw (place, le-ltb a b h)
+
+-- the place of an edge is found with its smaller point first
+pub place-sorted : (n a b low : ℕ) → low ≡ min a b → placeUp n low (a - low + b) ≡ place n a b
+place-sorted n a b low s = elim (decLt a b) [
+  | yes h ↦
+      let i : low ≡ a = omega arith in
+      let j : a - low + b ≡ b = omega arith in
+      ap₂ (placeUp n) i j ∙ sym (place-up n a b h)
+  | no h ↦
+      let i : low ≡ b = omega arith in
+      let j : a - low + b ≡ a = omega arith in
+      ap₂ (placeUp n) i j ∙ sym (place-down n a b (omega arith))
+]
 
 pub three-way : (a b : ℕ) → (a < b) ⊎ ((b < a) ⊎ (a ≡ b))
 three-way a b = elim (decLt a b) [ yes h ↦ inl h | no h ↦ elim (decLt b a) [ yes g ↦ inr (inl g) | no g ↦ inr (inr (omega arith)) ] ]

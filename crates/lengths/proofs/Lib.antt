@@ -9,5 +9,6 @@ pub mod Instances
 pub mod Limits
 pub mod Measuring
 pub mod Products
+pub mod RowFilling
 pub mod Searching
 pub mod Tables

@@ -2,5 +2,6 @@ pub mod Distance
 pub mod Edge
 pub mod Instance
 pub mod Measure
+pub mod Rows
 pub mod Table
 pub mod Test

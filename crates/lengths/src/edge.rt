@@ -1,5 +1,6 @@
 // The edges of an instance and their places in a table or a set of marks.
 ghost use mathlib.Core.Path.{_≡_};
+ghost use Prim.Native.Nat.{min};
 ghost use Rattle.lengths.specs.Edge.{edgeCount, IsEdge, IsEdgeUp, Placed, placeUp};
 
 // How many edges n points have.
@@ -18,10 +19,18 @@ pub fn place(n: u16, a: u16, b: u16) -> usize
     requires { ⌜ IsEdge n a b ⌝ }
     ensures { λ r. ⌜ Placed n a b r ⌝ }
 {
+    let low = smaller(a, b);
+    place_up(n, low, a - low + b)
+}
+
+// The smaller of two numbers.
+fn smaller(a: u16, b: u16) -> u16
+    ensures { λ r. ⌜ r ≡ min a b ⌝ }
+{
     if a < b {
-        return place_up(n, a, b);
+        return a;
     }
-    place_up(n, b, a)
+    b
 }
 
 // The place of the edge ab, where a < b: the rows of 1 to a - 1 have n - 1, n - 2, .. edges.

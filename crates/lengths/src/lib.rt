@@ -5,4 +5,5 @@ pub mod instance;
 pub mod limit;
 pub mod measure;
 pub mod refusal;
+pub mod rows;
 pub mod table;

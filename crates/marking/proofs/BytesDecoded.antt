@@ -1,6 +1,6 @@
--- Little-endian bytes: one turn of decoding takes the next number off the bytes, at any width, and what the decoders leave is
--- `fitting16` and `fitting32`. Assumes nothing.
-use Prim.Native.Nat.{ℕ, suc, _+_, _*_, _/_, _%_, _≤_, _<_}
+-- Little-endian bytes: one turn of decoding takes the next number off the bytes, and what the decoders leave is what fits, at any
+-- width. Assumes nothing.
+use Prim.Native.Nat.{ℕ, suc, _+_, _*_, _/_, _%_, _≤_, _<_, min}
 use mathlib.Core.Path.{_≡_, refl, sym, _∙_, ap}
 use mathlib.Core.Bool.{Bool, true, false, cond}
 use mathlib.Core.Logic.{_⊎_, inl, inr}
@@ -116,88 +116,69 @@ count32 (a ∷ b ∷ c ∷ []) = refl
 count32 (a ∷ b ∷ c ∷ d ∷ rest) = omega (arith, count32 rest)
 
 -- nothing is decoded
-pub nothing : {numbers : List ℕ} (out : List ℕ) → numbers ≡ [] → Decoded numbers out 0 out
+nothing : {numbers : List ℕ} (out : List ℕ) → numbers ≡ [] → Decoded numbers out 0 out
 nothing out e = record { count = sym (ap length e); room = omega arith; front = sym e; rest = refl; kept = refl }
-
--- all is
-all-decoded : {numbers out left : List ℕ} {size : ℕ} → take size left ≡ numbers → drop size left ≡ drop size out
-    → size ≤ length left → length left ≡ length out → Decoded numbers out size left
-all-decoded {numbers} {out} {left} {size} f b r k = record {
-  count = sym (length-take-le size left r) ∙ ap length f;
-  room = r;
-  front = f;
-  rest = b;
-  kept = k;
-}
 
 none-either : (b : Bool) → _≡_ {A = List ℕ} (cond b [] []) []
 none-either true = refl
 none-either false = refl
 
--- the numbers that fit are those of the bytes, unless these are too many or no whole numbers
-module _ (bytes : List ℕ) (room : ℕ) where
-  pub broken16 : (length bytes % 2 ≡ 0 → ⊥) → fitting16 bytes room ≡ []
-  unfolding fitting16 whole16
-  broken16 h = rw (fitting16, whole16, ne-eqb (length bytes % 2) 0 h) (none-either (leb (length bytes / 2) room))
+-- what is known of numbers of so many bytes: how bytes are read as such numbers, which of them are whole, and which fit
+pub record Coding (width : ℕ) (numbers whole : List ℕ → List ℕ) (fitting : List ℕ → ℕ → List ℕ) : Type 0 where
+  pub empty : numbers [] ≡ []
+  pub counted : (bytes : List ℕ) → length (numbers bytes) ≡ length bytes / width
+  pub if-whole : (bytes : List ℕ) → whole bytes ≡ cond (eqb (length bytes % width) 0) (numbers bytes) []
+  pub if-fitting : (bytes : List ℕ) (room : ℕ) → fitting bytes room ≡ cond (leb (length bytes / width) room) (whole bytes) []
 
-  pub broken32 : (length bytes % 4 ≡ 0 → ⊥) → fitting32 bytes room ≡ []
-  unfolding fitting32 whole32
-  broken32 h = rw (fitting32, whole32, ne-eqb (length bytes % 4) 0 h) (none-either (leb (length bytes / 4) room))
+pub in16 : Coding 2 numbers16 whole16 fitting16
+unfolding numbers16 whole16 fitting16
+in16 = record { empty = refl; counted = count16; if-whole = λ bytes. refl; if-fitting = λ bytes room. refl }
 
-  pub long16 : room < length bytes / 2 → fitting16 bytes room ≡ []
-  unfolding fitting16
-  long16 h = rw (fitting16, lt-leb (length bytes / 2) room h)
-
-  fits16 : length bytes % 2 ≡ 0 → length bytes / 2 ≤ room → fitting16 bytes room ≡ numbers16 bytes
-  unfolding fitting16 whole16
-  fits16 h l = rw (fitting16, whole16, le-leb (length bytes / 2) room l, eq-eqb (length bytes % 2) 0 h)
-
-  pub long32 : room < length bytes / 4 → fitting32 bytes room ≡ []
-  unfolding fitting32
-  long32 h = rw (fitting32, lt-leb (length bytes / 4) room h)
-
-  fits32 : length bytes % 4 ≡ 0 → length bytes / 4 ≤ room → fitting32 bytes room ≡ numbers32 bytes
-  unfolding fitting32 whole32
-  fits32 h l = rw (fitting32, whole32, le-leb (length bytes / 4) room l, eq-eqb (length bytes % 4) 0 h)
-
--- after the last turn
-pub finished16 : {bytes out₀ out : List ℕ} {size i : ℕ} → Decoding 2 numbers16 bytes out₀ size out i → size ≤ i
-    → Decoded (fitting16 bytes (length out₀)) out₀ size out
-unfolding numbers16
-finished16 {bytes} {out₀} {out} {size} {i} d h = all-decoded
-    (sym (done refl d h) ∙ sym (fits16 bytes (length out₀) (omega (arith, d .bytes-whole)) (omega (arith, d))))
-    (rest-at d h)
-    (d .room)
-    (d .kept)
-
-pub finished32 : {bytes out₀ out : List ℕ} {size i : ℕ} → Decoding 4 numbers32 bytes out₀ size out i → size ≤ i
-    → Decoded (fitting32 bytes (length out₀)) out₀ size out
-unfolding numbers32
-finished32 {bytes} {out₀} {out} {size} {i} d h = all-decoded
-    (sym (done refl d h) ∙ sym (fits32 bytes (length out₀) (omega (arith, d .bytes-whole)) (omega (arith, d))))
-    (rest-at d h)
-    (d .room)
-    (d .kept)
+pub in32 : Coding 4 numbers32 whole32 fitting32
+unfolding numbers32 whole32 fitting32
+in32 = record { empty = refl; counted = count32; if-whole = λ bytes. refl; if-fitting = λ bytes room. refl }
 
 -- where the numbers do not fit, none are handed on, and there are more than the room is for
 pub record TooLong (numbers handed : List ℕ) (room : ℕ) : Type 0 where
   pub none : handed ≡ []
   pub many : room < length numbers
 
-handed : (size room : ℕ) (w : Bool) (numbers : List ℕ) → length numbers ≡ size
-    → (cond (leb size room) (cond w numbers []) [] ≡ cond w numbers []) ⊎ TooLong (cond w numbers []) (cond (leb size room) (cond w numbers []) []) room
-handed size room true numbers h = go (leb size room) refl
-  where
-    go : (b : Bool) → leb size room ≡ b → (cond (leb size room) numbers [] ≡ numbers) ⊎ TooLong numbers (cond (leb size room) numbers []) room
-    go true e = inl (rw e)
-    go false e = inr (record { none = rw e; many = omega (arith, leb-false size room e) })
-handed size room false numbers h = inl (none-either (leb size room))
+-- what fits is the numbers of the bytes, unless these are too many or no whole numbers
+module _ {width : ℕ} {numbers whole : List ℕ → List ℕ} {fitting : List ℕ → ℕ → List ℕ} (k : Coding width numbers whole fitting) where
+  pub broken : (bytes out : List ℕ) → (length bytes % width ≡ 0 → ⊥) → Decoded (fitting bytes (length out)) out 0 out
+  broken bytes out h =
+      let none : whole bytes ≡ [] = rw (k .if-whole bytes, ne-eqb (length bytes % width) 0 h) in
+      nothing out (k .if-fitting bytes (length out) ∙ rw none (none-either (leb (length bytes / width) (length out))))
 
-module _ (bytes : List ℕ) (room : ℕ) where
-  pub handed16 : (fitting16 bytes room ≡ whole16 bytes) ⊎ TooLong (whole16 bytes) (fitting16 bytes room) room
-  unfolding fitting16 whole16
-  handed16 = handed (length bytes / 2) room (eqb (length bytes % 2) 0) (numbers16 bytes) (count16 bytes)
+  pub long : (bytes out : List ℕ) → length out < length bytes / width → Decoded (fitting bytes (length out)) out 0 out
+  long bytes out h = nothing out (rw (k .if-fitting bytes (length out), lt-leb (length bytes / width) (length out) h))
 
-  pub handed32 : (fitting32 bytes room ≡ whole32 bytes) ⊎ TooLong (whole32 bytes) (fitting32 bytes room) room
-  unfolding fitting32 whole32
-  handed32 = handed (length bytes / 4) room (eqb (length bytes % 4) 0) (numbers32 bytes) (count32 bytes)
+  -- after the last turn
+  pub finished : {bytes out₀ out : List ℕ} {size i : ℕ} → Decoding width numbers bytes out₀ size out i
+      → length bytes % width ≡ 0 → size ≡ length bytes / width → size ≤ i → Decoded (fitting bytes (length out₀)) out₀ size out
+  finished {bytes} {out₀} {out} {size} {i} d w z h =
+      let all : whole bytes ≡ numbers bytes = rw (k .if-whole bytes, eq-eqb (length bytes % width) 0 w) in
+      let fits : fitting bytes (length out₀) ≡ whole bytes =
+      rw (k .if-fitting bytes (length out₀), le-leb (length bytes / width) (length out₀) (omega (arith, z, d .room, d .kept))) in
+      let front : take size out ≡ fitting bytes (length out₀) = sym (done (k .empty) d h) ∙ sym (fits ∙ all) in
+      record {
+        count = sym (length-take-le size out (d .room)) ∙ ap length front;
+        room = d .room;
+        front = front;
+        rest = rest-at d h;
+        kept = d .kept;
+      }
+
+  -- what is handed on in a room that holds all numbers, or `most` of them
+  pub handed-on : (bytes : List ℕ) {room most : ℕ} → min (length bytes / width) most ≤ room
+      → (fitting bytes room ≡ whole bytes) ⊎ TooLong (whole bytes) (fitting bytes room) most
+  handed-on bytes {room} {most} r = go (leb (length bytes / width) room) refl (eqb (length bytes % width) 0) refl
+    where
+      go : (b : Bool) → leb (length bytes / width) room ≡ b → (w : Bool) → eqb (length bytes % width) 0 ≡ w
+          → (fitting bytes room ≡ whole bytes) ⊎ TooLong (whole bytes) (fitting bytes room) most
+      go true e w f = inl (rw (k .if-fitting bytes room, e))
+      go false e false f = inl (rw (k .if-fitting bytes room, e, k .if-whole bytes, f))
+      go false e true f = inr (record {
+        none = rw (k .if-fitting bytes room, e);
+        many = rw (k .if-whole bytes, f) (omega (arith, k .counted bytes, leb-false (length bytes / width) room e, r));
+      })

@@ -1,6 +1,6 @@
 -- A table, a sheet or a tour that is too long for any instance is answered as an empty one is. So the functions for C, which decode
 -- only what their arrays have room for, answer for all bytes as the definitions do. Assumes nothing.
-use Prim.Native.Nat.{ℕ, _%_, _≤_}
+use Prim.Native.Nat.{ℕ, _/_, _%_, _≤_, min}
 use mathlib.Core.Path.{_≡_, refl, sym, _∙_, ap}
 use mathlib.Core.Bool.{Bool, true, false}
 use mathlib.Core.Logic.{_⊎_, inl, inr}
@@ -15,7 +15,7 @@ use Rattle.lengths.specs.Test.{unless}
 use Rattle.lengths.proofs.Edges.{edgeCount-tri, tri-mono}
 use Rattle.argument.specs.Sheet.{Result}
 use Rattle.marking.specs.Bytes.{whole16, whole32, fitting16, fitting32, Decoded}
-use Rattle.marking.specs.CApi.{resultNumber, MarkNumber, MarkedInC, tourInC, checkedNumber}
+use Rattle.marking.specs.CApi.{resultNumber, MarkNumber, MarkedInC, MarkRoom, TableRoom, tourInC, checkedNumber}
 use Rattle.marking.specs.Marking.{markTested, markSheet, resultOf}
 use Rattle.marking.specs.Sheets.{wholeSheet}
 use Rattle.marking.specs.Tests.{tested}
@@ -24,7 +24,7 @@ use Rattle.marking.specs.declared.tests.Tested.{Tested}
 use Rattle.marking.specs.declared.tests.Tested.the-variants.{Points, Refused}
 use Rattle.marking.specs.declared.tour.Checked.{Checked}
 use Rattle.marking.specs.declared.verdict.Marked.{Marked}
-use Rattle.marking.proofs.BytesDecoded.{TooLong, handed16, handed32}
+use Rattle.marking.proofs.BytesDecoded.{TooLong, in16, in32, handed-on}
 use Rattle.marking.proofs.Records.{whole-none, whole-long}
 use Rattle.marking.proofs.Tested.{range-admits, passed}
 use Rattle.marking.proofs.TestWays.{wrong-size}
@@ -104,17 +104,20 @@ module _ (n : ℕ) (bytes : List ℕ) where
   broken-tour l h = rw (whole16, ne-eqb (length bytes % 2) 0 h) (no-tour n [] (λ e. omega arith))
 
 module _ (n : ℕ) (table marks s : List ℕ) where
-  pub mark-handed : markSheet n (fitting32 table 16110) marks (fitting16 s 32000) ≡ markSheet n (whole32 table) marks (whole16 s)
-  unfolding markSheet
-  mark-handed =
-      sheet-alike (tested n (fitting32 table 16110) marks) (fitting32 table 16110) marks (whole16 s) (fitting16 s 32000) (handed16 s 32000)
-      ∙ table-alike (λ u t. markTested u t marks (whole16 s)) (λ number t r. refl) n (whole32 table) (fitting32 table 16110) marks (handed32 table 16110)
+  module _ {room places : ℕ} (e : min (length table / 4) 16110 ≤ room) where
+    pub mark-handed : min (length s / 2) 32000 ≤ places
+        → markSheet n (fitting32 table room) marks (fitting16 s places) ≡ markSheet n (whole32 table) marks (whole16 s)
+    unfolding markSheet
+    mark-handed p =
+        sheet-alike (tested n (fitting32 table room) marks) (fitting32 table room) marks (whole16 s) (fitting16 s places) (handed-on in16 s p)
+        ∙ table-alike (λ u t. markTested u t marks (whole16 s)) (λ number t r. refl) n (whole32 table) (fitting32 table room) marks (handed-on in32 table e)
 
-  pub tour-handed : tourChecked n (fitting32 table 16110) marks (fitting16 s 180) ≡ tourChecked n (whole32 table) marks (whole16 s)
-  unfolding tourChecked
-  tour-handed =
-      tour-alike n (fitting32 table 16110) marks (whole16 s) (fitting16 s 180) (handed16 s 180)
-      ∙ table-alike (λ u t. checkTested u t marks (whole16 s)) (λ number t r. refl) n (whole32 table) (fitting32 table 16110) marks (handed32 table 16110)
+    pub tour-handed : min (length s / 2) 180 ≤ places
+        → tourChecked n (fitting32 table room) marks (fitting16 s places) ≡ tourChecked n (whole32 table) marks (whole16 s)
+    unfolding tourChecked
+    tour-handed p =
+        tour-alike n (fitting32 table room) marks (whole16 s) (fitting16 s places) (handed-on in16 s p)
+        ∙ table-alike (λ u t. checkTested u t marks (whole16 s)) (λ number t r. refl) n (whole32 table) (fitting32 table room) marks (handed-on in32 table e)
 
 -- what decoding hands on is as long as it says
 pub handed-length : {numbers out left : List ℕ} {size : ℕ} → Decoded numbers out size left → size ≡ length (take size left)
@@ -122,16 +125,17 @@ handed-length {numbers} {out} {left} {size} d = sym (length-take-le size left (d
 
 -- what the functions for C return, from what their callees ensure
 module _ (n : ℕ) (table marks s : List ℕ) {lengths₀ lengths numbers₀ numbers : List ℕ} {edges size : ℕ}
-    (d : Decoded (fitting32 table (length lengths₀)) lengths₀ edges lengths) (e : Decoded (fitting16 s (length numbers₀)) numbers₀ size numbers)
-    (room : length lengths₀ ≡ 16110) where
-  pub marked-in-c : {m : Marked} {r : ℕ} {left : List ℕ} → length numbers₀ ≡ 32000
+    (d : Decoded (fitting32 table (length lengths₀)) lengths₀ edges lengths) (e : Decoded (fitting16 s (length numbers₀)) numbers₀ size numbers) where
+  pub marked-in-c : {m : Marked} {r : ℕ} {left : List ℕ} → MarkRoom table s lengths₀ numbers₀
       → resultOf m left ≡ markSheet n (take edges lengths) marks (take size numbers) → MarkNumber m r → MarkedInC n table marks s r left
-  marked-in-c {m} {r} {left} places h k =
+  marked-in-c {m} {r} {left} room h k =
       let all : resultOf m left ≡ markSheet n (whole32 table) marks (whole16 s) =
-      h ∙ rw (d .front, e .front, room, places) (mark-handed n table marks s) in
+      h ∙ rw (d .front, e .front) (mark-handed n table marks s (room .edges) (room .places)) in
       record { answered = k .number left ∙ ap resultNumber all; marks-left = ap (λ (x : Result (List ℕ)). x .marks) all }
 
-  pub checked-in-c : {c : Checked} {r : ℕ} → length numbers₀ ≡ 180 → c ≡ tourChecked n (take edges lengths) marks (take size numbers)
+  pub checked-in-c : {c : Checked} {r : ℕ} → TableRoom table lengths₀ → length numbers₀ ≡ 180 → c ≡ tourChecked n (take edges lengths) marks (take size numbers)
       → r ≡ checkedNumber c → r ≡ tourInC n table marks s
   unfolding tourInC
-  checked-in-c {c} {r} places h k = k ∙ ap checkedNumber (h ∙ rw (d .front, e .front, room, places) (tour-handed n table marks s))
+  checked-in-c {c} {r} room places h k =
+      let p : min (length s / 2) 180 ≤ length numbers₀ = omega (arith, places) in
+      k ∙ ap checkedNumber (h ∙ rw (d .front, e .front) (tour-handed n table marks s (room .edges) p))

@@ -4,7 +4,9 @@ pub mod CApiSizes
 pub mod FreshMarks
 pub mod Lining
 pub mod ListingAnswers
+pub mod ListingChoice
 pub mod ListingLoops
+pub mod ListingRows
 pub mod Looking
 pub mod MarkingSheets
 pub mod Records

@@ -1,26 +1,23 @@
--- `listed` and `listLeft` at each way out of `list_pairs`, from the tests that led there. Assumes nothing.
+-- `listed` and `listLeft` at each way out of `list_pairs` and `list_into`, from the tests that led there. Assumes nothing.
 use Prim.Native.Nat.{ℕ, _*_, _≤_, _<_}
-use mathlib.Core.Path.{_≡_, sym, _∙_, ap}
+use mathlib.Core.Path.{_≡_, refl, sym, _∙_, ap}
 use mathlib.Core.Bool.{true, false}
 use mathlib.Core.List.{List, _++_}
 use native.Mathlib.Omega.{arith}
 use lib.Dec.{leb}
 use lib.ListN.{length, take, drop}
 use borrow.Author.Tests.{le-leb, lt-leb}
-use Rattle.lengths.specs.Edge.{Edge}
-use Rattle.lengths.specs.Table.{lengthOf}
+use Rattle.lengths.specs.Edge.{edgeCount}
 use Rattle.lengths.specs.Test.{unless}
 use Rattle.rules.specs.Mark.{openIn, Marked}
-use Rattle.rules.specs.Pairs.{feasiblePairs}
-use Rattle.rules.specs.Stored.{edgeList, Single}
-use Rattle.rules.specs.declared.edge_set.EdgeSet.{EdgeSet}
 use Rattle.argument.specs.Record.{splits, fits}
 use Rattle.argument.proofs.Tests.{Fits, fits-means}
-use Rattle.marking.specs.Listing.{pairsAt, numbersOf, Found, FindAsked, listed, listLeft, ListedAs}
+use Rattle.marking.specs.Listing.{pairsAt, Found, FindAsked, listed, listLeft, ListedInto, ListedAs}
 use Rattle.marking.specs.Tests.{tested}
 use Rattle.marking.specs.declared.listing.Listed.{Listed}
 use Rattle.marking.specs.declared.listing.Listed.the-variants.{Pairs, Refused}
 use Rattle.marking.specs.declared.tests.Tested.the-variants as tests
+use Rattle.marking.proofs.ListingLoops.{few-edges, fewer-edges}
 use Rattle.marking.proofs.Tested.{Passed}
 
 -- tests 1, 2, 5, 6 and 11 are passed
@@ -42,16 +39,24 @@ module _ {n : ℕ} {table marks : List ℕ} {m a b c : ℕ} where
       let p = fitting f in
       record { is-edge = record { first = p .point-a; second = p .point-b; apart = p .apart }; whole = f .passed .marked }
 
-  pub findable : {k : EdgeSet} {found : List ℕ} → Listable n table marks m a b c → Single a b k → length found ≡ 32220 → FindAsked m table marks k c found
-  findable f s z =
+  findable : {found : List ℕ} → Listable n table marks m a b c → 2 * edgeCount m ≤ length found → FindAsked m table marks a b c found
+  findable f z =
       let p = fitting (f .fitted) in
       record {
-        split = record {
-          legs = record { lengths = f .fitted .passed .lengths; marked = f .fitted .passed .marked; centre = p .how-fits };
-          held = s .held m (p .point-a) (p .point-b);
-        };
-        size = z;
+        legs = record { lengths = f .fitted .passed .lengths; marked = f .fitted .passed .marked; centre = p .how-fits };
+        least = f .fitted .passed .least;
+        first = p .point-a;
+        second = p .point-b;
+        apart = p .apart;
+        room = z;
       }
+
+  -- the small array has room for the pairs of 60 points, the large one for those of 180
+  pub findable-small : {found : List ℕ} → Listable n table marks m a b c → m ≤ 60 → length found ≡ 3540 → FindAsked m table marks a b c found
+  findable-small f h z = findable f (omega (arith, fewer-edges m h))
+
+  pub findable-large : {found : List ℕ} → Listable n table marks m a b c → length found ≡ 32220 → FindAsked m table marks a b c found
+  findable-large f z = findable f (omega (arith, few-edges m (f .fitted .passed .lengths .few)))
 
   -- test 18 is the one left
   reached : Listable n table marks m a b c → (size : ℕ)
@@ -59,15 +64,6 @@ module _ {n : ℕ} {table marks : List ℕ} {m a b c : ℕ} where
       ≡ unless (leb (2 * length (pairsAt m table marks a b c)) size) (Refused 18) (Pairs (length (pairsAt m table marks a b c)))
   unfolding listed
   reached f size = rw (listed, f .fitted .passed .answer, f .fitted .fit, f .is-open)
-
-module _ {n : ℕ} {table marks : List ℕ} {m a b c : ℕ} {k : EdgeSet} {count : ℕ} {found : List ℕ} (f : Listable n table marks m a b c) (s : Single a b k)
-    (r : Found (feasiblePairs m (lengthOf m table) (openIn m marks) (edgeList k) c) count found) where
-  same-pairs : feasiblePairs m (lengthOf m table) (openIn m marks) (edgeList k) c ≡ pairsAt m table marks a b c
-  unfolding pairsAt
-  same-pairs = ap (λ (K : List Edge). feasiblePairs m (lengthOf m table) (openIn m marks) K c) (s .edges)
-
-  counted : count ≡ length (pairsAt m table marks a b c)
-  counted = r .counted ∙ ap length same-pairs
 
 module _ {n : ℕ} {table marks : List ℕ} {a b c : ℕ} {list : List ℕ} where
   refused : {k : ℕ} → listed n table marks a b c (length list) ≡ Refused k → ListedAs n table marks a b c list (Refused k) list
@@ -86,22 +82,28 @@ module _ {n : ℕ} {table marks : List ℕ} {a b c : ℕ} {list : List ℕ} wher
     unfolding listed
     refused-struck f e = refused (rw (listed, f .passed .answer, f .fit, e))
 
-    module _ {k : EdgeSet} {count : ℕ} {found : List ℕ} (f : Listable n table marks m a b c) (s : Single a b k)
-        (r : Found (feasiblePairs m (lengthOf m table) (openIn m marks) (edgeList k) c) count found) where
-      pub refused-list : length list < 2 * count → ListedAs n table marks a b c list (Refused 18) list
-      refused-list g =
-          refused (reached f (length list) ∙ rw (lt-leb (2 * length (pairsAt m table marks a b c)) (length list) (omega (arith, counted f s r))))
+    -- what `list_into` answers is the answer
+    pub listed-as : {answer : Listed} {left : List ℕ} → Listable n table marks m a b c → ListedInto m table marks a b c list answer left → ListedAs n table marks a b c list answer left
+    listed-as {answer} {left} f r =
+        let e : answer ≡ listed n table marks a b c (length list) = r .answered ∙ sym (reached f (length list)) in
+        record {
+          answered = e;
+          list-left =
+              r .list-left
+              ∙ ap (λ (i : ℕ). listLeft answer i table marks a b c list) (f .fitted .passed .same)
+              ∙ ap (λ (x : Listed). listLeft x n table marks a b c list) e;
+        }
 
-      pub listed-pairs : {left : List ℕ} → 2 * count ≤ length list → left ≡ take (2 * count) found ++ drop (2 * count) list
-          → ListedAs n table marks a b c list (Pairs count) left
-      listed-pairs g w =
-          let answer : listed n table marks a b c (length list) ≡ Pairs count =
-          reached f (length list)
-          ∙ rw (le-leb (2 * length (pairsAt m table marks a b c)) (length list) (omega (arith, counted f s r))) (ap Pairs (sym (counted f s r))) in
-          record {
-            answered = sym answer;
-            list-left =
-                w
-                ∙ ap (λ (xs : List ℕ). xs ++ drop (2 * count) list) (r .front ∙ ap numbersOf (same-pairs f s r ∙ ap (λ (i : ℕ). pairsAt i table marks a b c) (f .fitted .passed .same)))
-                ∙ ap (λ (x : Listed). listLeft x n table marks a b c list) (sym answer);
-          }
+-- the ways out of `list_into`
+module _ {n : ℕ} {table marks : List ℕ} {a b c : ℕ} {list : List ℕ} {count : ℕ} {found : List ℕ} (r : Found (pairsAt n table marks a b c) count found) where
+  pub into-refused : length list < 2 * count → ListedInto n table marks a b c list (Refused 18) list
+  into-refused h = record {
+    answered = sym (rw (lt-leb (2 * length (pairsAt n table marks a b c)) (length list) (omega (arith, r .counted))));
+    list-left = refl;
+  }
+
+  pub into-pairs : {left : List ℕ} → 2 * count ≤ length list → left ≡ take (2 * count) found ++ drop (2 * count) list → ListedInto n table marks a b c list (Pairs count) left
+  into-pairs h w = record {
+    answered = sym (rw (le-leb (2 * length (pairsAt n table marks a b c)) (length list) (omega (arith, r .counted))) (ap Pairs (sym (r .counted))));
+    list-left = w ∙ ap (λ (xs : List ℕ). xs ++ drop (2 * count) list) (r .front);
+  }

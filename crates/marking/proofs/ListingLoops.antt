@@ -1,4 +1,4 @@
--- The loops of `find_pairs` and `copy`. The numbers written so far and those of the pairs still to come make up the numbers of all pairs,
+-- The loops of `find_beside` and `copy`. The numbers written so far and those of the pairs still to come make up the numbers of all pairs,
 -- which are at most as many as n points have edges. Assumes nothing.
 use Prim.Native.Nat.{ℕ, suc, _+_, _*_, _≤_, _<_}
 use mathlib.Core.Path.{_≡_, refl, sym, _∙_, ap, ap₂}
@@ -12,23 +12,27 @@ use Rattle.lengths.specs.Edge.{Edge, edge, IsEdgeUp, edgeCount, edges}
 use Rattle.lengths.specs.Table.{lengthOf}
 use Rattle.lengths.proofs.Edges.{length-edges, edgeCount-tri, tri-mono}
 use Rattle.rules.specs.Mark.{openIn}
+use Rattle.rules.specs.Near.{neighbours}
+use Rattle.rules.specs.Nearby.{NearbyOf}
+use Rattle.rules.specs.Ways.{Ways}
 use Rattle.rules.specs.NextPair.{Searchable, Next, firstOf}
 use Rattle.rules.specs.PairTest.{feasible?}
 use Rattle.rules.specs.Pairs.{keep, feasiblePairs, feasibleAfter}
 use Rattle.rules.specs.Split.{SplitOf}
 use Rattle.rules.specs.Stored.{edgeList}
 use Rattle.rules.specs.declared.edge_set.EdgeSet.{EdgeSet}
+use Rattle.rules.specs.declared.near.Near.{Near}
 use Rattle.rules.specs.declared.pairs.NextPair.{NextPair}
 use Rattle.rules.specs.declared.pairs.NextPair.the-variants.{Pair, End}
 use Rattle.rules.specs.declared.split.Split.{Split}
 use Rattle.rules.proofs.WaysBeyond.{fit-of}
 use Rattle.rules.proofs.PairLists.{keep-yes, keep-no, feasibleAfter-start}
-use Rattle.rules.proofs.Searches.{next-is-pair, next-is-end}
-use Rattle.marking.specs.Listing.{numbersOf, Found, FindAsked, CopyAsked}
+use Rattle.rules.proofs.PairSearch.{next-is-pair, next-is-end}
+use Rattle.marking.specs.Listing.{numbersOf, Found, SearchAsked, CopyAsked}
 
 -- how many pairs there are
 
-keep-fewer : (t : ℕ → ℕ → Bool) (es : List Edge) → length (keep t es) ≤ length es
+pub keep-fewer : (t : ℕ → ℕ → Bool) (es : List Edge) → length (keep t es) ≤ length es
 unfolding keep
 keep-fewer t [] = omega arith
 keep-fewer t (edge a b ∷ es) = go (t a b) refl (keep-fewer t es)
@@ -37,65 +41,74 @@ keep-fewer t (edge a b ∷ es) = go (t a b) refl (keep-fewer t es)
     go true e h = rw (keep-yes t a b es e) (omega arith)
     go false e h = rw (keep-no t a b es e) (omega arith)
 
-most : edgeCount 180 ≡ 16110
+edges-mono : (m n : ℕ) → m ≤ n → edgeCount m ≤ edgeCount n
+edges-mono m n h = omega (arith, edgeCount-tri m, edgeCount-tri n, tri-mono m n h)
+
+pub few-edges : (n : ℕ) → n ≤ 180 → edgeCount n ≤ 16110
 unfolding edgeCount
-most = refl
+few-edges n h = edges-mono n 180 h
 
-pub few-pairs : (n : ℕ) (l : ℕ → ℕ → ℕ) (open? : ℕ → ℕ → Bool) (K : List Edge) (c : ℕ) → 1 ≤ n → n ≤ 180
-    → 2 * length (feasiblePairs n l open? K c) ≤ 32220
+pub fewer-edges : (n : ℕ) → n ≤ 60 → edgeCount n ≤ 1770
+unfolding edgeCount
+fewer-edges n h = edges-mono n 60 h
+
+few-pairs : (n : ℕ) (l : ℕ → ℕ → ℕ) (open? : ℕ → ℕ → Bool) (K : List Edge) (c : ℕ) → 1 ≤ n → length (feasiblePairs n l open? K c) ≤ edgeCount n
 unfolding feasiblePairs
-few-pairs n l open? K c some few =
-    omega (arith, keep-fewer (feasible? n l open? K c) (edges n), length-edges n some, edgeCount-tri n, tri-mono n 180 few, edgeCount-tri 180, most)
+few-pairs n l open? K c some = omega (arith, keep-fewer (feasible? n l open? K c) (edges n), length-edges n some)
 
--- the loop of `find_pairs`
+-- the loop of `find_beside`
 
 -- the search is at xy, and so many pairs stand at the front of `found`
-pub record Finding (n : ℕ) (l : ℕ → ℕ → ℕ) (open? : ℕ → ℕ → Bool) (K : List Edge) (c : ℕ) (found : List ℕ) (x y count : ℕ) : Type 0 where
+pub record Finding (n : ℕ) (l : ℕ → ℕ → ℕ) (open? : ℕ → ℕ → Bool) (K : List Edge) (c : ℕ) (found₀ found : List ℕ) (x y count : ℕ) : Type 0 where
   pub low : 1 ≤ x
   pub up : x ≤ y
   pub high : y ≤ n
-  pub size : length found ≡ 32220
-  pub room : 2 * length (feasiblePairs n l open? K c) ≤ 32220
+  pub size : length found ≡ length found₀
+  pub few : length (feasiblePairs n l open? K c) ≤ 16110
+  pub room : 2 * length (feasiblePairs n l open? K c) ≤ length found
   pub counted : count + length (feasibleAfter n l open? K c x y) ≡ length (feasiblePairs n l open? K c)
   pub written : take (2 * count) found ++ numbersOf (feasibleAfter n l open? K c x y) ≡ numbersOf (feasiblePairs n l open? K c)
 
-pub finding-start : {n : ℕ} {table marks : List ℕ} {k : EdgeSet} {c : ℕ} {found : List ℕ} → FindAsked n table marks k c found
-    → Finding n (lengthOf n table) (openIn n marks) (edgeList k) c found 1 1 0
+pub finding-start : {n : ℕ} {table marks : List ℕ} {k : EdgeSet} {c : ℕ} {found : List ℕ} → SearchAsked n table marks k c found
+    → Finding n (lengthOf n table) (openIn n marks) (edgeList k) c found found 1 1 0
 finding-start {n} {table} {marks} {k} {c} {found} g =
     let some : 1 ≤ n = omega (arith, g .split .legs .centre) in
+    let few = few-pairs n (lengthOf n table) (openIn n marks) (edgeList k) c some in
     let e = feasibleAfter-start n (lengthOf n table) (openIn n marks) (edgeList k) c in
     record {
       low = omega arith;
       up = omega arith;
       high = some;
-      size = g .size;
-      room = few-pairs n (lengthOf n table) (openIn n marks) (edgeList k) c some (g .split .legs .lengths .few);
+      size = refl;
+      few = omega (arith, few, few-edges n (g .split .legs .lengths .few));
+      room = omega (arith, few, g .room);
       counted = omega (arith, ap length e);
       written = ap numbersOf e;
     }
 
 -- what `next_pair` answers is the first of the pairs left
-pub next-of : {n : ℕ} {table marks : List ℕ} {k : EdgeSet} {c x y : ℕ} {s : Split} {r p : NextPair} → SplitOf n table marks k c s
-    → Next n table (s .legs) (s .bound) (s .ways) (s .centre) k x y r → r ≡ p → firstOf (feasibleAfter n (lengthOf n table) (openIn n marks) (edgeList k) c x y) ≡ p
-next-of {n} {marks = marks} {c = c} sp next e = sym (next .first (openIn n marks) c (sp .prepared) (sp .scouted)) ∙ e
+pub next-of : {n : ℕ} {table marks : List ℕ} {k : EdgeSet} {c x y : ℕ} {s : Split} {ways : List ℕ} {centre : Near} {r p : NextPair} → SplitOf n table marks k c s
+    → Ways (edgeList k) c ways → centre ≡ neighbours (edgeList k) c → Next n table (s .legs) (s .bound) ways centre k x y r → r ≡ p
+    → firstOf (feasibleAfter n (lengthOf n table) (openIn n marks) (edgeList k) c x y) ≡ p
+next-of {n} {marks = marks} {c = c} sp each own next e = sym (next .first (openIn n marks) c (sp .prepared) (record { each = each; own = own })) ∙ e
 
-pub searchable : {n : ℕ} {table marks : List ℕ} {k : EdgeSet} {c : ℕ} {found₀ : List ℕ} {s : Split} {l : ℕ → ℕ → ℕ} {open? : ℕ → ℕ → Bool} {K : List Edge}
-    {found : List ℕ} {x y count : ℕ} → FindAsked n table marks k c found₀ → SplitOf n table marks k c s → Finding n l open? K c found x y count
-    → Searchable n table (s .legs) (s .bound) (s .ways) (s .centre) k x y
-searchable g sp f = record {
-  row = record { lengths = g .split .legs .lengths; bounded = sp .bounded; low = f .low; up = f .up; high = f .high };
-  fit = fit-of (sp .scouted);
+pub searchable : {n : ℕ} {table marks : List ℕ} {k : EdgeSet} {c : ℕ} {s : Split} {ways : List ℕ} {centre : Near} {l : ℕ → ℕ → ℕ} {open? : ℕ → ℕ → Bool} {K : List Edge}
+    {found₀ found near rank : List ℕ} {x y count : ℕ} → SearchAsked n table marks k c found₀ → SplitOf n table marks k c s → Ways (edgeList k) c ways → centre ≡ neighbours (edgeList k) c
+    → NearbyOf n (s .legs) near rank → Finding n l open? K c found₀ found x y count → Searchable n table (s .legs) near rank (s .bound) ways centre k x y
+searchable g sp each own listed f = record {
+  row = record { lengths = g .split .legs .lengths; bounded = sp .bounded; listed = listed; low = f .low; up = f .up; high = f .high };
+  fit = fit-of (record { each = each; own = own });
   stored = g .split .held .stored;
 }
 
 -- two numbers more at the front
-two-more : (xs : List ℕ) (at a b : ℕ) → suc at < length xs → take (suc (suc at)) (set (set xs at a) (suc at) b) ≡ take at xs ++ (a ∷ b ∷ [])
+pub two-more : (xs : List ℕ) (at a b : ℕ) → suc at < length xs → take (suc (suc at)) (set (set xs at a) (suc at) b) ≡ take at xs ++ (a ∷ b ∷ [])
 two-more xs at a b h =
     take-suc-set (set xs at a) (suc at) b (omega (arith, length-set xs at a))
     ∙ ap (λ (ys : List ℕ). ys ++ (b ∷ [])) (take-suc-set xs at a (omega arith))
     ∙ append-assoc (take at xs) (a ∷ []) (b ∷ [])
 
-module _ {n : ℕ} {l : ℕ → ℕ → ℕ} {open? : ℕ → ℕ → Bool} {K : List Edge} {c : ℕ} {found : List ℕ} {x y count : ℕ} (f : Finding n l open? K c found x y count) where
+module _ {n : ℕ} {l : ℕ → ℕ → ℕ} {open? : ℕ → ℕ → Bool} {K : List Edge} {c : ℕ} {found₀ found : List ℕ} {x y count : ℕ} (f : Finding n l open? K c found₀ found x y count) where
   module _ {a b : ℕ} (e : firstOf (feasibleAfter n l open? K c x y) ≡ Pair a b) where
     next : IsEdgeUp n a b × (feasible? n l open? K c a b ≡ true) × (feasibleAfter n l open? K c x y ≡ edge a b ∷ feasibleAfter n l open? K c a b)
     next = next-is-pair n l open? K c x y (f .low) (f .up) (f .high) e
@@ -103,10 +116,10 @@ module _ {n : ℕ} {l : ℕ → ℕ → ℕ} {open? : ℕ → ℕ → Bool} {K :
     pub fewer-left : length (feasibleAfter n l open? K c a b) < length (feasibleAfter n l open? K c x y)
     fewer-left = omega (arith, ap length (next .2))
 
-    pub space : 2 * count + 1 < 32220
-    space = omega (arith, f .counted, f .room, ap length (next .2))
+    pub space : (count < 16110) × (2 * count + 1 < length found)
+    space = (omega (arith, f .counted, f .few, ap length (next .2)), omega (arith, f .counted, f .room, ap length (next .2)))
 
-    pub finding-on : Finding n l open? K c (set (set found (2 * count) a) (2 * count + 1) b) a b (count + 1)
+    pub finding-on : Finding n l open? K c found₀ (set (set found (2 * count) a) (2 * count + 1) b) a b (count + 1)
     unfolding numbersOf
     finding-on =
         let two : 2 * (count + 1) ≡ suc (suc (2 * count)) = omega arith in
@@ -115,11 +128,12 @@ module _ {n : ℕ} {l : ℕ → ℕ → ℕ} {open? : ℕ → ℕ → Bool} {K :
           up = omega (arith, next .0 .up);
           high = next .0 .high;
           size = length-set (set found (2 * count) a) (2 * count + 1) b ∙ length-set found (2 * count) a ∙ f .size;
-          room = f .room;
+          few = f .few;
+          room = omega (arith, f .room, length-set (set found (2 * count) a) (2 * count + 1) b, length-set found (2 * count) a);
           counted = omega (arith, f .counted, ap length (next .2));
           written =
               ap₂ (λ (i j : ℕ). take i (set (set found (2 * count) a) j b) ++ numbersOf (feasibleAfter n l open? K c a b)) two (add-one (2 * count))
-              ∙ ap (λ (ys : List ℕ). ys ++ numbersOf (feasibleAfter n l open? K c a b)) (two-more found (2 * count) a b (omega (arith, space, f .size)))
+              ∙ ap (λ (ys : List ℕ). ys ++ numbersOf (feasibleAfter n l open? K c a b)) (two-more found (2 * count) a b (omega (arith, space)))
               ∙ append-assoc (take (2 * count) found) (a ∷ b ∷ []) (numbersOf (feasibleAfter n l open? K c a b))
               ∙ ap (λ (es : List Edge). take (2 * count) found ++ numbersOf es) (sym (next .2))
               ∙ f .written;
@@ -136,8 +150,8 @@ module _ {n : ℕ} {l : ℕ → ℕ → ℕ} {open? : ℕ → ℕ → Bool} {K :
             sym (append-nil (take (2 * count) found))
             ∙ ap (λ (es : List Edge). take (2 * count) found ++ numbersOf es) (sym none)
             ∙ f .written;
+        few = omega (arith, f .few);
         room = omega (arith, f .room);
-        size = f .size;
       }
 
 -- the loop of `copy`

@@ -1,25 +1,35 @@
--- "Mark a sheet" in code: one lemma for each way out of `markSheet`. Assumes nothing.
-use Prim.Native.Nat.{ℕ}
+-- "Mark a sheet" in code: room for the rows of lengths that its lines are marked by, and one lemma for each way out of `markSheet`.
+-- Assumes nothing.
+use Prim.Native.Nat.{ℕ, _+_, _*_, _≤_}
 use mathlib.Core.Path.{_≡_, sym, _∙_, ap, ap₂}
 use mathlib.Core.Bool.{Bool, true, false}
 use mathlib.Core.List.{List}
+use native.Mathlib.Nat.{mul-le-mul}
+use native.Mathlib.Omega.{arith}
 use lib.ListN.{length}
 use Rattle.lengths.specs.Test.{unless}
 use Rattle.argument.specs.Verdict.{Verdict, refused}
 use Rattle.argument.specs.Sheet.{Result, sheet}
 use Rattle.marking.proofs.Records.{sheet-records, sheet-admitted, sheet-refused}
 use Rattle.marking.proofs.Tested.{passed}
+use Rattle.marking.specs.Lines.{RowsAsked}
 use Rattle.marking.specs.Marking.{turnedDown, markTested, markSheet, verdictOf, resultOf}
 use Rattle.marking.specs.Rules.{markingOf}
 use Rattle.marking.specs.Sheets.{wholeSheet, sheetAdmission}
 use Rattle.marking.specs.Tests.{tested}
-use Rattle.marking.specs.Walks.{Tried}
+use Rattle.marking.specs.Walks.{Admitted}
 use Rattle.marking.specs.declared.sheet.Sheet as declared
 use Rattle.marking.specs.declared.sheet.SheetAdmission.{SheetAdmission}
 use Rattle.marking.specs.declared.sheet.SheetAdmission.the-variants as admitting
 use Rattle.marking.specs.declared.tests.Tested.{Tested}
 use Rattle.marking.specs.declared.tests.Tested.the-variants.{Points, Refused}
 use Rattle.marking.specs.declared.verdict.Marked.{Marked}
+
+-- an array for the rows of `most` points has room for those of fewer
+pub rows-room : {n : ℕ} {table rows marks s : List ℕ} (most : ℕ) → Admitted n table marks s → n ≤ most → length rows ≡ (most + 1) * (most + 1) → RowsAsked n table rows marks s
+rows-room {n} most a h e =
+    let up : n + 1 ≤ most + 1 = omega arith in
+    record { admitted = a; room = omega (arith, mul-le-mul up up) }
 
 -- the ways out
 
@@ -42,8 +52,8 @@ module _ (n : ℕ) (table marks s : List ℕ) {r : Tested} (e : r ≡ tested n t
     sheet-not-whole m z h = turns-down m 7 marks h ∙ as-whole false (sheet-refused (length s) (sym w ∙ z))
 
     module _ {x : declared.Sheet} (z : a ≡ admitting.Admitted x) where
-      pub sheet-tried : Tried p table marks s
-      sheet-tried =
+      pub sheet-admits : Admitted p table marks s
+      sheet-admits =
           let t = passed (sym e ∙ g) in
           let h = sheet-records s (sheet-admitted (sym w ∙ z) .passed) in
           record { least = t .least; lengths = t .lengths; marked = t .marked; whole = h .whole; few = h .few }

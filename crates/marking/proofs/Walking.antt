@@ -11,10 +11,12 @@ use Rattle.lengths.specs.Table.{lengthOf}
 use Rattle.rules.specs.Mark.{openIn}
 use Rattle.rules.specs.Pair.{withPair}
 use Rattle.rules.specs.Pairs.{feasibleAfter}
+use Rattle.rules.specs.Near.{neighbours}
+use Rattle.rules.specs.Nearby.{NearbyOf}
 use Rattle.rules.specs.NextPair.{Searchable, Next}
 use Rattle.rules.specs.Split.{Bounded, Prepared, SplitAsked, SplitOf}
 use Rattle.rules.specs.Stored.{edgeList, Added}
-use Rattle.rules.specs.Ways.{Scouted}
+use Rattle.rules.specs.Ways.{Scouted, Ways}
 use Rattle.rules.specs.ClosingTest.{crossedBy, refusalOf, Crossable}
 use Rattle.rules.specs.declared.edge_set.EdgeSet.{EdgeSet}
 use Rattle.rules.specs.declared.near.Near.{Near}
@@ -58,9 +60,10 @@ spotAt n table marks k left c x y last index high =
     }
 
 -- the loop's invariant
-pub record Following (n : ℕ) (table marks sheet : List ℕ) (k : EdgeSet) (left i c first : ℕ) (legs : List ℕ) (bound : ℕ) (ways : List ℕ) (centre : Near) (x y last index high : ℕ) : Type 0 where
-  pub asked : ChainAsked n table marks sheet k left c
+pub record Following (n : ℕ) (table rows marks sheet : List ℕ) (k : EdgeSet) (left i c first : ℕ) (legs near rank : List ℕ) (bound : ℕ) (ways : List ℕ) (centre : Near) (x y last index high : ℕ) : Type 0 where
+  pub asked : ChainAsked n table rows marks sheet k left c
   pub bounded : Bounded legs bound
+  pub listed : NearbyOf n legs near rank
   pub prepared : Prepared n (lengthOf n table) (openIn n marks) (edgeList k) c legs bound
   pub scouted : Scouted (edgeList k) c ways centre
   pub low : 1 ≤ x
@@ -68,34 +71,36 @@ pub record Following (n : ℕ) (table marks sheet : List ℕ) (k : EdgeSet) (lef
   pub top : y ≤ n
   pub walks : walk (rulesOf n table marks) sheet (spotAt n table marks k left c x y last index high) ≡ walk (rulesOf n table marks) sheet (opening (rulesOf n table marks) (suc left) (edgeList k) i c first)
 
-module _ {n : ℕ} {table marks sheet : List ℕ} {k : EdgeSet} {left c : ℕ} (asked : ChainAsked n table marks sheet k left c) where
-  pub chain-split : SplitAsked n table marks k c
-  chain-split = record { legs = record { lengths = asked .tried .lengths; marked = asked .tried .marked; centre = asked .centre }; held = asked .held }
+module _ {n : ℕ} {table rows marks sheet : List ℕ} {k : EdgeSet} {left c : ℕ} (asked : ChainAsked n table rows marks sheet k left c) where
+  pub chain-split : SplitAsked n table rows marks k c
+  chain-split = record { legs = record { lengths = asked .tried .admitted .lengths; marked = asked .tried .admitted .marked; centre = asked .centre }; in-rows = asked .tried .in-rows; held = asked .held }
 
-  pub follow-start : {p : split.Split} (i first : ℕ) → SplitOf n table marks k c p → Following n table marks sheet k left i c first (p .legs) (p .bound) (p .ways) (p .centre) 1 1 i first i
+  pub follow-start : {p : split.Split} {ways near rank : List ℕ} {centre : Near} (i first : ℕ) → SplitOf n table marks k c p → Ways (edgeList k) c ways → centre ≡ neighbours (edgeList k) c
+      → NearbyOf n (p .legs) near rank → Following n table rows marks sheet k left i c first (p .legs) near rank (p .bound) ways centre 1 1 i first i
   unfolding opening
-  follow-start i first s =
+  follow-start i first s each own listed =
       let e : left ≡ suc left - 1 = omega arith in
       record {
         asked = asked;
         bounded = s .bounded;
+        listed = listed;
         prepared = s .prepared;
-        scouted = s .scouted;
+        scouted = record { each = each; own = own };
         low = omega arith;
         up = omega arith;
         top = omega (arith, asked .centre);
         walks = ap₂ (λ (l : ℕ) (ps : List Edge). walk (rulesOf n table marks) sheet record { left = l; known = edgeList k; point = c; pairs = ps; last = i; index = first; high = i }) e (feasibleAfter-start n (lengthOf n table) (openIn n marks) (edgeList k) c);
       }
 
-module _ {n : ℕ} {table marks sheet : List ℕ} {k : EdgeSet} {left i c first : ℕ} {legs : List ℕ} {bound : ℕ} {ways : List ℕ} {centre : Near} {x y last index high : ℕ} (f : Following n table marks sheet k left i c first legs bound ways centre x y last index high) where
+module _ {n : ℕ} {table rows marks sheet : List ℕ} {k : EdgeSet} {left i c first : ℕ} {legs near rank : List ℕ} {bound : ℕ} {ways : List ℕ} {centre : Near} {x y last index high : ℕ} (f : Following n table rows marks sheet k left i c first legs near rank bound ways centre x y last index high) where
   abbrev rules : Rules
   rules = rulesOf n table marks
 
   abbrev here : Spot
   here = spotAt n table marks k left c x y last index high
 
-  pub follow-search : Searchable n table legs bound ways centre k x y
-  follow-search = record { row = record { lengths = f .asked .tried .lengths; bounded = f .bounded; low = f .low; up = f .up; high = f .top }; fit = fit-of (f .scouted); stored = f .asked .held .stored }
+  pub follow-search : Searchable n table legs near rank bound ways centre k x y
+  follow-search = record { row = record { lengths = f .asked .tried .admitted .lengths; bounded = f .bounded; listed = f .listed; low = f .low; up = f .up; high = f .top }; fit = fit-of (f .scouted); stored = f .asked .held .stored }
 
   pub follow-few : k .count ≤ 11
   follow-few = omega (arith, f .asked .room)
@@ -117,7 +122,7 @@ module _ {n : ℕ} {table marks sheet : List ℕ} {k : EdgeSet} {left i c first 
       taken = looked rules sheet here (takes (x′ .a) (x′ .b) (howOf (x′ .closing)) (x′ .next)) (looks g)
 
       module _ {k′ : EdgeSet} (added : Added k c (x′ .a) (x′ .b) k′) where
-        pub follow-case : CaseAsked n table marks sheet k′ left (x′ .closing)
+        pub follow-case : CaseAsked n table rows marks sheet k′ left (x′ .closing)
         follow-case =
             let t = taken in
             record {
@@ -140,7 +145,7 @@ module _ {n : ℕ} {table marks sheet : List ℕ} {k : EdgeSet} {left i c first 
             unfolding walk
             follow-falls = omega (arith, taken .entered, close-rises rules sheet (walk rules sheet) (walk-rises rules sheet (suc (records sheet))) left _ index (howOf (x′ .closing)) reached (closes w))
 
-            pub follow-on : Following n table marks sheet k left i c first legs bound ways centre (x′ .a) (x′ .b) index (x′ .next) reached
+            pub follow-on : Following n table rows marks sheet k left i c first legs near rank bound ways centre (x′ .a) (x′ .b) index (x′ .next) reached
             unfolding behind
             follow-on =
                 let t = taken in
@@ -148,6 +153,7 @@ module _ {n : ℕ} {table marks sheet : List ℕ} {k : EdgeSet} {left i c first 
                 record {
                   asked = f .asked;
                   bounded = f .bounded;
+                  listed = f .listed;
                   prepared = f .prepared;
                   scouted = f .scouted;
                   low = h .0 .low;
@@ -161,7 +167,7 @@ module _ {n : ℕ} {table marks sheet : List ℕ} {k : EdgeSet} {left i c first 
 
 -- the closing of a case
 
-module _ {n : ℕ} {table marks sheet : List ℕ} {k : EdgeSet} {left : ℕ} {closing : Closing} (asked : CaseAsked n table marks sheet k left closing) where
+module _ {n : ℕ} {table rows marks sheet : List ℕ} {k : EdgeSet} {left : ℕ} {closing : Closing} (asked : CaseAsked n table rows marks sheet k left closing) where
   abbrev case-rules : Rules
   case-rules = rulesOf n table marks
 
@@ -175,7 +181,7 @@ module _ {n : ℕ} {table marks sheet : List ℕ} {k : EdgeSet} {left : ℕ} {cl
     pub close-too-deep : (i : ℕ) → left ≡ 0 → refused 13 i ≡ close case-rules (walk case-rules sheet) left (edgeList k) i (howOf closing)
     close-too-deep i z = sym (close-seventh case-rules sheet left (edgeList k) i point first z) ∙ closed-as i e
 
-    pub close-chain : (left ≡ 0 → ⊥) → ChainAsked n table marks sheet k (left - 1) point
+    pub close-chain : (left ≡ 0 → ⊥) → ChainAsked n table rows marks sheet k (left - 1) point
     unfolding howFits
     close-chain z = record { tried = asked .tried; held = asked .held; room = omega (arith, asked .room); centre = is-point n point (fitting e) }
 
@@ -191,7 +197,7 @@ module _ {n : ℕ} {table marks sheet : List ℕ} {k : EdgeSet} {left : ℕ} {cl
         let h = both _ _ (fitting e) in
         let g = both _ _ (h .1) in
         let f = both _ _ (g .1) in
-        let whole = asked .tried .lengths .whole in
+        let whole = asked .tried .admitted .lengths .whole in
         record {
           edge = record { first = is-point n p (h .0); second = is-point n q (g .0); whole = whole };
           centres = record { first = is-point n r (f .0); second = is-point n s (f .1); whole = whole };

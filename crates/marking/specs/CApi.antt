@@ -1,8 +1,9 @@
 -- The two functions for C (01, "Layers and program"): bytes in, one 64-bit number out.
-use Prim.Native.Nat.{ℕ, _+_, _*_}
+use Prim.Native.Nat.{ℕ, _+_, _*_, _/_, _≤_, min}
 use mathlib.Core.Path.{_≡_}
 use mathlib.Core.Bool.{Bool, true, false}
 use mathlib.Core.List.{List}
+use lib.ListN.{length}
 use Rattle.argument.specs.Verdict.{Verdict, accepted, refused}
 use Rattle.argument.specs.Sheet.{Result}
 use Rattle.marking.specs.Bytes.{whole16, whole32}
@@ -44,3 +45,19 @@ checkedNumber (checked.Tour sum all-open) = 65536 * sum + openNumber all-open
 
 unfoldable pub tourInC : ℕ → List ℕ → List ℕ → List ℕ → ℕ
 tourInC n table marks t = checkedNumber (tourChecked n (whole32 table) marks (whole16 t))
+
+-- the arrays that a call decodes into have room for all numbers, or for as many as a call that passes its tests has
+pub record TableRoom (table lengths : List ℕ) : Type 0 where
+  pub edges : min (length table / 4) 16110 ≤ length lengths
+
+pub record MarkRoom (table s lengths numbers : List ℕ) : Type 0 where
+  pub edges : min (length table / 4) 16110 ≤ length lengths
+  pub places : min (length s / 2) 32000 ≤ length numbers
+
+-- the bytes of a table of up to 60 points, and of a sheet of up to 1,000 records
+pub record SmallTable (table : List ℕ) : Type 0 where
+  pub edges : length table ≤ 7080
+
+pub record SmallSheet (table s : List ℕ) : Type 0 where
+  pub edges : length table ≤ 7080
+  pub places : length s ≤ 16000

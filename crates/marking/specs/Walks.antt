@@ -5,6 +5,7 @@ use mathlib.Core.Bool.{true}
 use mathlib.Core.List.{List, [], _∷_}
 use lib.ListN.{length}
 use Rattle.lengths.specs.Edge.{Edge, edge, Point, edgeCount}
+use Rattle.lengths.specs.Rows.{Rows}
 use Rattle.rules.specs.Split.{Lengths}
 use Rattle.rules.specs.Stored.{Held}
 use Rattle.rules.specs.declared.edge_set.EdgeSet.{EdgeSet}
@@ -44,23 +45,28 @@ abbrev pub spotOf : NextPair → (last index high : ℕ) → Spot
 spotOf next last index high = record { left = 0; known = []; point = 0; pairs = pairsOf next; last = last; index = index; high = high }
 
 -- an instance with its marks and a sheet, as the tests leave them
-pub record Tried (n : ℕ) (table marks sheet : List ℕ) : Type 0 where
+pub record Admitted (n : ℕ) (table marks sheet : List ℕ) : Type 0 where
   pub least : 4 ≤ n
   pub lengths : Lengths n table
   pub marked : length marks ≡ edgeCount n
   pub whole : length sheet ≡ 8 * records sheet
   pub few : records sheet ≤ 4000
 
+-- the same, with the lengths in rows
+pub record Tried (n : ℕ) (table rows marks sheet : List ℕ) : Type 0 where
+  pub admitted : Admitted n table marks sheet
+  pub in-rows : Rows n table rows
+
 -- what a chain is asked about: its point is one of 1 to n, and K fits with all that the splits left can add
-pub record ChainAsked (n : ℕ) (table marks sheet : List ℕ) (k : EdgeSet) (left c : ℕ) : Type 0 where
-  pub tried : Tried n table marks sheet
+pub record ChainAsked (n : ℕ) (table rows marks sheet : List ℕ) (k : EdgeSet) (left c : ℕ) : Type 0 where
+  pub tried : Tried n table rows marks sheet
   pub held : Held n k
   pub room : k .count + 2 * left + 2 ≤ 13
   pub centre : Point n c
 
 -- what a case is asked about: its points are among 1 to n, and K has its pair
-pub record CaseAsked (n : ℕ) (table marks sheet : List ℕ) (k : EdgeSet) (left : ℕ) (closing : Closing) : Type 0 where
-  pub tried : Tried n table marks sheet
+pub record CaseAsked (n : ℕ) (table rows marks sheet : List ℕ) (k : EdgeSet) (left : ℕ) (closing : Closing) : Type 0 where
+  pub tried : Tried n table rows marks sheet
   pub held : Held n k
   pub room : k .count + 2 * left ≤ 13
   pub points : howFits n (howOf closing) ≡ true

@@ -1,5 +1,4 @@
 // Little-endian bytes from C, decoded once: tables of 32-bit and lists of 16-bit numbers.
-ghost use mathlib.Core.Path.{_≡_};
 ghost use lib.ListN.{length};
 ghost use Rattle.marking.specs.Bytes.{ByteIs, Decoded, fitting16, fitting32};
 

@@ -8,7 +8,7 @@ use crate::verdict::Marked;
 use crate::verdict::Verdict;
 ghost use mathlib.Core.Path.{_≡_};
 ghost use Rattle.marking.specs.TourCheck.{Countable};
-ghost use Rattle.marking.specs.CApi.{checkedNumber, MarkNumber, MarkedInC, tourInC};
+ghost use Rattle.marking.specs.CApi.{checkedNumber, MarkNumber, MarkedInC, MarkRoom, SmallSheet, SmallTable, TableRoom, tourInC};
 
 // The refusal number or 0, plus 256 times the record, plus 16,777,216 times the lines accepted.
 fn marked_number(marked: Marked) -> u64
@@ -38,16 +38,86 @@ fn checked_number(checked: Checked) -> u64
     }
 }
 
-// Marks a sheet. The table has 32 bits an edge, the sheet 16 bits a number.
+// The numbers that small calls have room for, up to 60 points and 1,000 records, and those that any call has.
+const SMALL_TABLE: usize = 1_770;
+
+const SMALL_SHEET: usize = 8_000;
+
+const LARGE_TABLE: usize = 16_110;
+
+const LARGE_SHEET: usize = 32_000;
+
+// Marks a sheet: the table and the sheet are decoded into `lengths` and `numbers`.
+fn mark_decoded(
+    n: u32,
+    table: &[u8],
+    marks: &mut [u8],
+    sheet: &[u8],
+    lengths: &mut [u32],
+    numbers: &mut [u16],
+) -> u64
+    requires { ⌜ MarkRoom (now table) (now sheet) (now lengths) (now numbers) ⌝ }
+    ensures { λ r. ⌜ MarkedInC n (now (table .entry)) (now (marks .entry)) (now (sheet .entry)) r (now (marks .exit)) ⌝ }
+{
+    let edges = decode32(table, lengths);
+    let size = decode16(sheet, numbers);
+    marked_number(mark_sheet(n, &lengths[..edges], marks, &numbers[..size]))
+}
+
+fn mark_small(n: u32, table: &[u8], marks: &mut [u8], sheet: &[u8]) -> u64
+    requires { ⌜ SmallSheet (now table) (now sheet) ⌝ }
+    ensures { λ r. ⌜ MarkedInC n (now (table .entry)) (now (marks .entry)) (now (sheet .entry)) r (now (marks .exit)) ⌝ }
+{
+    let mut lengths = [0u32; SMALL_TABLE];
+    let mut numbers = [0u16; SMALL_SHEET];
+    mark_decoded(n, table, marks, sheet, &mut lengths, &mut numbers)
+}
+
+fn mark_large(n: u32, table: &[u8], marks: &mut [u8], sheet: &[u8]) -> u64
+    ensures { λ r. ⌜ MarkedInC n (now (table .entry)) (now (marks .entry)) (now (sheet .entry)) r (now (marks .exit)) ⌝ }
+{
+    let mut lengths = [0u32; LARGE_TABLE];
+    let mut numbers = [0u16; LARGE_SHEET];
+    mark_decoded(n, table, marks, sheet, &mut lengths, &mut numbers)
+}
+
+// Marks a sheet. The table has 32 bits an edge, the sheet 16 bits a number. A small call clears small arrays only.
 #[no_mangle]
 pub extern "C" fn revosti_mark_sheet(n: u32, table: &[u8], marks: &mut [u8], sheet: &[u8]) -> u64
     ensures { λ r. ⌜ MarkedInC n (now (table .entry)) (now (marks .entry)) (now (sheet .entry)) r (now (marks .exit)) ⌝ }
 {
-    let mut lengths = [0u32; 16110];
-    let edges = decode32(table, &mut lengths);
-    let mut numbers = [0u16; 32000];
-    let size = decode16(sheet, &mut numbers);
-    marked_number(mark_sheet(n, &lengths[..edges], marks, &numbers[..size]))
+    if table.len() <= 4 * SMALL_TABLE {
+        if sheet.len() <= 2 * SMALL_SHEET {
+            return mark_small(n, table, marks, sheet);
+        }
+    }
+    mark_large(n, table, marks, sheet)
+}
+
+// Checks a tour: the table is decoded into `lengths`.
+fn check_decoded(n: u32, table: &[u8], marks: &[u8], tour: &[u8], lengths: &mut [u32]) -> u64
+    requires { ⌜ TableRoom (now table) (now lengths) ⌝ }
+    ensures { λ r. ⌜ r ≡ tourInC n (now (table .entry)) (now (marks .entry)) (now (tour .entry)) ⌝ }
+{
+    let edges = decode32(table, lengths);
+    let mut points = [0u16; 180];
+    let size = decode16(tour, &mut points);
+    checked_number(check_tour(n, &lengths[..edges], marks, &points[..size]))
+}
+
+fn check_small(n: u32, table: &[u8], marks: &[u8], tour: &[u8]) -> u64
+    requires { ⌜ SmallTable (now table) ⌝ }
+    ensures { λ r. ⌜ r ≡ tourInC n (now (table .entry)) (now (marks .entry)) (now (tour .entry)) ⌝ }
+{
+    let mut lengths = [0u32; SMALL_TABLE];
+    check_decoded(n, table, marks, tour, &mut lengths)
+}
+
+fn check_large(n: u32, table: &[u8], marks: &[u8], tour: &[u8]) -> u64
+    ensures { λ r. ⌜ r ≡ tourInC n (now (table .entry)) (now (marks .entry)) (now (tour .entry)) ⌝ }
+{
+    let mut lengths = [0u32; LARGE_TABLE];
+    check_decoded(n, table, marks, tour, &mut lengths)
 }
 
 // Checks a tour. The table has 32 bits an edge, the tour 16 bits a point.
@@ -55,9 +125,8 @@ pub extern "C" fn revosti_mark_sheet(n: u32, table: &[u8], marks: &mut [u8], she
 pub extern "C" fn revosti_check_tour(n: u32, table: &[u8], marks: &[u8], tour: &[u8]) -> u64
     ensures { λ r. ⌜ r ≡ tourInC n (now (table .entry)) (now (marks .entry)) (now (tour .entry)) ⌝ }
 {
-    let mut lengths = [0u32; 16110];
-    let edges = decode32(table, &mut lengths);
-    let mut points = [0u16; 180];
-    let size = decode16(tour, &mut points);
-    checked_number(check_tour(n, &lengths[..edges], marks, &points[..size]))
+    if table.len() <= 4 * SMALL_TABLE {
+        return check_small(n, table, marks, tour);
+    }
+    check_large(n, table, marks, tour)
 }

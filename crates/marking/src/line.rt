@@ -43,8 +43,16 @@ pub enum Turned {
 }
 
 // Judges the line that was read as record i.
-fn judge_line(n: u16, table: &[u32], marks: &[u8], sheet: &[u16], i: u16, line: Line) -> Judged
-    requires { ⌜ LineAsked n (now table) (now marks) (now sheet) i ⌝ }
+fn judge_line(
+    n: u16,
+    table: &[u32],
+    rows: &[u32],
+    marks: &[u8],
+    sheet: &[u16],
+    i: u16,
+    line: Line,
+) -> Judged
+    requires { ⌜ LineAsked n (now table) (now rows) (now marks) (now sheet) i ⌝ }
     ensures { λ r. ⌜ judgedOf r ≡ judgeRecord (rulesOf n (now (table .entry)) (now (marks .entry))) (openIn n (now (marks .entry))) (now (sheet .entry)) i (recordOf (Record.Line line)) ⌝ }
 {
     let closing = Closing::Split {
@@ -61,6 +69,7 @@ fn judge_line(n: u16, table: &[u32], marks: &[u8], sheet: &[u16], i: u16, line: 
     match chain(
         n,
         table,
+        rows,
         marks,
         sheet,
         k,
@@ -80,12 +89,12 @@ fn judge_line(n: u16, table: &[u32], marks: &[u8], sheet: &[u16], i: u16, line: 
 }
 
 // Judges the line that record i should be.
-pub fn judge(n: u16, table: &[u32], marks: &[u8], sheet: &[u16], i: u16) -> Judged
-    requires { ⌜ LineAsked n (now table) (now marks) (now sheet) i ⌝ }
+pub fn judge(n: u16, table: &[u32], rows: &[u32], marks: &[u8], sheet: &[u16], i: u16) -> Judged
+    requires { ⌜ LineAsked n (now table) (now rows) (now marks) (now sheet) i ⌝ }
     ensures { λ r. ⌜ judgedOf r ≡ judging.judge (rulesOf n (now (table .entry)) (now (marks .entry))) (openIn n (now (marks .entry))) (now (sheet .entry)) i ⌝ }
 {
     match Sheet::record(sheet, i) {
-        Record::Line(line) => judge_line(n, table, marks, sheet, i, line),
+        Record::Line(line) => judge_line(n, table, rows, marks, sheet, i, line),
         Record::Case(_) => Judged::Refused(refusal::KIND, i),
         Record::Other => Judged::Refused(refusal::KIND, i),
     }
@@ -95,13 +104,14 @@ pub fn judge(n: u16, table: &[u32], marks: &[u8], sheet: &[u16], i: u16) -> Judg
 pub fn mark_line(
     n: u16,
     table: &[u32],
+    rows: &[u32],
     marks: &mut [u8],
     sheet: &[u16],
     last: u16,
     index: u16,
     high: u16,
 ) -> Turned
-    requires { ⌜ Tried n (now table) (now marks) (now sheet) ⌝ }
+    requires { ⌜ Tried n (now table) (now rows) (now marks) (now sheet) ⌝ }
     ensures { λ r. ⌜ TurnedAs n (now (table .entry)) (now (marks .entry)) (now (sheet .entry)) last index high r (now (marks .exit)) ⌝ }
 {
     if index == 0 {
@@ -113,7 +123,7 @@ pub fn mark_line(
     if index <= high {
         return Turned::Refused(refusal::INDEX_NOT_ABOVE, last);
     }
-    match judge(n, table, marks, sheet, index) {
+    match judge(n, table, rows, marks, sheet, index) {
         Judged::Strikes { a, b, next, high } => {
             strike(n, marks, a, b);
             Turned::Struck {
@@ -135,8 +145,8 @@ fn strike(n: u16, marks: &mut [u8], a: u16, b: u16)
 }
 
 // The lines of a sheet from record 1 on.
-pub fn mark_lines(n: u16, table: &[u32], marks: &mut [u8], sheet: &[u16]) -> Marked
-    requires { ⌜ Tried n (now table) (now marks) (now sheet) ⌝ }
+pub fn mark_lines(n: u16, table: &[u32], rows: &[u32], marks: &mut [u8], sheet: &[u16]) -> Marked
+    requires { ⌜ Tried n (now table) (now rows) (now marks) (now sheet) ⌝ }
     ensures { λ r. ⌜ resultOf r (now (marks .exit)) ≡ lines.sheet (markingOf n (now (table .entry))) (now (sheet .entry)) (now (marks .entry)) ⌝ }
 {
     let mut lines: u16 = 0;
@@ -144,7 +154,7 @@ pub fn mark_lines(n: u16, table: &[u32], marks: &mut [u8], sheet: &[u16]) -> Mar
     let mut index: u16 = 1;
     let mut high: u16 = 0;
     loop {
-        match mark_line(n, table, marks, sheet, last, index, high) {
+        match mark_line(n, table, rows, marks, sheet, last, index, high) {
             Turned::Over => return Marked {
                 verdict: Verdict::Accepted,
                 lines: lines,

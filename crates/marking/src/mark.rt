@@ -7,9 +7,62 @@ use crate::tests::test_instance;
 use crate::verdict::Marked;
 use crate::verdict::Verdict;
 use lengths::refusal;
+use lengths::rows::fill_rows;
 ghost use mathlib.Core.Path.{_≡_};
+ghost use Prim.Native.Nat.{_≤_};
+ghost use Rattle.argument.specs.Sheet as lines;
 ghost use Rattle.argument.specs.Verdict.{refused};
+ghost use Rattle.marking.specs.Lines.{RowsAsked};
 ghost use Rattle.marking.specs.Marking.{markSheet, resultOf, verdictOf};
+ghost use Rattle.marking.specs.Rules.{markingOf};
+ghost use Rattle.marking.specs.Walks.{Admitted};
+
+// Up to so many points the rows of lengths stand in a small array: to clear a large one takes longer than to mark a short sheet.
+const FEW_POINTS: u16 = 60;
+
+// The numbers in the rows of 60 points: a place for each point and one for 0, in the row of each point and of 0.
+const FEW_ROWS: usize = 3_721;
+
+// The numbers in the rows of 180 points.
+const MOST_ROWS: usize = 32_761;
+
+// Writes the rows of lengths, and marks the lines by them.
+fn mark_by_rows(n: u16, table: &[u32], rows: &mut [u32], marks: &mut [u8], sheet: &[u16]) -> Marked
+    requires { ⌜ RowsAsked n (now table) (now rows) (now marks) (now sheet) ⌝ }
+    ensures { λ r. ⌜ resultOf r (now (marks .exit)) ≡ lines.sheet (markingOf n (now (table .entry))) (now (sheet .entry)) (now (marks .entry)) ⌝ }
+{
+    fill_rows(n, table, rows);
+    mark_lines(n, table, rows, marks, sheet)
+}
+
+// Marks the lines where there are few points.
+fn mark_few(n: u16, table: &[u32], marks: &mut [u8], sheet: &[u16]) -> Marked
+    requires { ⌜ (Admitted n (now table) (now marks) (now sheet)) × (n ≤ 60) ⌝ }
+    ensures { λ r. ⌜ resultOf r (now (marks .exit)) ≡ lines.sheet (markingOf n (now (table .entry))) (now (sheet .entry)) (now (marks .entry)) ⌝ }
+{
+    let mut rows = [0u32; FEW_ROWS];
+    mark_by_rows(n, table, &mut rows, marks, sheet)
+}
+
+// Marks the lines, however many points there are.
+fn mark_many(n: u16, table: &[u32], marks: &mut [u8], sheet: &[u16]) -> Marked
+    requires { ⌜ Admitted n (now table) (now marks) (now sheet) ⌝ }
+    ensures { λ r. ⌜ resultOf r (now (marks .exit)) ≡ lines.sheet (markingOf n (now (table .entry))) (now (sheet .entry)) (now (marks .entry)) ⌝ }
+{
+    let mut rows = [0u32; MOST_ROWS];
+    mark_by_rows(n, table, &mut rows, marks, sheet)
+}
+
+// Marks the lines of a sheet that passed the tests.
+fn mark_admitted(n: u16, table: &[u32], marks: &mut [u8], sheet: &[u16]) -> Marked
+    requires { ⌜ Admitted n (now table) (now marks) (now sheet) ⌝ }
+    ensures { λ r. ⌜ resultOf r (now (marks .exit)) ≡ lines.sheet (markingOf n (now (table .entry))) (now (sheet .entry)) (now (marks .entry)) ⌝ }
+{
+    if n <= FEW_POINTS {
+        return mark_few(n, table, marks, sheet);
+    }
+    mark_many(n, table, marks, sheet)
+}
 
 // The answer where a test of the call fails: no record is at fault, and no line was accepted.
 fn turned_down(number: u8) -> Marked
@@ -34,6 +87,6 @@ pub fn mark_sheet(n: u32, table: &[u32], marks: &mut [u8], sheet: &[u16]) -> Mar
     };
     match Sheet::admit(sheet.len()) {
         SheetAdmission::Refused => turned_down(refusal::SHEET),
-        SheetAdmission::Admitted(_) => mark_lines(points, table, marks, sheet),
+        SheetAdmission::Admitted(_) => mark_admitted(points, table, marks, sheet),
     }
 }

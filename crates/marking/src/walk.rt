@@ -7,9 +7,13 @@ use lengths::refusal;
 use rules::closing::Crossed;
 use rules::closing::crossing;
 use rules::edge_set::EdgeSet;
+use rules::near::neighbours;
+use rules::nearby;
+use rules::nearby::list_nearby;
 use rules::pairs::NextPair;
 use rules::pairs::next_pair;
 use rules::split::prepare;
+use rules::ways::ways_beyond;
 ghost use mathlib.Core.Path.{_≡_};
 ghost use Prim.Native.Nat.{suc, _*_};
 ghost use lib.ListN.{length};
@@ -126,9 +130,11 @@ fn look(n: u16, sheet: &[u16], next: NextPair, last: u16, index: u16, high: u16)
 }
 
 // The chain of the split at c that record i holds, under k, from the index `first` on; `left` more splits may lie inside a case.
+// The rows are those of the table.
 pub fn chain(
     n: u16,
     table: &[u32],
+    rows: &[u32],
     marks: &[u8],
     sheet: &[u16],
     k: EdgeSet,
@@ -137,29 +143,32 @@ pub fn chain(
     c: u16,
     first: u16,
 ) -> Walked
-    requires { ⌜ ChainAsked n (now table) (now marks) (now sheet) k left c ⌝ }
+    requires { ⌜ ChainAsked n (now table) (now rows) (now marks) (now sheet) k left c ⌝ }
     ensures { λ r. ⌜ walkedOf r ≡ walk (rulesOf n (now (table .entry)) (now (marks .entry))) (now (sheet .entry))
         (opening (rulesOf n (now (table .entry)) (now (marks .entry))) (suc left) (edgeList k) i c first) ⌝ }
 {
-    let split = prepare(n, table, marks, k, c);
+    let split = prepare(n, table, rows, marks, k, c);
     let legs = split.legs;
     let bound = split.bound;
-    let ways = split.ways;
-    let centre = split.centre;
+    let ways = ways_beyond(k, c);
+    let centre = neighbours(k, c);
+    let mut near = [0u16; nearby::PLACES];
+    let mut rank = [0u16; nearby::PLACES];
+    list_nearby(n, &legs, &mut near, &mut rank);
     let mut x: u16 = 1;
     let mut y: u16 = 1;
     let mut last = i;
     let mut index = first;
     let mut high = i;
     loop {
-        let next = next_pair(n, table, &legs, bound, &ways, centre, k, x, y);
+        let next = next_pair(n, table, &legs, &near, &rank, bound, &ways, centre, k, x, y);
         match look(n, sheet, next, last, index, high) {
             Looked::Ends => return Walked::Closed(high),
             Looked::Refused(number, at) => return Walked::Refused(number, at),
             Looked::Takes(case) => {
                 let closing = case.closing;
                 let inner = k.with_pair(c, case.a, case.b);
-                match close_case(n, table, marks, sheet, inner, left, index, closing) {
+                match close_case(n, table, rows, marks, sheet, inner, left, index, closing) {
                     Walked::Refused(number, at) => return Walked::Refused(number, at),
                     Walked::Closed(reached) => high = reached,
                 }
@@ -176,6 +185,7 @@ pub fn chain(
 fn close_case(
     n: u16,
     table: &[u32],
+    rows: &[u32],
     marks: &[u8],
     sheet: &[u16],
     k: EdgeSet,
@@ -183,7 +193,7 @@ fn close_case(
     i: u16,
     closing: Closing,
 ) -> Walked
-    requires { ⌜ CaseAsked n (now table) (now marks) (now sheet) k left closing ⌝ }
+    requires { ⌜ CaseAsked n (now table) (now rows) (now marks) (now sheet) k left closing ⌝ }
     ensures { λ r. ⌜ walkedOf r ≡ close (rulesOf n (now (table .entry)) (now (marks .entry)))
         (walk (rulesOf n (now (table .entry)) (now (marks .entry))) (now (sheet .entry))) left (edgeList k) i (howOf closing) ⌝ }
 {
@@ -192,7 +202,7 @@ fn close_case(
             if left == 0 {
                 return Walked::Refused(refusal::SEVENTH_SPLIT, i);
             }
-            chain(n, table, marks, sheet, k, left - 1, i, point, first)
+            chain(n, table, rows, marks, sheet, k, left - 1, i, point, first)
         }
         Closing::Crossing { p, q, r, s } => match crossing(n, table, k, p, q, r, s) {
             Crossed::Settled => Walked::Closed(i),

@@ -1,9 +1,15 @@
 pub mod ClosingExact
 pub mod Crossings
 pub mod Exact
+pub mod FirstFrom
 pub mod Laws
+pub mod Legs
 pub mod PairLists
+pub mod PairSearch
 pub mod PairTests
-pub mod Searches
+pub mod Preparing
+pub mod Ranks
+pub mod RowSearch
+pub mod SingleEdge
 pub mod Splits
 pub mod WaysBeyond

@@ -32,12 +32,13 @@ pub pairsAfter-start : (n : ℕ) → pairsAfter n 1 1 ≡ edges n
 unfolding edges
 pairsAfter-start n = sym (rows-after n 1)
 
--- nothing comes after nn
-pub pairsAfter-end : (n : ℕ) → pairsAfter n n n ≡ []
-unfolding rows
-pairsAfter-end n =
-    let e : n - n ≡ 0 = omega arith in
-    sym (rows-after n n) ∙ ap (rows n) e
+-- nothing comes after the row of n
+pub pairsAfter-end : (n a b : ℕ) → n ≤ a → a ≤ b → pairsAfter n a b ≡ []
+unfolding pairsAfter row rows
+pairsAfter-end n a b h g =
+    let e : n - b ≡ 0 = omega arith in
+    let f : n - suc a ≡ 0 = omega arith in
+    ap₂ (λ (i j : ℕ). row a (suc b) i ++ rows (suc a) j) e f
 
 -- a list of pairs of 1 to n in which each pair is followed by the pairs after it
 abbrev pub Chain : ℕ → List Edge → Type 0

@@ -10,10 +10,10 @@ use lib.Dec.{eqb}
 use lib.ListN.{length, getD, set, replicate, length-set, length-replicate, getD-replicate, List·getD-eq-default}
 use lib.Seq.{getD-set-same, getD-set-other}
 use borrow.Author.Tests.{eqb-true, eqb-false, eq-eqb, ne-eqb}
-use Rattle.lengths.specs.Edge.{Edge}
+use Rattle.lengths.specs.Edge.{Edge, Point}
 use Rattle.rules.specs.Shape.{reaches?, shuts?}
 use Rattle.rules.specs.Near.{withPoint, seen, neighbours, beyond}
-use Rattle.rules.specs.Stored.{edgesOf, edgeList}
+use Rattle.rules.specs.Stored.{edgesOf, edgeList, Held}
 use Rattle.rules.specs.Ways.{wayOf, joined, further, passing, Named, PassAsked, Passed, WaysAsked, Ways, Scouted, Fit}
 use Rattle.rules.specs.declared.edge_set.EdgeSet.{EdgeSet}
 use Rattle.rules.specs.declared.near.Near.{Near}
@@ -237,3 +237,14 @@ fit-of {K} {c} {ways} {centre} s = record { size = s .each .size; apart = λ a b
   where
     around : (a b : ℕ) → neighbours K c ≡ Two a b → Around K c (neighbours K c) → a ≡ b → ⊥
     around a b e h = subst (Around K c) e h .apart
+
+-- the points of a set are places of the array of ways
+pub ways-asked : {n : ℕ} {k : EdgeSet} → n ≤ 180 → Held n k → WaysAsked k
+ways-asked {n} few h = record {
+  stored = h .stored;
+  from-named = λ i l. named (h .points .from-point i l);
+  to-named = λ i l. named (h .points .to-point i l);
+}
+  where
+    named : {u : ℕ} → Point n u → Named u
+    named p = record { low = p .low; high = omega (arith, p .high, few) }

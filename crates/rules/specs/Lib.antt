@@ -4,6 +4,7 @@ pub mod EdgeSet
 pub mod Joined
 pub mod Mark
 pub mod Near
+pub mod Nearby
 pub mod NextPair
 pub mod Pair
 pub mod PairTest

@@ -1,19 +1,20 @@
 -- What a split point's search looks up for every pair, computed once: the length of each leg, and how much a pair may cost.
 -- A leg that conditions 1 and 4 rule out is FAR, 10,000,000: more than any pair may cost.
-use Prim.Native.Nat.{ℕ, _+_, _-_, _≤_, min, max}
+use Prim.Native.Nat.{ℕ, _+_, _-_, _*_, _≤_, _<_, min, max}
 use mathlib.Core.Path.{_≡_}
 use mathlib.Core.Bool.{Bool, cond}
 use mathlib.Core.List.{List, [], _∷_}
 use lib.Dec.{eqb, leb}
 use lib.ListN.{length, getD}
 use Rattle.lengths.specs.Edge.{Edge, edge, Point, edgeCount}
+use Rattle.lengths.specs.Rows.{RowAt, Rows}
 use Rattle.lengths.specs.Table.{lengthOf}
 use Rattle.rules.specs.PairTest.{leg?}
 use Rattle.rules.specs.Mark.{openIn}
 use Rattle.rules.specs.Stored.{edgeList, Held}
-use Rattle.rules.specs.Ways.{Scouted}
 use Rattle.rules.specs.declared.edge_set.EdgeSet.{EdgeSet}
 use Rattle.rules.specs.declared.split.Split.{Split}
+use Rattle.rules.specs.declared.split.Triangle.{Triangle}
 
 -- a table of at most 180 points, no length above 2,000,000 (01, "Points, lengths, marks")
 pub record Lengths (n : ℕ) (table : List ℕ) : Type 0 where
@@ -29,10 +30,18 @@ legOf l open? K c x = cond (leg? l open? K c x) (l c x) 10000000
 unfoldable pub narrowed : (ℕ → ℕ → ℕ) → ℕ → ℕ → ℕ → ℕ → ℕ → ℕ
 narrowed l c p q x m = cond (leb (m + l p q) (max (l c p + l x q) (l c q + l x p))) m 10000000
 
+-- the same by numbers: a leg m that is `both` with the edge, and the two exchanges
+unfoldable pub narrowedBy : ℕ → ℕ → ℕ → ℕ → ℕ
+narrowedBy m both one other = cond (leb both (max one other)) m 10000000
+
 -- the bound b with the edge uv taken in: by condition 5 a pair x, y has l(xc) + l(yc) - l(xy) at most l(uc) + l(vc) - l(uv).
 -- 2,000,000 is added on both sides, so that nothing is negative.
 unfoldable pub tightened : (ℕ → ℕ → ℕ) → ℕ → ℕ → ℕ → ℕ → ℕ
 tightened l c u v b = cond (eqb u c) b (cond (eqb v c) b (min (l u c + l v c + 2000000 - l u v) b))
+
+-- the same by the lengths uv, cu and cv
+unfoldable pub tightenedBy : ℕ → ℕ → ℕ → ℕ → ℕ → ℕ → ℕ → ℕ
+tightenedBy c u v uv cu cv b = cond (eqb u c) b (cond (eqb v c) b (min (cu + cv + 2000000 - uv) b))
 
 -- the least of these over the edges of K that do not touch c; 6,000,000 where there is none, which every pair meets
 unfoldable pub boundOf : (ℕ → ℕ → ℕ) → List Edge → ℕ → ℕ
@@ -64,49 +73,123 @@ pub record LegsAsked (n : ℕ) (table marks : List ℕ) (c : ℕ) : Type 0 where
   pub marked : length marks ≡ edgeCount n
   pub centre : Point n c
 
--- what one leg is asked about: the same, and its other end
-pub record LegAsked (n : ℕ) (table marks : List ℕ) (c x : ℕ) : Type 0 where
-  pub asked : LegsAsked n table marks c
-  pub end : Point n x
+-- a row of lengths stands in `rows` from `at` on, none above 2,000,000
+pub record RowLent (n : ℕ) (rows : List ℕ) (at : ℕ) : Type 0 where
+  pub room : at + n < length rows
+  pub small : (x : ℕ) → Point n x → getD rows (at + x) 0 ≤ 2000000
 
--- what taking in the edge pq is asked about: a table, the split point, and the edge
-pub record EdgeAsked (n : ℕ) (table : List ℕ) (c p q : ℕ) : Type 0 where
-  pub lengths : Lengths n table
+-- the lengths to the points by the row that stands at `at`
+unfoldable pub rowOf : List ℕ → ℕ → ℕ → ℕ → ℕ
+rowOf rows at c x = getD rows (at + x) 0
+
+-- what the legs are asked about where K is empty: the marks, and c with its row
+pub record OpenAsked (n : ℕ) (marks rows : List ℕ) (c at : ℕ) : Type 0 where
+  pub few : n ≤ 180
+  pub marked : length marks ≡ edgeCount n
   pub centre : Point n c
+  pub row : RowLent n rows at
+
+-- the legs of the points below x are those where K is empty, the others are FAR
+pub record OpenBelow (n : ℕ) (marks rows : List ℕ) (c at : ℕ) (legs : List ℕ) (x : ℕ) : Type 0 where
+  pub list : LegList legs
+  pub done : (i : ℕ) → 1 ≤ i → i < x → getD legs i 0 ≡ legOf (rowOf rows at) (openIn n marks) [] c i
+  pub rest : (i : ℕ) → x ≤ i → i ≤ 180 → getD legs i 0 ≡ 10000000
+
+-- what filling in the legs from x on is asked about
+pub record OpenFrom (n : ℕ) (marks rows : List ℕ) (c at : ℕ) (legs : List ℕ) (x : ℕ) : Type 0 where
+  pub asked : OpenAsked n marks rows c at
+  pub below : OpenBelow n marks rows c at legs x
+
+-- what `open_legs` answers: the legs where K is empty
+pub record OpenLegs (n : ℕ) (marks rows : List ℕ) (c at : ℕ) (legs : List ℕ) : Type 0 where
+  pub list : LegList legs
+  pub each : LegsOf n (rowOf rows at) (openIn n marks) [] c legs
+
+-- three lengths, none above 2,000,000
+pub record Short (pq cp cq : ℕ) : Type 0 where
+  pub first : pq ≤ 2000000
+  pub second : cp ≤ 2000000
+  pub third : cq ≤ 2000000
+
+-- what taking pq into all legs is asked about: the rows of p and q, which begin at ps and qs, and the lengths pq, cp and cq
+pub record NarrowAsked (n : ℕ) (rows legs : List ℕ) (ps qs pq cp cq : ℕ) : Type 0 where
+  pub few : n ≤ 180
+  pub list : LegList legs
+  pub row-p : RowLent n rows ps
+  pub row-q : RowLent n rows qs
+  pub short : Short pq cp cq
+
+-- what `narrow` leaves: the legs with pq taken in
+pub record Narrowed (n : ℕ) (rows legs : List ℕ) (ps qs pq cp cq : ℕ) (r : List ℕ) : Type 0 where
+  pub list : LegList r
+  pub each : (x : ℕ) → Point n x
+      → getD r x 0 ≡ narrowedBy (getD legs x 0) (getD legs x 0 + pq) (cp + getD rows (qs + x) 0) (cq + getD rows (ps + x) 0)
+
+-- what the triangle of c and pq is asked about: the rows of c and p
+pub record TriangleAsked (n : ℕ) (rows : List ℕ) (c p q : ℕ) : Type 0 where
+  pub room-c : (n + 1) * c + n < length rows
+  pub room-p : (n + 1) * p + n < length rows
   pub from : Point n p
   pub to : Point n q
 
--- what taking pq into the leg m of x is asked about: the same, x, and the lengths pq, cp and cq
-pub record Known (n : ℕ) (table : List ℕ) (c p q x m pq cp cq : ℕ) : Type 0 where
-  pub asked : EdgeAsked n table c p q
-  pub end : Point n x
-  pub leg : m ≤ 10000000
-  pub is-pq : pq ≡ lengthOf n table p q
-  pub is-cp : cp ≡ lengthOf n table c p
-  pub is-cq : cq ≡ lengthOf n table c q
+-- what `triangle_of` answers: where the rows of p and q begin, and the lengths pq, cp and cq by the rows
+pub record TriangleIn (n : ℕ) (rows : List ℕ) (c p q : ℕ) (t : Triangle) : Type 0 where
+  pub start-p : t .ps ≡ (n + 1) * p
+  pub start-q : t .qs ≡ (n + 1) * q
+  pub is-pq : t .pq ≡ getD rows ((n + 1) * p + q) 0
+  pub is-cp : t .cp ≡ getD rows ((n + 1) * c + p) 0
+  pub is-cq : t .cq ≡ getD rows ((n + 1) * c + q) 0
 
--- what `open_legs` answers: the legs where K is empty
-pub record OpenLegs (n : ℕ) (table marks : List ℕ) (c : ℕ) (legs : List ℕ) : Type 0 where
-  pub list : LegList legs
-  pub each : LegsOf n (lengthOf n table) (openIn n marks) [] c legs
-
--- what taking pq into all legs is asked about
-pub record NarrowAsked (n : ℕ) (table : List ℕ) (legs : List ℕ) (c p q : ℕ) : Type 0 where
-  pub asked : EdgeAsked n table c p q
-  pub list : LegList legs
-
--- what `narrow` leaves: the legs with pq taken in
-pub record Narrowed (n : ℕ) (table : List ℕ) (legs : List ℕ) (c p q : ℕ) (r : List ℕ) : Type 0 where
-  pub list : LegList r
-  pub each : (x : ℕ) → Point n x → getD r x 0 ≡ narrowed (lengthOf n table) c p q x (getD legs x 0)
-
--- what a split is prepared from: a table, the marks, the split point, and K
-pub record SplitAsked (n : ℕ) (table marks : List ℕ) (k : EdgeSet) (c : ℕ) : Type 0 where
+-- what a split is prepared from: a table, its rows, the marks, the split point, and K
+pub record SplitAsked (n : ℕ) (table rows marks : List ℕ) (k : EdgeSet) (c : ℕ) : Type 0 where
   pub legs : LegsAsked n table marks c
+  pub in-rows : Rows n table rows
   pub held : Held n k
 
--- what `prepare` answers
+-- what the legs and the bound of K = {ab} are asked about
+pub record EdgeAsked (n : ℕ) (table : List ℕ) (a b c : ℕ) : Type 0 where
+  pub lengths : Lengths n table
+  pub centre : Point n c
+  pub from : Point n a
+  pub to : Point n b
+
+-- the same, with room for three rows of 181 places
+pub record EdgeRowsAsked (n : ℕ) (table : List ℕ) (a b c : ℕ) (rows : List ℕ) : Type 0 where
+  pub asked : EdgeAsked n table a b c
+  pub size : length rows ≡ 543
+
+-- the rows of c, a and b
+pub record EdgeRows (n : ℕ) (table : List ℕ) (a b c : ℕ) (rows : List ℕ) : Type 0 where
+  pub row-c : RowAt n table rows 0 c
+  pub row-a : RowAt n table rows 181 a
+  pub row-b : RowAt n table rows 362 b
+  pub size : length rows ≡ 543
+
+-- where these rows begin, and the lengths ab, ca and cb
+pub record EdgeTriangle (n : ℕ) (table : List ℕ) (a b c : ℕ) (t : Triangle) : Type 0 where
+  pub start-a : t .ps ≡ 181
+  pub start-b : t .qs ≡ 362
+  pub is-ab : t .pq ≡ lengthOf n table a b
+  pub is-ca : t .cp ≡ lengthOf n table c a
+  pub is-cb : t .cq ≡ lengthOf n table c b
+
+-- what the legs of K = {ab} are asked about: the same, with the marks
+pub record EdgeLegsAsked (n : ℕ) (table marks : List ℕ) (a b c : ℕ) : Type 0 where
+  pub asked : EdgeAsked n table a b c
+  pub marked : length marks ≡ edgeCount n
+
+-- what `legs_for_edge` answers: the legs of K = {ab}
+pub record EdgeLegs (n : ℕ) (table marks : List ℕ) (a b c : ℕ) (legs : List ℕ) : Type 0 where
+  pub list : LegList legs
+  pub each : LegsOf n (lengthOf n table) (openIn n marks) (edge a b ∷ []) c legs
+
+-- what a split of one edge is prepared from: a table, the marks, the split point, and the set of that edge
+pub record SingleAsked (n : ℕ) (table marks : List ℕ) (k : EdgeSet) (c : ℕ) : Type 0 where
+  pub legs : LegsAsked n table marks c
+  pub held : Held n k
+  pub one : k .count ≡ 1
+
+-- what `prepare` and `prepare_single` answer
 pub record SplitOf (n : ℕ) (table marks : List ℕ) (k : EdgeSet) (c : ℕ) (s : Split) : Type 0 where
   pub bounded : Bounded (s .legs) (s .bound)
   pub prepared : Prepared n (lengthOf n table) (openIn n marks) (edgeList k) c (s .legs) (s .bound)
-  pub scouted : Scouted (edgeList k) c (s .ways) (s .centre)

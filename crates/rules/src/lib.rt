@@ -3,6 +3,7 @@ pub mod closing;
 pub mod edge_set;
 pub mod marks;
 pub mod near;
+pub mod nearby;
 pub mod pairs;
 pub mod shape;
 pub mod split;

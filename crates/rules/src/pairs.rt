@@ -1,6 +1,7 @@
 // The search for the next feasible pair at a split point.
 use crate::edge_set::EdgeSet;
 use crate::near::Near;
+use crate::nearby;
 use crate::shape::shuts;
 use crate::split::Split;
 use lengths::edge;
@@ -8,7 +9,8 @@ use lengths::instance::Instance;
 use lengths::table::length_between;
 ghost use mathlib.Core.Path.{_≡_};
 ghost use Prim.Native.Nat.{suc, _-_};
-ghost use Rattle.rules.specs.NextPair.{passes?, allowed?, firstFrom, RowAsked, BesideAsked, Searchable, Next};
+ghost use Rattle.rules.specs.Nearby.{firstFrom};
+ghost use Rattle.rules.specs.NextPair.{passes?, allowed?, RowAsked, BesideAsked, Searchable, Next};
 
 // What the search finds.
 pub enum NextPair {
@@ -16,16 +18,18 @@ pub enum NextPair {
     End,
 }
 
-// The first point after y whose pair with x passes the one comparison, n + 1 where none does.
+// The first point after y whose pair with x passes the one comparison, n + 1 where none does. Only near points are tried.
 fn next_in_row(
     n: u16,
     table: &[u32],
     legs: &[u32; Split::PLACES],
+    near: &[u16; nearby::PLACES],
+    rank: &[u16; nearby::PLACES],
     bound: u32,
     x: u16,
     y: u16,
 ) -> u16
-    requires { ⌜ RowAsked n (now table) (now legs) bound x y ⌝ }
+    requires { ⌜ RowAsked n (now table) (now legs) (now near) (now rank) bound x y ⌝ }
     ensures { λ r. ⌜ r ≡ firstFrom (passes? n (now (table .entry)) (now (legs .entry)) bound x) (suc y) (n - y) ⌝ }
 {
     let leg = legs[x as usize];
@@ -36,18 +40,18 @@ fn next_in_row(
         return n + 1;
     }
     let cost = leg + Instance::MOST_LENGTH;
-    let first = y as usize + 1;
-    let at = edge::place(n, x, y + 1);
-    let left = n as usize - y as usize;
-    let mut i = 0;
-    while i < left {
-        let z = first + i;
-        if cost + legs[z] <= table[at + i] + bound {
-            return z as u16;
+    let after = x + 1;
+    let first = edge::place(n, x, after);
+    let mut at = rank[y as usize + 1] as usize;
+    let mut z = near[at];
+    while z <= n {
+        if cost + legs[z as usize] <= table[first + (z - after) as usize] + bound {
+            return z;
         }
-        i += 1;
+        at += 1;
+        z = near[at];
     }
-    n + 1
+    z
 }
 
 // The first point after y that is a or lies beside x = a, and passes the comparison with x; n + 1 where none does.
@@ -55,16 +59,18 @@ fn next_with(
     n: u16,
     table: &[u32],
     legs: &[u32; Split::PLACES],
+    near: &[u16; nearby::PLACES],
+    rank: &[u16; nearby::PLACES],
     bound: u32,
     a: u16,
     x: u16,
     y: u16,
 ) -> u16
-    requires { ⌜ RowAsked n (now table) (now legs) bound x y ⌝ }
+    requires { ⌜ RowAsked n (now table) (now legs) (now near) (now rank) bound x y ⌝ }
     ensures { λ r. ⌜ r ≡ firstFrom (allowed? n (now (table .entry)) (now (legs .entry)) bound (Near.One a) x) (suc y) (n - y) ⌝ }
 {
     if a == x {
-        return next_in_row(n, table, legs, bound, x, y);
+        return next_in_row(n, table, legs, near, rank, bound, x, y);
     }
     if a <= y {
         return n + 1;
@@ -84,23 +90,25 @@ fn next_beside(
     n: u16,
     table: &[u32],
     legs: &[u32; Split::PLACES],
+    near: &[u16; nearby::PLACES],
+    rank: &[u16; nearby::PLACES],
     bound: u32,
     centre: Near,
     x: u16,
     y: u16,
 ) -> u16
-    requires { ⌜ BesideAsked n (now table) (now legs) bound centre x y ⌝ }
+    requires { ⌜ BesideAsked n (now table) (now legs) (now near) (now rank) bound centre x y ⌝ }
     ensures { λ r. ⌜ r ≡ firstFrom (allowed? n (now (table .entry)) (now (legs .entry)) bound centre x) (suc y) (n - y) ⌝ }
 {
     match centre {
-        Near::None => next_in_row(n, table, legs, bound, x, y),
-        Near::One(a) => next_with(n, table, legs, bound, a, x, y),
+        Near::None => next_in_row(n, table, legs, near, rank, bound, x, y),
+        Near::One(a) => next_with(n, table, legs, near, rank, bound, a, x, y),
         Near::Two(a, b) => {
             if a == x {
-                return next_with(n, table, legs, bound, b, x, y);
+                return next_with(n, table, legs, near, rank, bound, b, x, y);
             }
             if b == x {
-                return next_with(n, table, legs, bound, a, x, y);
+                return next_with(n, table, legs, near, rank, bound, a, x, y);
             }
             n + 1
         }
@@ -108,11 +116,13 @@ fn next_beside(
     }
 }
 
-// The first feasible pair after xy: rows rise, and in a row the points. After 1-1 it is the first of all.
+// The first feasible pair after xy: rows rise, and in a row the points. After 1-1 it is the first of all. Only near points have rows.
 pub fn next_pair(
     n: u16,
     table: &[u32],
     legs: &[u32; Split::PLACES],
+    near: &[u16; nearby::PLACES],
+    rank: &[u16; nearby::PLACES],
     bound: u32,
     ways: &[u16; Split::PLACES],
     centre: Near,
@@ -120,20 +130,20 @@ pub fn next_pair(
     x: u16,
     y: u16,
 ) -> NextPair
-    requires { ⌜ Searchable n (now table) (now legs) bound (now ways) centre k x y ⌝ }
+    requires { ⌜ Searchable n (now table) (now legs) (now near) (now rank) bound (now ways) centre k x y ⌝ }
     ensures { λ r. ⌜ Next n (now (table .entry)) (now (legs .entry)) bound (now (ways .entry)) centre k x y r ⌝ }
 {
     let mut a = x;
     let mut b = y;
     while a < n {
-        let z = next_beside(n, table, legs, bound, centre, a, b);
+        let z = next_beside(n, table, legs, near, rank, bound, centre, a, b);
         if z <= n {
             if !shuts(n, k, a, z, ways[a as usize], ways[z as usize]) {
                 return NextPair::Pair(a, z);
             }
             b = z;
         } else {
-            a += 1;
+            a = near[rank[a as usize + 1] as usize];
             b = a;
         }
     }

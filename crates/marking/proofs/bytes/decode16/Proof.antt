@@ -1,9 +1,10 @@
 -- `marking::bytes::decode16` meets its contract: `Decoding` holds at the loop's head. Assumes nothing.
 use Prim.Native.Nat.{_-_}
+use mathlib.Core.Path.{refl}
 use native.Mathlib.Omega.{arith}
 use borrow.Author.Needs.{needs}
 use Rattle.marking.specs.Bytes.{numbers16}
-use Rattle.marking.proofs.BytesDecoded.{Decoding, start, turn16, finished16, nothing, broken16, long16}
+use Rattle.marking.proofs.BytesDecoded.{Decoding, in16, start, turn16, broken, long, finished}
 use Rattle.marking.proofs.bytes.decode16.Statement.{statement}
 use Rattle.marking.proofs.bytes.decode16.Tie as tie
 
@@ -14,10 +15,10 @@ abbrev μ-loop : tie.MeasureT-loop
 μ-loop bytes out₀ size i₀ out i = size - i
 
 returns : tie.Need-returns Inv-loop μ-loop
-returns c = nothing _ (broken16 _ _ (c .if1 .taken))
+returns c = broken in16 _ _ (c .if1 .taken)
 
 returns-2 : tie.Need-returns-2 Inv-loop μ-loop
-returns-2 c = nothing _ (long16 _ _ (c .if2 .taken))
+returns-2 c = long in16 _ _ (c .if2 .taken)
 
 loop-holds : tie.Need-loop-holds Inv-loop μ-loop
 loop-holds c = start (omega (arith, c .before .if1 .left)) (c .if2 .left)
@@ -68,7 +69,7 @@ same-length : tie.Need-same-length Inv-loop μ-loop
 same-length c = search needs
 
 returns-3 : tie.Need-returns-3 Inv-loop μ-loop
-returns-3 c = finished16 (c .before .loop .inv) (c .loop-test .left)
+returns-3 c = finished in16 (c .before .loop .inv) (c .before .before .before .if1 .left) refl (c .loop-test .left)
 
 pub decode16-spec : {M : Type 1} → statement M
 decode16-spec =

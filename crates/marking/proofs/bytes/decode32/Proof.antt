@@ -1,9 +1,10 @@
 -- `marking::bytes::decode32` meets its contract: `Decoding` holds at the loop's head. Assumes nothing.
 use Prim.Native.Nat.{_-_}
+use mathlib.Core.Path.{refl}
 use native.Mathlib.Omega.{arith}
 use borrow.Author.Needs.{needs}
 use Rattle.marking.specs.Bytes.{numbers32}
-use Rattle.marking.proofs.BytesDecoded.{Decoding, start, turn32, finished32, nothing, broken32, long32}
+use Rattle.marking.proofs.BytesDecoded.{Decoding, in32, start, turn32, broken, long, finished}
 use Rattle.marking.proofs.bytes.decode32.Statement.{statement}
 use Rattle.marking.proofs.bytes.decode32.Tie as tie
 
@@ -14,10 +15,10 @@ abbrev μ-loop : tie.MeasureT-loop
 μ-loop bytes out₀ size i₀ out i = size - i
 
 returns : tie.Need-returns Inv-loop μ-loop
-returns c = nothing _ (broken32 _ _ (c .if1 .taken))
+returns c = broken in32 _ _ (c .if1 .taken)
 
 returns-2 : tie.Need-returns-2 Inv-loop μ-loop
-returns-2 c = nothing _ (long32 _ _ (c .if2 .taken))
+returns-2 c = long in32 _ _ (c .if2 .taken)
 
 loop-holds : tie.Need-loop-holds Inv-loop μ-loop
 loop-holds c = start (omega (arith, c .before .if1 .left)) (c .if2 .left)
@@ -100,7 +101,7 @@ same-length : tie.Need-same-length Inv-loop μ-loop
 same-length c = search needs
 
 returns-3 : tie.Need-returns-3 Inv-loop μ-loop
-returns-3 c = finished32 (c .before .loop .inv) (c .loop-test .left)
+returns-3 c = finished in32 (c .before .loop .inv) (c .before .before .before .if1 .left) refl (c .loop-test .left)
 
 pub decode32-spec : {M : Type 1} → statement M
 decode32-spec =

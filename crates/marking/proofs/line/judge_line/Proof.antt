@@ -13,7 +13,7 @@ returns : tie.Need-returns
 returns c = line-misfit _ _ _ _ _ _ _ _ _ (sym (c .before .points-fit .ensures) ∙ not-true _ (c .if1 .taken))
 
 is-open-requires : tie.Need-is-open-requires
-is-open-requires c κs = line-marked (c .before .before .before .before .before .pre) _ _ _ _ (sym (c .before .points-fit .ensures) ∙ not-false _ (c .if1 .left))
+is-open-requires c κs = line-marked (c .before .before .before .before .before .before .pre) _ _ _ _ (sym (c .before .points-fit .ensures) ∙ not-false _ (c .if1 .left))
 
 returns-2 : tie.Need-returns-2
 returns-2 c = let f = c .before .before in line-struck _ _ _ _ _ _ _ _ _ (sym (f .before .points-fit .ensures) ∙ not-false _ (f .if1 .left)) (sym (c .before .is-open .ensures) ∙ not-true _ (c .if2 .taken))
@@ -25,7 +25,7 @@ sub-chain : tie.Need-sub-chain
 sub-chain c = search needs
 
 chain-requires : tie.Need-chain-requires
-chain-requires c κs = let f = c .before .before .before in line-chain (c .before .before .before .before .before .before .before .before .pre) _ _ _ _ (sym (f .before .points-fit .ensures) ∙ not-false _ (f .if1 .left)) (c .single .ensures)
+chain-requires c κs = let f = c .before .before .before in line-chain (c .before .before .before .before .before .before .before .before .before .pre) _ _ _ _ (sym (f .before .points-fit .ensures) ∙ not-false _ (f .if1 .left)) (c .single .ensures)
 
 enum-known-high : tie.Need-enum-known-high
 enum-known-high c = search needs

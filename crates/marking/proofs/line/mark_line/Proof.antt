@@ -24,7 +24,7 @@ enum-known-a : tie.Need-enum-known-a
 enum-known-a c = search needs
 
 strike-requires : tie.Need-strike-requires
-strike-requires c κs = mark-marked (c .before .before .before .before .before .before .before .before .before .before .before .before .pre) _ (c .before .before .before .before .judge .ensures) (c .before .before .a .given .1)
+strike-requires c κs = mark-marked (c .before .before .before .before .before .before .before .before .before .before .before .before .before .pre) _ (c .before .before .before .before .judge .ensures) (c .before .before .a .given .1)
 
 enum-known-number : tie.Need-enum-known-number
 enum-known-number c = search needs

@@ -18,8 +18,8 @@ loop-holds c = copying-start (c .pre)
 mul-list : tie.Need-mul-list Inv-loop μ-loop
 mul-list c = search needs
 
-element-copy-out-list : tie.Need-element-copy-out-list Inv-loop μ-loop
-element-copy-out-list c = search needs
+shared-slice-read-list : tie.Need-shared-slice-read-list Inv-loop μ-loop
+shared-slice-read-list c = search needs
 
 mul-list-2 : tie.Need-mul-list-2 Inv-loop μ-loop
 mul-list-2 c = search needs
@@ -50,7 +50,7 @@ copy-spec =
     μ-loop
     loop-holds
     mul-list
-    element-copy-out-list
+    shared-slice-read-list
     mul-list-2
     slice-write-list
     add-i

@@ -1,103 +1,66 @@
--- `marking::listing::find_pairs` meets its contract: `Finding` holds at the loop's head, and the measure is the number of pairs left. Assumes nothing.
-use Prim.Native.Nat.{_+_, _*_, _<_}
-use mathlib.Core.Path.{_≡_}
-use native.Mathlib.Omega.{arith}
-use lib.ListN.{length}
-use denote.Ref.{now}
+-- `marking::listing::find_pairs` meets its contract: each search has its lemma in `ListingChoice`. Assumes nothing.
 use borrow.Author.Needs.{needs}
-use Rattle.lengths.specs.Table.{lengthOf}
-use Rattle.rules.specs.Mark.{openIn}
-use Rattle.rules.specs.NextPair.{firstOf}
-use Rattle.rules.specs.Pairs.{feasibleAfter}
-use Rattle.rules.specs.Stored.{edgeList}
-use Rattle.rules.specs.declared.pairs.NextPair.the-variants.{Pair}
-use Rattle.marking.proofs.ListingLoops.{Finding, finding-start, searchable, next-of, fewer-left, space, finding-on, all-found}
+use Rattle.marking.proofs.ListingChoice.{beside-asked, beside-found, prepared-single, apart-up, apart-down}
 use Rattle.marking.proofs.listing.find_pairs.Statement.{statement}
 use Rattle.marking.proofs.listing.find_pairs.Tie as tie
 
-abbrev Inv-loop : tie.InvT-loop
-Inv-loop n table marks k c found₀ legs bound ways centre x₀ y₀ count₀ found x y count = Finding n (lengthOf n table) (openIn n marks) (edgeList k) c found x y count
+single-requires : tie.Need-single-requires
+single-requires c κs = search needs
 
-abbrev μ-loop : tie.MeasureT-loop
-μ-loop n table marks k c found₀ legs bound ways centre x₀ y₀ count₀ found x y count = length (feasibleAfter n (lengthOf n table) (openIn n marks) (edgeList k) c x y)
+find-beside-requires : tie.Need-find-beside-requires
+find-beside-requires c κs = beside-asked (c .before .before .before .before .before .before .pre) (c .before .before .single .ensures)
 
--- the pair at hand is the first of those left
-next : (c : tie.After-known-told Inv-loop μ-loop) → let s = c .before .before .before .before .before .before .before .before .before .before .before .before in
-    firstOf (feasibleAfter (s .args .n) (lengthOf (s .args .n) (now (s .args .table))) (openIn (s .args .n) (now (s .args .marks))) (edgeList (s .args .k)) (s .args .c)
-    (c .before .before .before .before .before .before .loop .x) (c .before .before .before .before .before .before .loop .y)) ≡ Pair (c .before .a .given .0 .0) (c .before .a .given .0 .1 .0)
-next c = next-of (c .before .before .before .before .before .before .before .before .before .prepare .ensures) (c .before .before .before .next-pair .ensures) (c .before .a .given .1)
+same-length : tie.Need-same-length
+same-length c = search needs
 
--- and there is room for it
-room : (c : tie.After-known-told Inv-loop μ-loop) → 2 * c .before .before .before .before .before .before .loop .count + 1 < 32220
-room c = space (c .before .before .before .before .before .before .loop .inv) (next c)
+returns : tie.Need-returns
+returns c = beside-found (c .before .before .before .before .before .before .before .before .before .pre) (c .before .before .before .before .before .single .ensures) (c .before .before .find-beside .ensures)
 
-prepare-requires : tie.Need-prepare-requires Inv-loop μ-loop
-prepare-requires c κs = c .before .before .pre .split
+find-beside-requires-2 : tie.Need-find-beside-requires-2
+find-beside-requires-2 c κs = beside-asked (c .before .before .before .before .before .before .before .pre) (c .before .before .before .single .ensures)
 
-loop-holds : tie.Need-loop-holds Inv-loop μ-loop
-loop-holds c = finding-start (c .before .before .before .before .before .pre)
+same-length-2 : tie.Need-same-length-2
+same-length-2 c = search needs
 
-next-pair-requires : tie.Need-next-pair-requires Inv-loop μ-loop
-next-pair-requires c κs = searchable (c .before .before .before .before .before .before .before .before .pre) (c .before .before .before .before .before .prepare .ensures) (c .before .before .loop .inv)
+returns-2 : tie.Need-returns-2
+returns-2 c = beside-found (c .before .before .before .before .before .before .before .before .before .before .pre) (c .before .before .before .before .before .before .single .ensures) (c .before .before .find-beside2 .ensures)
 
-enum-known-a : tie.Need-enum-known-a Inv-loop μ-loop
-enum-known-a c = search needs
+prepare-single-requires : tie.Need-prepare-single-requires
+prepare-single-requires c κs = beside-asked (c .before .before .before .before .before .before .pre) (c .before .before .single .ensures) .split
 
-enum-told : tie.Need-enum-told Inv-loop μ-loop
-enum-told c = search needs
+find-apart-requires : tie.Need-find-apart-requires
+find-apart-requires c κs = search needs
 
-returns : tie.Need-returns Inv-loop μ-loop
-returns c = all-found (c .before .before .before .before .before .loop .inv) (next-of (c .before .before .before .before .before .before .before .before .prepare .ensures) (c .before .before .next-pair .ensures) (c .enum-told .given .1))
+same-length-3 : tie.Need-same-length-3
+same-length-3 c = search needs
 
-cast-at : tie.Need-cast-at Inv-loop μ-loop
-cast-at c = record { fits = omega (arith, room c) }
+returns-3 : tie.Need-returns-3
+returns-3 c = apart-up (c .before .before .before .before .before .before .before .before .before .before .before .before .before .before .pre) (c .before .before .before .before .before .before .before .before .before .if1 .left) (c .before .before .before .before .before .before .before .before .if2 .left) (prepared-single (c .before .before .before .before .before .before .before .before .before .before .single .ensures) (c .before .before .before .before .before .before .before .prepare-single .ensures)) (c .before .before .before .before .before .if3 .taken) (c .before .before .find-apart .ensures)
 
-mul-at : tie.Need-mul-at Inv-loop μ-loop
-mul-at c = record { fits = omega (arith, room c) }
+find-apart-requires-2 : tie.Need-find-apart-requires-2
+find-apart-requires-2 c κs = search needs
 
-mul-found : tie.Need-mul-found Inv-loop μ-loop
-mul-found c = record { fits = omega (arith, room c) }
+same-length-4 : tie.Need-same-length-4
+same-length-4 c = search needs
 
-element-write-found : tie.Need-element-write-found Inv-loop μ-loop
-element-write-found c = omega (arith, room c)
-
-add-found : tie.Need-add-found Inv-loop μ-loop
-add-found c = record { fits = omega (arith, room c) }
-
-mul-found-2 : tie.Need-mul-found-2 Inv-loop μ-loop
-mul-found-2 c = record { fits = omega (arith, room c) }
-
-element-write-found-2 : tie.Need-element-write-found-2 Inv-loop μ-loop
-element-write-found-2 c = room c
-
-add-count : tie.Need-add-count Inv-loop μ-loop
-add-count c = record { fits = omega (arith, room c) }
-
-loop-less : tie.Need-loop-less Inv-loop μ-loop
-loop-less c = fewer-left (c .before .before .before .before .before .before .loop .inv) (next c)
-
-loop-again : tie.Need-loop-again Inv-loop μ-loop
-loop-again c = finding-on (c .before .before .before .before .before .before .loop .inv) (next c)
+returns-4 : tie.Need-returns-4
+returns-4 c = apart-down (c .before .before .before .before .before .before .before .before .before .before .before .before .before .before .pre) (c .before .before .before .before .before .before .before .before .before .if1 .left) (c .before .before .before .before .before .before .before .before .if2 .left) (prepared-single (c .before .before .before .before .before .before .before .before .before .before .single .ensures) (c .before .before .before .before .before .before .before .prepare-single .ensures)) (c .before .before .before .before .before .if3 .left) (c .before .before .find-apart2 .ensures)
 
 pub find-pairs-spec : {M : Type 1} → statement M
 find-pairs-spec =
     tie.close
     (tie.spec
-    Inv-loop
-    μ-loop
-    prepare-requires
-    loop-holds
-    next-pair-requires
-    enum-known-a
-    enum-told
+    single-requires
+    find-beside-requires
+    same-length
     returns
-    cast-at
-    mul-at
-    mul-found
-    element-write-found
-    add-found
-    mul-found-2
-    element-write-found-2
-    add-count
-    loop-less
-    loop-again)
+    find-beside-requires-2
+    same-length-2
+    returns-2
+    prepare-single-requires
+    find-apart-requires
+    same-length-3
+    returns-3
+    find-apart-requires-2
+    same-length-4
+    returns-4)

@@ -5,7 +5,7 @@ use borrow.Author.Tests.{not-true, not-false}
 use Prim.Native.Nat.{ℕ}
 use lib.ListN.{length-replicate}
 use Rattle.marking.proofs.Tested.{Passed, passed}
-use Rattle.marking.proofs.ListingAnswers.{Fitted, Listable, markable, findable, refused-tests, refused-points, refused-struck, refused-list, listed-pairs}
+use Rattle.marking.proofs.ListingAnswers.{Fitted, Listable, markable, findable-small, findable-large, refused-tests, refused-points, refused-struck, listed-as}
 use borrow.Author.Needs.{needs}
 use Rattle.marking.proofs.listing.list_pairs.Statement.{statement}
 use Rattle.marking.proofs.listing.list_pairs.Tie as tie
@@ -49,29 +49,29 @@ is-open-requires c κs = markable (fitted c)
 returns-3 : tie.Need-returns-3
 returns-3 c = refused-struck (fitted (c .before .before)) (sym (c .before .is-open .ensures) ∙ not-true _ (c .if2 .taken))
 
-single-requires : tie.Need-single-requires
-single-requires c κs = search needs
+slice-aggregate-list-into : tie.Need-slice-aggregate-list-into
+slice-aggregate-list-into c = search needs
 
-find-pairs-requires : tie.Need-find-pairs-requires
-find-pairs-requires c κs = findable (listable (c .before .before)) (c .before .single .ensures) (length-replicate {A = ℕ} 32220 0)
-
-cast-size : tie.Need-cast-size
-cast-size c = search needs
-
-mul-size : tie.Need-mul-size
-mul-size c = search needs
-
-returns-4 : tie.Need-returns-4
-returns-4 c = refused-list (listable (c .before .before .before .before)) (c .before .before .before .single .ensures) (c .before .find-pairs .ensures) (c .if3 .taken)
-
-copy-requires : tie.Need-copy-requires
-copy-requires c κs = search needs
+list-into-requires : tie.Need-list-into-requires
+list-into-requires c κs = findable-small (listable (c .before .before .before)) (c .before .before .if3 .taken) (length-replicate {A = ℕ} 3540 0)
 
 same-length : tie.Need-same-length
 same-length c = search needs
 
+returns-4 : tie.Need-returns-4
+returns-4 c = listed-as (listable (c .before .before .before .before .before .before .before)) (c .before .before .before .list-into .ensures)
+
+slice-aggregate-list-into-2 : tie.Need-slice-aggregate-list-into-2
+slice-aggregate-list-into-2 c = search needs
+
+list-into-requires-2 : tie.Need-list-into-requires-2
+list-into-requires-2 c κs = findable-large (listable (c .before .before .before)) (length-replicate {A = ℕ} 32220 0)
+
+same-length-2 : tie.Need-same-length-2
+same-length-2 c = search needs
+
 returns-5 : tie.Need-returns-5
-returns-5 c = listed-pairs (listable (c .before .before .before .before .before .before .before .before .before)) (c .before .before .before .before .before .before .before .before .single .ensures) (c .before .before .before .before .before .before .find-pairs .ensures) (c .before .before .before .before .before .if3 .left) (c .before .before .copy .ensures)
+returns-5 c = listed-as (listable (c .before .before .before .before .before .before .before)) (c .before .before .before .list-into2 .ensures)
 
 pub list-pairs-spec : {M : Type 1} → statement M
 list-pairs-spec =
@@ -85,11 +85,11 @@ list-pairs-spec =
     returns-2
     is-open-requires
     returns-3
-    single-requires
-    find-pairs-requires
-    cast-size
-    mul-size
-    returns-4
-    copy-requires
+    slice-aggregate-list-into
+    list-into-requires
     same-length
+    returns-4
+    slice-aggregate-list-into-2
+    list-into-requires-2
+    same-length-2
     returns-5)

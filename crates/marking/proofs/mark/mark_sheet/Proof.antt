@@ -1,5 +1,5 @@
 -- `marking::mark::mark_sheet` meets its contract: each return is a way out of `markSheet`. Assumes nothing.
-use Rattle.marking.proofs.MarkingSheets.{sheet-untested, sheet-not-whole, sheet-tried, sheet-marked}
+use Rattle.marking.proofs.MarkingSheets.{sheet-untested, sheet-not-whole, sheet-admits, sheet-marked}
 use borrow.Author.Needs.{needs}
 use Rattle.marking.proofs.mark.mark_sheet.Statement.{statement}
 use Rattle.marking.proofs.mark.mark_sheet.Tie as tie
@@ -34,8 +34,8 @@ turned-down-requires-2 c κs = search needs
 enum-told-2 : tie.Need-enum-told-2
 enum-told-2 c = search needs
 
-mark-lines-requires : tie.Need-mark-lines-requires
-mark-lines-requires c κs = sheet-tried _ _ _ _ (c .before .before .before .before .before .before .before .test-instance .ensures) (c .before .before .before .before .before .points .given .1) (c .before .before .before .admit .ensures) (c .before .enum-told2 .given .1)
+mark-admitted-requires : tie.Need-mark-admitted-requires
+mark-admitted-requires c κs = sheet-admits _ _ _ _ (c .before .before .before .before .before .before .before .test-instance .ensures) (c .before .before .before .before .before .points .given .1) (c .before .before .before .admit .ensures) (c .before .enum-told2 .given .1)
 
 same-length-2 : tie.Need-same-length-2
 same-length-2 c = search needs
@@ -47,7 +47,7 @@ same-length-3 : tie.Need-same-length-3
 same-length-3 c = search needs
 
 returns-3 : tie.Need-returns-3
-returns-3 c = sheet-marked _ _ _ _ (c .before .before .before .before .before .before .before .before .before .before .test-instance .ensures) (c .before .before .before .before .before .before .before .before .points .given .1) (c .before .before .before .before .before .before .admit .ensures) (c .before .before .before .before .enum-told2 .given .1) (c .before .before .mark-lines .ensures)
+returns-3 c = sheet-marked _ _ _ _ (c .before .before .before .before .before .before .before .before .before .before .test-instance .ensures) (c .before .before .before .before .before .before .before .before .points .given .1) (c .before .before .before .before .before .before .admit .ensures) (c .before .before .before .before .enum-told2 .given .1) (c .before .before .mark-admitted .ensures)
 
 pub mark-sheet-spec : {M : Type 1} → statement M
 mark-sheet-spec =
@@ -63,7 +63,7 @@ mark-sheet-spec =
     enum-told
     turned-down-requires-2
     enum-told-2
-    mark-lines-requires
+    mark-admitted-requires
     same-length-2
     returns-2
     same-length-3

@@ -1,6 +1,6 @@
 -- `rules::pairs::next_beside` meets its contract: what c has leaves all points, one, or none. Assumes nothing.
 use mathlib.Core.Path.{_∙_}
-use Rattle.rules.proofs.Searches.{beside-none, beside-first, beside-second, beside-neither, beside-more}
+use Rattle.rules.proofs.RowSearch.{beside-none, beside-first, beside-second, beside-neither, beside-more}
 use borrow.Author.Needs.{needs}
 use Rattle.rules.proofs.pairs.next_beside.Statement.{statement}
 use Rattle.rules.proofs.pairs.next_beside.Tie as tie

@@ -2,15 +2,15 @@
 use Prim.Native.Nat.{_+_, _-_}
 use native.Mathlib.Omega.{arith}
 use borrow.Author.Needs.{needs}
-use Rattle.rules.proofs.Searches.{Scanning, row-far, row-over, scan-start, scan-inside, scan-small, scan-found, scan-on, scan-end}
+use Rattle.rules.proofs.RowSearch.{Scanning, row-far, row-over, row-rank, scan-start, scan-below, scan-inside, scan-small, scan-room, scan-rises, scan-found, scan-on, scan-end}
 use Rattle.rules.proofs.pairs.next_in_row.Statement.{statement}
 use Rattle.rules.proofs.pairs.next_in_row.Tie as tie
 
 abbrev Inv-loop : tie.InvT-loop
-Inv-loop n table legs bound x y leg cost first at left i₀ i = Scanning n table legs bound x y cost at i
+Inv-loop n table legs near rank bound x y leg cost after first at₀ z₀ at z = Scanning n table legs near rank bound x y cost first at z
 
 abbrev μ-loop : tie.MeasureT-loop
-μ-loop n table legs bound x y leg cost first at left i₀ i = n - y - i
+μ-loop n table legs near rank bound x y leg cost after first at₀ z₀ at z = n + 1 - z
 
 mul-leg : tie.Need-mul-leg Inv-loop μ-loop
 mul-leg c = search needs
@@ -33,23 +33,35 @@ returns-2 c = row-over (c .before .before .before .before .pre) (c .if2 .taken)
 add-cost : tie.Need-add-cost Inv-loop μ-loop
 add-cost c = omega (arith, c .before .before .before .before .pre .bounded .list .near (c .before .before .before .before .args .x))
 
-add-first : tie.Need-add-first Inv-loop μ-loop
-add-first c = search needs
-
-add-place : tie.Need-add-place Inv-loop μ-loop
-add-place c = search needs
+add-after : tie.Need-add-after Inv-loop μ-loop
+add-after c = search needs
 
 place-requires : tie.Need-place-requires Inv-loop μ-loop
 place-requires c κs = search needs
 
-sub-left : tie.Need-sub-left Inv-loop μ-loop
-sub-left c = search needs
+add-at : tie.Need-add-at Inv-loop μ-loop
+add-at c = search needs
+
+mul-at : tie.Need-mul-at Inv-loop μ-loop
+mul-at c = search needs
+
+element-copy-out-at : tie.Need-element-copy-out-at Inv-loop μ-loop
+element-copy-out-at c = search needs
+
+cast-at : tie.Need-cast-at Inv-loop μ-loop
+cast-at c = omega (arith, row-rank (c .before .before .before .before .before .before .pre))
+
+mul-z : tie.Need-mul-z Inv-loop μ-loop
+mul-z c = omega (arith, row-rank (c .before .before .before .before .before .before .pre))
+
+element-copy-out-z : tie.Need-element-copy-out-z Inv-loop μ-loop
+element-copy-out-z c = omega (arith, row-rank (c .before .before .before .before .before .before .pre))
 
 loop-holds : tie.Need-loop-holds Inv-loop μ-loop
-loop-holds c = scan-start (c .before .before .before .before .before .pre) (c .place .ensures .at)
+loop-holds c = scan-start (c .before .before .before .before .before .before .before .pre) (c .before .before .place .ensures .at)
 
-add-z : tie.Need-add-z Inv-loop μ-loop
-add-z c = search needs
+cast-if3 : tie.Need-cast-if3 Inv-loop μ-loop
+cast-if3 c = search needs
 
 mul-if3 : tie.Need-mul-if3 Inv-loop μ-loop
 mul-if3 c = search needs
@@ -59,9 +71,15 @@ element-copy-out-if3 c = search needs
 
 add-if3 : tie.Need-add-if3 Inv-loop μ-loop
 add-if3 c =
-    let start = c .before .before .before .before .before .before .before .before in
+    let start = c .before .before .before .before .before .before .before .before .before .before in
     let near = start .pre .bounded .list .near in
-    omega (arith, near (start .args .x), near (start .args .y + 1 + c .before .before .loop .i))
+    omega (arith, near (start .args .x), near (c .before .before .loop .z))
+
+sub-if3 : tie.Need-sub-if3 Inv-loop μ-loop
+sub-if3 c = scan-below (c .before .before .loop .inv)
+
+cast-if3-2 : tie.Need-cast-if3-2 Inv-loop μ-loop
+cast-if3-2 c = search needs
 
 add-if3-2 : tie.Need-add-if3-2 Inv-loop μ-loop
 add-if3-2 c = omega (arith, scan-small (c .before .before .loop .inv) (c .before .loop-test .taken))
@@ -74,26 +92,26 @@ shared-slice-read-if3 c = scan-inside (c .before .before .before .loop .inv) (c 
 
 add-if3-3 : tie.Need-add-if3-3 Inv-loop μ-loop
 add-if3-3 c =
-    let asked = c .before .before .before .before .before .before .before .before .before .pre in
-    omega (arith, asked .lengths .small (c .before .before .before .before .place .result + c .before .before .before .loop .i), asked .bounded .tight)
-
-cast-result : tie.Need-cast-result Inv-loop μ-loop
-cast-result c = search needs
+    let start = c .before .before .before .before .before .before .before .before .before .before .before in
+    omega (arith, start .pre .lengths .small (c .before .before .before .before .before .before .place .result + (c .before .before .before .loop .z - (start .args .x + 1))), start .pre .bounded .tight)
 
 returns-3 : tie.Need-returns-3 Inv-loop μ-loop
 returns-3 c = scan-found (c .before .before .before .before .loop .inv) (c .before .before .before .loop-test .taken) (c .if3 .taken)
 
-add-i : tie.Need-add-i Inv-loop μ-loop
-add-i c = search needs
+add-at-2 : tie.Need-add-at-2 Inv-loop μ-loop
+add-at-2 c = omega (arith, scan-room (c .before .before .before .before .loop .inv) (c .before .before .before .loop-test .taken))
+
+mul-z-2 : tie.Need-mul-z-2 Inv-loop μ-loop
+mul-z-2 c = omega (arith, scan-room (c .before .before .before .before .loop .inv) (c .before .before .before .loop-test .taken))
+
+element-copy-out-z-2 : tie.Need-element-copy-out-z-2 Inv-loop μ-loop
+element-copy-out-z-2 c = omega (arith, scan-room (c .before .before .before .before .loop .inv) (c .before .before .before .loop-test .taken))
 
 loop-less : tie.Need-loop-less Inv-loop μ-loop
-loop-less c = search needs
+loop-less c = omega (arith, scan-rises (c .before .before .before .before .before .loop .inv) (c .before .before .before .before .loop-test .taken), c .before .before .before .before .loop-test .taken)
 
 loop-again : tie.Need-loop-again Inv-loop μ-loop
-loop-again c = scan-on (c .before .before .before .before .loop .inv) (c .before .before .before .loop-test .taken) (c .if3 .left)
-
-add-result-3 : tie.Need-add-result-3 Inv-loop μ-loop
-add-result-3 c = search needs
+loop-again c = scan-on (c .before .before .before .before .before .loop .inv) (c .before .before .before .before .loop-test .taken) (c .before .if3 .left)
 
 returns-4 : tie.Need-returns-4 Inv-loop μ-loop
 returns-4 c = scan-end (c .before .loop .inv) (c .loop-test .left)
@@ -111,23 +129,29 @@ next-in-row-spec =
     add-result-2
     returns-2
     add-cost
-    add-first
-    add-place
+    add-after
     place-requires
-    sub-left
+    add-at
+    mul-at
+    element-copy-out-at
+    cast-at
+    mul-z
+    element-copy-out-z
     loop-holds
-    add-z
+    cast-if3
     mul-if3
     element-copy-out-if3
     add-if3
+    sub-if3
+    cast-if3-2
     add-if3-2
     mul-if3-2
     shared-slice-read-if3
     add-if3-3
-    cast-result
     returns-3
-    add-i
+    add-at-2
+    mul-z-2
+    element-copy-out-z-2
     loop-less
     loop-again
-    add-result-3
     returns-4)

@@ -1,6 +1,6 @@
 -- `rules::pairs::next_with` meets its contract: the row of a itself, else the one point a. Assumes nothing.
 use native.Mathlib.Omega.{arith}
-use Rattle.rules.proofs.Searches.{with-own, with-past, with-over, with-found, with-refused}
+use Rattle.rules.proofs.RowSearch.{with-own, with-past, with-over, with-found, with-refused}
 use borrow.Author.Needs.{needs}
 use Rattle.rules.proofs.pairs.next_with.Statement.{statement}
 use Rattle.rules.proofs.pairs.next_with.Tie as tie

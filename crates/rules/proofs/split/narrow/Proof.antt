@@ -1,46 +1,55 @@
 -- `rules::split::narrow` meets its contract: the invariant is `Narrowing`, that the legs below x have taken in the edge and the others are as they were. Assumes nothing.
 use Prim.Native.Nat.{_+_, _-_}
-use Rattle.rules.proofs.Splits.{Narrowing, narrowing-start, narrowing-on, narrowing-end}
+use native.Mathlib.Omega.{arith}
+use Rattle.rules.proofs.Legs.{Narrowing, narrowing-start, narrowing-both, narrowing-one, narrowing-other, narrowing-on, narrowing-end}
 use borrow.Author.Needs.{needs}
 use Rattle.rules.proofs.split.narrow.Statement.{statement}
 use Rattle.rules.proofs.split.narrow.Tie as tie
 
 abbrev Inv-loop : tie.InvT-loop
-Inv-loop n table legs₀ c p q pq cp cq x₀ legs x = Narrowing n table legs₀ c p q legs x
+Inv-loop n rows legs₀ ps qs pq cp cq size x₀ legs x = Narrowing n rows legs₀ ps qs pq cp cq legs x
 
 abbrev μ-loop : tie.MeasureT-loop
-μ-loop n table legs₀ c p q pq cp cq x₀ legs x = n + 1 - x
-
-length-between-requires : tie.Need-length-between-requires Inv-loop μ-loop
-length-between-requires c κs = search needs
-
-length-between-requires-2 : tie.Need-length-between-requires-2 Inv-loop μ-loop
-length-between-requires-2 c κs = search needs
-
-length-between-requires-3 : tie.Need-length-between-requires-3 Inv-loop μ-loop
-length-between-requires-3 c κs = search needs
+μ-loop n rows legs₀ ps qs pq cp cq size x₀ legs x = n + 1 - x
 
 loop-holds : tie.Need-loop-holds Inv-loop μ-loop
-loop-holds c = narrowing-start (c .before .before .before .before .pre)
+loop-holds c = narrowing-start (c .before .pre)
 
-cast-at : tie.Need-cast-at Inv-loop μ-loop
-cast-at c = search needs
+mul-leg : tie.Need-mul-leg Inv-loop μ-loop
+mul-leg c = search needs
+
+element-copy-out-leg : tie.Need-element-copy-out-leg Inv-loop μ-loop
+element-copy-out-leg c = search needs
+
+add-narrow-leg : tie.Need-add-narrow-leg Inv-loop μ-loop
+add-narrow-leg c = omega (arith, narrowing-both (c .before .before .before .before .pre) (c .before .before .loop .inv) (c .before .loop-test .taken))
+
+add-narrow-leg-2 : tie.Need-add-narrow-leg-2 Inv-loop μ-loop
+add-narrow-leg-2 c = search needs
 
 mul-narrow-leg : tie.Need-mul-narrow-leg Inv-loop μ-loop
 mul-narrow-leg c = search needs
 
-element-copy-out-narrow-leg : tie.Need-element-copy-out-narrow-leg Inv-loop μ-loop
-element-copy-out-narrow-leg c = search needs
+shared-slice-read-narrow-leg : tie.Need-shared-slice-read-narrow-leg Inv-loop μ-loop
+shared-slice-read-narrow-leg c = search needs
+
+add-narrow-leg-3 : tie.Need-add-narrow-leg-3 Inv-loop μ-loop
+add-narrow-leg-3 c = omega (arith, narrowing-one (c .before .before .before .before .before .pre) (c .before .before .before .loop .inv) (c .before .before .loop-test .taken))
+
+add-narrow-leg-4 : tie.Need-add-narrow-leg-4 Inv-loop μ-loop
+add-narrow-leg-4 c = search needs
+
+mul-narrow-leg-2 : tie.Need-mul-narrow-leg-2 Inv-loop μ-loop
+mul-narrow-leg-2 c = search needs
+
+shared-slice-read-narrow-leg-2 : tie.Need-shared-slice-read-narrow-leg-2 Inv-loop μ-loop
+shared-slice-read-narrow-leg-2 c = search needs
+
+add-narrow-leg-5 : tie.Need-add-narrow-leg-5 Inv-loop μ-loop
+add-narrow-leg-5 c = omega (arith, narrowing-other (c .before .before .before .before .before .before .pre) (c .before .before .before .before .loop .inv) (c .before .before .before .loop-test .taken))
 
 narrow-leg-requires : tie.Need-narrow-leg-requires Inv-loop μ-loop
-narrow-leg-requires c κs = record {
-  asked = c .before .before .before .before .before .before .before .pre .asked;
-  end = record { low = c .before .before .loop .inv .filling .low; high = c .before .loop-test .taken };
-  leg = c .before .before .loop .inv .filling .list .near (c .before .before .loop .x);
-  is-pq = c .before .before .before .before .before .length-between .ensures .at;
-  is-cp = c .before .before .before .before .length-between2 .ensures .at;
-  is-cq = c .before .before .before .length-between3 .ensures .at;
-}
+narrow-leg-requires c κs = search needs
 
 mul-legs : tie.Need-mul-legs Inv-loop μ-loop
 mul-legs c = search needs
@@ -55,7 +64,7 @@ loop-less : tie.Need-loop-less Inv-loop μ-loop
 loop-less c = search needs
 
 loop-again : tie.Need-loop-again Inv-loop μ-loop
-loop-again c = narrowing-on (c .before .before .before .before .before .before .before .before .pre) (c .before .before .before .loop .inv) (c .before .before .loop-test .taken) (c .narrow-leg .ensures)
+loop-again c = narrowing-on (c .before .before .before .before .before .before .before .pre) (c .before .before .before .before .before .loop .inv) (c .before .before .before .before .loop-test .taken) (c .narrow-leg .ensures)
 
 returns : tie.Need-returns Inv-loop μ-loop
 returns c = narrowing-end (c .before .loop .inv) (c .loop-test .left)
@@ -66,13 +75,18 @@ narrow-spec =
     (tie.spec
     Inv-loop
     μ-loop
-    length-between-requires
-    length-between-requires-2
-    length-between-requires-3
     loop-holds
-    cast-at
+    mul-leg
+    element-copy-out-leg
+    add-narrow-leg
+    add-narrow-leg-2
     mul-narrow-leg
-    element-copy-out-narrow-leg
+    shared-slice-read-narrow-leg
+    add-narrow-leg-3
+    add-narrow-leg-4
+    mul-narrow-leg-2
+    shared-slice-read-narrow-leg-2
+    add-narrow-leg-5
     narrow-leg-requires
     mul-legs
     element-write-legs

@@ -1,14 +1,11 @@
--- `marking::c_api::revosti_check_tour` meets its contract: what its arrays have no room for is refused whatever is in it (`CApiSizes`).
+-- `marking::c_api::check_decoded` meets its contract: what there is no room for is refused whatever is in it (`CApiSizes`).
 -- Assumes nothing.
 use Prim.Native.Nat.{ℕ}
 use lib.ListN.{length-replicate}
 use Rattle.marking.proofs.CApiSizes.{handed-length, checked-in-c}
 use borrow.Author.Needs.{needs}
-use Rattle.marking.proofs.c_api.revosti_check_tour.Statement.{statement}
-use Rattle.marking.proofs.c_api.revosti_check_tour.Tie as tie
-
-slice-aggregate-decode32 : tie.Need-slice-aggregate-decode32
-slice-aggregate-decode32 c = search needs
+use Rattle.marking.proofs.c_api.check_decoded.Statement.{statement}
+use Rattle.marking.proofs.c_api.check_decoded.Tie as tie
 
 decode32-requires : tie.Need-decode32-requires
 decode32-requires c κs = search needs
@@ -19,11 +16,11 @@ slice-aggregate-decode16 c = search needs
 decode16-requires : tie.Need-decode16-requires
 decode16-requires c κs = search needs
 
-array-share-prefix-lengths : tie.Need-array-share-prefix-lengths
-array-share-prefix-lengths c = search needs
+slice-reshare-prefix-check-tour : tie.Need-slice-reshare-prefix-check-tour
+slice-reshare-prefix-check-tour c = search needs
 
 slice-aggregate-check-tour : tie.Need-slice-aggregate-check-tour
-slice-aggregate-check-tour c = handed-length (c .before .before .before .before .before .decode32 .ensures)
+slice-aggregate-check-tour c = handed-length (c .before .before .before .before .before .before .decode32 .ensures)
 
 array-share-prefix-points : tie.Need-array-share-prefix-points
 array-share-prefix-points c = search needs
@@ -37,29 +34,33 @@ check-tour-requires c κs = search needs
 checked-number-requires : tie.Need-checked-number-requires
 checked-number-requires c κs = search needs
 
+same-length : tie.Need-same-length
+same-length c = search needs
+
 returns : tie.Need-returns
 returns c =
-    let d = c .before .before .before .before .before in
+    let e = c .before .before .before .before .before in
+    let d = e .before .before .before .before in
     checked-in-c _ _ _ _
-    (d .before .before .before .decode32 .ensures)
-    (d .decode16 .ensures)
-    (length-replicate {A = ℕ} 16110 0)
+    (d .decode32 .ensures)
+    (e .decode16 .ensures)
+    (d .before .before .before .before .before .before .pre)
     (length-replicate {A = ℕ} 180 0)
     (c .before .check-tour .ensures .answered)
     (c .checked-number .ensures)
 
-pub revosti-check-tour-spec : {M : Type 1} → statement M
-revosti-check-tour-spec =
+pub check-decoded-spec : {M : Type 1} → statement M
+check-decoded-spec =
     tie.close
     (tie.spec
-    slice-aggregate-decode32
     decode32-requires
     slice-aggregate-decode16
     decode16-requires
-    array-share-prefix-lengths
+    slice-reshare-prefix-check-tour
     slice-aggregate-check-tour
     array-share-prefix-points
     slice-aggregate-check-tour-2
     check-tour-requires
     checked-number-requires
+    same-length
     returns)

@@ -1,0 +1,95 @@
+-- `lengths::rows::fill_above` meets its contract: `Above` holds at the loop's head. Assumes nothing.
+use Prim.Native.Nat.{_-_}
+use borrow.Author.Needs.{needs}
+use Rattle.lengths.proofs.RowFilling.{Above, none-above, above-edge, above-start, above-inside, above-room, above-more, above-done}
+use Rattle.lengths.proofs.rows.fill_above.Statement.{statement}
+use Rattle.lengths.proofs.rows.fill_above.Tie as tie
+
+abbrev Inv-loop : tie.InvT-loop
+Inv-loop n table v rows₀ at above first start i₀ rows i = Above n table rows₀ at v rows i
+
+abbrev μ-loop : tie.MeasureT-loop
+μ-loop n table v rows₀ at above first start i₀ rows i = n - v - i
+
+returns : tie.Need-returns Inv-loop μ-loop
+returns c = none-above (c .before .before .before .pre) (c .if1 .taken)
+
+sub-above : tie.Need-sub-above Inv-loop μ-loop
+sub-above c = search needs
+
+cast-above : tie.Need-cast-above Inv-loop μ-loop
+cast-above c = search needs
+
+add-place : tie.Need-add-place Inv-loop μ-loop
+add-place c = search needs
+
+place-requires : tie.Need-place-requires Inv-loop μ-loop
+place-requires c κs = above-edge (c .before .before .before .pre) (c .if1 .left)
+
+add-start : tie.Need-add-start Inv-loop μ-loop
+add-start c = search needs
+
+add-start-2 : tie.Need-add-start-2 Inv-loop μ-loop
+add-start-2 c = search needs
+
+loop-holds : tie.Need-loop-holds Inv-loop μ-loop
+loop-holds c = above-start (c .before .before .before .before .pre)
+
+add-rows : tie.Need-add-rows Inv-loop μ-loop
+add-rows c = search needs
+
+mul-rows : tie.Need-mul-rows Inv-loop μ-loop
+mul-rows c = search needs
+
+shared-slice-read-rows : tie.Need-shared-slice-read-rows Inv-loop μ-loop
+shared-slice-read-rows c = above-inside (c .before .before .before .before .before .before .before .pre) (c .before .before .loop .inv) (c .before .before .before .place .ensures) (c .before .loop-test .taken)
+
+add-rows-2 : tie.Need-add-rows-2 Inv-loop μ-loop
+add-rows-2 c = search needs
+
+mul-rows-2 : tie.Need-mul-rows-2 Inv-loop μ-loop
+mul-rows-2 c = search needs
+
+slice-write-rows : tie.Need-slice-write-rows Inv-loop μ-loop
+slice-write-rows c = above-room (c .before .before .before .before .before .before .before .pre) (c .before .before .loop .inv) (c .before .before .before .place .ensures) (c .before .loop-test .taken)
+
+add-i : tie.Need-add-i Inv-loop μ-loop
+add-i c = search needs
+
+loop-less : tie.Need-loop-less Inv-loop μ-loop
+loop-less c = search needs
+
+loop-again : tie.Need-loop-again Inv-loop μ-loop
+loop-again c = above-more (c .before .before .before .before .before .before .before .pre) (c .before .before .loop .inv) (c .before .before .before .place .ensures) (c .before .loop-test .taken)
+
+same-length : tie.Need-same-length Inv-loop μ-loop
+same-length c = search needs
+
+returns-2 : tie.Need-returns-2 Inv-loop μ-loop
+returns-2 c = above-done (c .before .loop .inv) (c .loop-test .left)
+
+pub fill-above-spec : {M : Type 1} → statement M
+fill-above-spec =
+    tie.close
+    (tie.spec
+    Inv-loop
+    μ-loop
+    returns
+    sub-above
+    cast-above
+    add-place
+    place-requires
+    add-start
+    add-start-2
+    loop-holds
+    add-rows
+    mul-rows
+    shared-slice-read-rows
+    add-rows-2
+    mul-rows-2
+    slice-write-rows
+    add-i
+    loop-less
+    loop-again
+    same-length
+    returns-2)

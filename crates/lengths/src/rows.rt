@@ -1,0 +1,64 @@
+// Rows of lengths: the lengths from a point to all points, side by side.
+use crate::edge;
+ghost use Prim.Native.Nat.{_+_};
+ghost use Rattle.lengths.specs.Rows.{RowFillable, RowPart, RowFilled, RowsFillable, RowsFilled};
+
+// The lengths from v to the points below it: the place of xv moves on by n - x - 1 as x does by 1.
+fn fill_below(n: u16, table: &[u32], v: u16, rows: &mut [u32], at: usize)
+    requires { ⌜ RowFillable n (now table) (now rows) at v ⌝ }
+    ensures { λ _. ⌜ RowPart n (now (table .entry)) (now (rows .entry)) at v 1 v (now (rows .exit)) ⌝ }
+{
+    let points = n as usize;
+    let last = v as usize;
+    // the place of xv, plus 1
+    let mut from = last - 1;
+    let mut x = 1;
+    while x < last {
+        rows[at + x] = table[from - 1];
+        from += points - x - 1;
+        x += 1;
+    }
+}
+
+// The lengths from v to the points above it stand side by side in the table.
+fn fill_above(n: u16, table: &[u32], v: u16, rows: &mut [u32], at: usize)
+    requires { ⌜ RowFillable n (now table) (now rows) at v ⌝ }
+    ensures { λ _. ⌜ RowPart n (now (table .entry)) (now (rows .entry)) at v (v + 1) (n + 1) (now (rows .exit)) ⌝ }
+{
+    if n <= v {
+        return;
+    }
+    let above = (n - v) as usize;
+    let first = edge::place(n, v, v + 1);
+    let start = at + v as usize + 1;
+    let mut i = 0;
+    while i < above {
+        rows[start + i] = table[first + i];
+        i += 1;
+    }
+}
+
+// Writes the row of v, 0 from v to itself.
+pub fn fill_row(n: u16, table: &[u32], v: u16, rows: &mut [u32], at: usize)
+    requires { ⌜ RowFillable n (now table) (now rows) at v ⌝ }
+    ensures { λ _. ⌜ RowFilled n (now (table .entry)) (now (rows .entry)) at v (now (rows .exit)) ⌝ }
+{
+    fill_below(n, table, v, rows, at);
+    rows[at + v as usize] = 0;
+    fill_above(n, table, v, rows, at);
+}
+
+// Writes the rows of all points.
+pub fn fill_rows(n: u16, table: &[u32], rows: &mut [u32])
+    requires { ⌜ RowsFillable n (now table) (now rows) ⌝ }
+    ensures { λ _. ⌜ RowsFilled n (now (table .entry)) (now (rows .entry)) (now (rows .exit)) ⌝ }
+{
+    let width = n as usize + 1;
+    let mut v: u16 = 1;
+    let mut at = width;
+    while v <= n {
+        fill_row(n, table, v, rows, at);
+        at += width;
+        v += 1;
+    }
+}
