@@ -2,15 +2,15 @@
 -- The induction is on the tree. K stays within the points 1 to n all the way down, so test 11 never stands in the way.
 use Prim.Native.Nat.{ℕ, _<_}
 use mathlib.Core.Path.{_≡_, refl, sym, _∙_, ap, subst}
-use mathlib.Core.Logic.{inl, inr, ⊎-elim}
-use mathlib.Core.List.{List, _∷_}
+use mathlib.Core.Logic.{⊎-elim}
+use mathlib.Core.List.{List, _∷_, List·Memᴰ·head, List·Memᴰ·tail}
 use native.Mathlib.Omega.{arith}
 use borrow.Author.Tests.{lt-ltb}
 use Rattle.lengths.specs.Edge.{Edge, edge, Point}
 use Rattle.rules.specs.Pair.{withPair}
+use Rattle.rules.specs.Rising.{Among}
 use Rattle.argument.specs.Verdict.{accepted}
 use Rattle.argument.specs.Record.{How}
-use Rattle.argument.specs.Pairs.{Among}
 use Rattle.argument.specs.Rules.{Rules, Lawful, Within}
 use Rattle.argument.specs.Argument.{Cases, none, pair, Closing, split, crossing, names, depth, Closed}
 use Rattle.argument.specs.Layout.{Laid, Holds}
@@ -58,13 +58,13 @@ module _ (R : Rules) (law : Lawful R) (s : List ℕ) where
     chain-complete (pair x y t more) q h ch w pc ps =
         let l = ch .laid in
         let e : q .pairs ≡ edge x y ∷ names more = sym (ch .named) in
-        let pp = ps x y (subst (λ (es : List Edge). Among es x y) (sym e) (inl refl)) in
+        let pp = ps x y (subst (λ (es : List Edge). Among es x y) (sym e) (List·Memᴰ·head refl)) in
         let w′ = within-pair (q .known) (q .point) x y pc (pp .0) (pp .1) w in
         let r : rest (q .pairs) ≡ names more = rest-is (q .pairs) (edge x y) (names more) e in
         let st : ClosingAt R s (q .left) (withPair (q .known) (q .point) x y) (q .index) (l .0) t (l .2) = record { holds = l .5; closed = ch .closed .0; shallow = omega (arith, ch .shallow) } in
         let taken : Taken R s q x y (l .0) (l .1) =
         record { entered = l .3; reads = l .4; fit = record { point-a = pp .0; point-b = pp .1; apart = λ z. omega (arith, pp .2); how-fits = how-points _ (q .index) (l .0) t (l .2) w′ (st .closed) (st .holds) }; named = e ∙ ap (λ (es : List Edge). edge x y ∷ es) (sym r) } in
-        let ps′ : PairPoints (R .n) (rest (q .pairs)) = λ a b m. ps a b (subst (λ (es : List Edge). Among es a b) (sym e) (inr (subst (λ (es : List Edge). Among es a b) r m))) in
+        let ps′ : PairPoints (R .n) (rest (q .pairs)) = λ a b m. ps a b (subst (λ (es : List Edge). Among es a b) (sym e) (List·Memᴰ·tail (subst (λ (es : List Edge). Among es a b) r m))) in
         chain-case q x y (l .0) (l .1) (l .2) h taken (close-complete t (q .left) _ (q .index) (l .0) (l .2) st w′) (chain-complete more (behind q (l .1) (l .2)) h (record { laid = l .6; named = sym r; closed = ch .closed .1; shallow = omega (arith, ch .shallow) }) w pc ps′)
 
     pub close-complete : (t : Closing) (left : ℕ) (K : List Edge) (i : ℕ) (how : How) (h : ℕ) → ClosingAt R s left K i how t h → Within (R .n) K → close R (walk R s) left K i how ≡ accepted h

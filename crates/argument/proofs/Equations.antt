@@ -2,14 +2,14 @@
 -- These are what code is held to: a chain answers `walk`, a case answers `close` of the walk, a line answers `judge`.
 use Prim.Native.Nat.{ℕ, _<_}
 use mathlib.Core.Path.{_≡_, refl, sym, _∙_, ap, subst}
-use mathlib.Core.Bool.{Bool, true, false}
+use mathlib.Core.Bool.{Bool}
 use mathlib.Core.List.{List, [], _∷_}
 use native.Mathlib.Omega.{arith}
 use borrow.Author.Tests.{lt-ltb, le-ltb}
 use Rattle.lengths.specs.Edge.{Edge, edge, Point}
 use Rattle.rules.specs.Pair.{withPair}
 use Rattle.argument.specs.Verdict.{Verdict, accepted, refused, unless, andThen}
-use Rattle.argument.specs.Record.{How, splits, crosses, Record, line, case, other, recordAt, fits}
+use Rattle.argument.specs.Record.{How, splits, crosses, Record, line, case, other, recordAt}
 use Rattle.argument.specs.Rules.{Rules}
 use Rattle.argument.specs.Argument.{splitLimit}
 use Rattle.argument.specs.Walk.{Spot, ends, takes, look, opening, behind, close, act, follow, walk}
@@ -97,20 +97,3 @@ module _ (R : Rules) (open? : ℕ → ℕ → Bool) (s : List ℕ) (i : ℕ) whe
   judge-walks a b c first next at pc =
       let fit : Fits (R .n) a b (splits c first) = record { point-a = at .point-a; point-b = at .point-b; apart = at .apart; how-fits = pc } in
       ap (judgeRecord R open? s i) (at .reads) ∙ pass-guard _ 11 i _ (means-fits fit) ∙ pass-guard _ 12 i _ (at .is-open) ∙ ap (λ (v : Verdict ℕ). andThen v (λ high. accepted (strikes a b next high))) (close-splits R s splitLimit (edge a b ∷ []) i c first (omega arith))
-
-  -- the refusals of an entered line in front of its split: 10, 11, 12
-  pub refuse-case : (a b : ℕ) (how : How) (next : ℕ) → recordAt s i ≡ case a b how next → judge R open? s i ≡ refused 10 i
-  unfolding judge judgeRecord
-  refuse-case a b how next e = ap (judgeRecord R open? s i) e
-
-  pub refuse-neither : recordAt s i ≡ other → judge R open? s i ≡ refused 10 i
-  unfolding judge judgeRecord
-  refuse-neither e = ap (judgeRecord R open? s i) e
-
-  pub refuse-points : (a b c first next : ℕ) → recordAt s i ≡ line a b c first next → fits (R .n) a b (splits c first) ≡ false → judge R open? s i ≡ refused 11 i
-  unfolding judge judgeRecord
-  refuse-points a b c first next e f = ap (judgeRecord R open? s i) e ∙ fail-guard _ 11 i _ f
-
-  pub refuse-struck : (a b c first next : ℕ) → recordAt s i ≡ line a b c first next → fits (R .n) a b (splits c first) ≡ true → open? a b ≡ false → judge R open? s i ≡ refused 12 i
-  unfolding judge judgeRecord
-  refuse-struck a b c first next e f o = ap (judgeRecord R open? s i) e ∙ pass-guard _ 11 i _ f ∙ fail-guard _ 12 i _ o

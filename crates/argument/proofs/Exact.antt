@@ -5,28 +5,20 @@ use mathlib.Core.Logic.{_↔_}
 use mathlib.Core.Bool.{Bool}
 use mathlib.Core.List.{List, [], _∷_}
 use native.Mathlib.Omega.{arith}
-use Rattle.lengths.specs.Edge.{Edge, edge, Point}
+use Rattle.lengths.specs.Edge.{edge}
 use Rattle.argument.specs.Verdict.{accepted}
-use Rattle.argument.specs.Record.{How, line}
+use Rattle.argument.specs.Record.{line}
 use Rattle.argument.specs.Rules.{Rules, Lawful, Within}
-use Rattle.argument.specs.Argument.{Cases, Closing, splitLimit, depth, Closed, ArgumentFor}
+use Rattle.argument.specs.Argument.{Cases, splitLimit, depth, Closed, ArgumentFor}
 use Rattle.argument.specs.Layout.{Laid}
-use Rattle.argument.specs.Walk.{Spot, opening, close, walk}
+use Rattle.argument.specs.Walk.{opening, walk}
 use Rattle.argument.specs.Line.{strikes, judge, LineAt, ProvedLine}
 use Rattle.argument.proofs.Verdicts.{pass-andThen}
-use Rattle.argument.proofs.Tests.{HowFits}
 use Rattle.argument.proofs.Equations.{judged, judge-walks}
-use Rattle.argument.proofs.Sound.{ChainAt, ClosingAt, walk-sound, close-sound}
-use Rattle.argument.proofs.Complete.{within-edge, PairPoints, chain-complete, close-complete}
+use Rattle.argument.proofs.Sound.{walk-sound}
+use Rattle.argument.proofs.Complete.{within-edge, chain-complete}
 
 module _ (R : Rules) (law : Lawful R) (s : List ℕ) where
-  -- the same of a chain and of a closing, for any K within the points
-  pub chain-exact : (q : Spot) (h : ℕ) → Within (R .n) (q .known) → Point (R .n) (q .point) → PairPoints (R .n) (q .pairs) → (walk R s q ≡ accepted h) ↔ ((cs : Cases) × ChainAt R s q cs h)
-  chain-exact q h w pc ps = (walk-sound R law s q h, λ f. chain-complete R law s (f .0) q h (f .1) w pc ps)
-
-  pub close-exact : (left : ℕ) (K : List Edge) (i : ℕ) (how : How) (h : ℕ) → Within (R .n) K → HowFits (R .n) how → (close R (walk R s) left K i how ≡ accepted h) ↔ ((t : Closing) × ClosingAt R s left K i how t h)
-  close-exact left K i how h w fit = (close-sound R law s (walk R s) (walk-sound R law s) left K i how h fit, λ f. close-complete R law s (f .0) left K i how h (f .1) w)
-
   module _ (open? : ℕ → ℕ → Bool) (i : ℕ) where
     pub line-sound : (a b next high : ℕ) → judge R open? s i ≡ accepted (strikes a b next high) → ProvedLine R open? s i a b next high
     unfolding opening Closed depth
@@ -46,8 +38,8 @@ module _ (R : Rules) (law : Lawful R) (s : List ℕ) where
         chain-complete R law s (l .cases) (opening R splitLimit (edge a b ∷ []) i (l .c) (l .first)) high (record { laid = l .laid; named = cl .1; closed = cl .2; shallow = omega (arith, l .argument .shallow) }) w (cl .0) (λ x y m. law .pair-points (edge a b ∷ []) (l .c) x y m) in
         judge-walks R open? s i a b (l .c) (l .first) next at (cl .0) ∙ pass-andThen _ _ high e
 
-    -- DEMAND 2. A line that is entered with its edge open is accepted, and the highest record entered is then h, exactly when an argument
-    -- for its edge, at most six splits deep, is laid out behind it up to record h.
+    -- What demand 2 rests on: a line that is entered with its edge open is accepted, and the highest record entered is then h, exactly when
+    -- an argument for its edge, at most six splits deep, is laid out behind it up to record h.
     -- From left to right: the walk hands over one case for each step, its pair the next standing one, so the chain names exactly the
     -- standing pairs; a crossing is accepted because it settles K. From right to left: down the tree, every test passes, as the layout
     -- has the records that the tests read, K stays within the points, and a split within the limit leaves one fewer below it.

@@ -1,6 +1,5 @@
 pub mod Verdicts
 pub mod Tests
-pub mod Pairs
 pub mod Steps
 pub mod Fuel
 pub mod Equations

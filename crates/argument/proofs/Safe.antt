@@ -1,13 +1,13 @@
--- Safety in the abstract: what a tour in question uses is never struck, by a line, a sheet or a run of sheets.
+-- Safety in the abstract: what a tour in question uses is never struck, by a line or a sheet, and so not by a run of calls.
 use Prim.Native.Nat.{ℕ}
 use mathlib.Core.Path.{_≡_, sym, subst}
 use mathlib.Core.Logic.{⊎-elim}
-use mathlib.Core.Bool.{Bool, true}
-use mathlib.Core.List.{List, [], _∷_}
+use mathlib.Core.Bool.{Bool}
+use mathlib.Core.List.{List, [], _∷_, List·Memᴰ·not-nil, List·Memᴰ·cases-cons}
 use Rattle.lengths.specs.Edge.{Edge, edge}
 use Rattle.rules.specs.Pair.{withPair}
+use Rattle.rules.specs.Rising.{Among}
 use Rattle.argument.specs.Verdict.{accepted}
-use Rattle.argument.specs.Pairs.{Among}
 use Rattle.argument.specs.Rules.{Rules, Lawful}
 use Rattle.argument.specs.Argument.{Cases, none, pair, Closing, split, crossing, names, Closed, AllClosed, ArgumentFor}
 use Rattle.argument.specs.Line.{Struck, strikes, judge}
@@ -29,10 +29,10 @@ module _ (R : Rules) (Good : List Edge → Type 0) (up : Upheld R Good) where
     closed-safe (crossing p q r s) K cl g = up .unsettled K p q r s g cl
 
     cases-safe : (cs : Cases) (K : List Edge) (c : ℕ) → AllClosed R K c cs → (x y : ℕ) → Among (names cs) x y → Good (withPair K c x y) → ⊥
-    cases-safe none K c cl x y m g = m
-    cases-safe (pair a b t more) K c cl x y m g = ⊎-elim (λ e. closed-safe t (withPair K c a b) (cl .0) (same-pair a b x y K c e g)) (λ n. cases-safe more K c (cl .1) x y n g) m
+    cases-safe none K c cl x y m g = List·Memᴰ·not-nil m
+    cases-safe (pair a b t more) K c cl x y m g = ⊎-elim (λ e. closed-safe t (withPair K c a b) (cl .0) (same-pair a b x y K c e g)) (λ n. cases-safe more K c (cl .1) x y n g) (List·Memᴰ·cases-cons m)
       where
-        same-pair : (a b x y : ℕ) (K : List Edge) (c : ℕ) → edge a b ≡ edge x y → Good (withPair K c x y) → Good (withPair K c a b)
+        same-pair : (a b x y : ℕ) (K : List Edge) (c : ℕ) → edge x y ≡ edge a b → Good (withPair K c x y) → Good (withPair K c a b)
         same-pair a b x y K c e g =
             let ea : a ≡ x = cc in
             let eb : b ≡ y = cc in
@@ -60,7 +60,8 @@ module _ {M : Type 0} (𝓜 : Marking M) (Good : List Edge → Type 0) (Kept : M
           let at = l .at-line in
           subst (λ (q : Place M). Kept (q .marks)) (sym z) (safe .spares (p .marks) a b k (at .point-a) (at .point-b) (at .apart) (at .is-open) (λ g. line-safe (𝓜 .rules (p .marks)) Good (safe .upheld (p .marks) k) law (𝓜 .open? (p .marks)) s (p .index) a b next high g j))
 
-  -- a sheet, accepted or not, leaves the tour's edges open
+  -- A sheet, accepted or not, leaves the tour's edges open: no accepted line strikes one of them, since a closed argument for it would rule
+  -- the tour out, and nothing but an accepted line changes a mark.
   pub sheet-safe : (s : List ℕ) (m : M) → Kept m → Kept (sheet 𝓜 s m .marks)
   unfolding answer start
   sheet-safe s m k =
@@ -72,11 +73,3 @@ pub run-keeps : {M C : Type 0} (Kept : M → Type 0) (call : C → M → M) → 
 unfolding run
 run-keeps Kept call keeps [] m k = k
 run-keeps Kept call keeps (c ∷ cs) m k = run-keeps Kept call keeps cs (call c m) (keeps c m k)
-
--- A run of sheets leaves the tour's edges open, whatever the sheets hold: no accepted line strikes one of them, since a closed argument
--- for it would rule the tour out, and nothing but an accepted line changes a mark.
-pub run-safe : {M : Type 0} (𝓜 : Marking M) (Good : List Edge → Type 0) (Kept : M → Type 0) → Guarded 𝓜 Good Kept → (sheets : List (List ℕ)) (m : M) → Kept m → Kept (run (λ s m′. sheet 𝓜 s m′ .marks) sheets m)
-run-safe 𝓜 Good Kept safe = run-keeps Kept (λ s m′. sheet 𝓜 s m′ .marks) (sheet-safe 𝓜 Good Kept safe)
-
-pub run-open : {M : Type 0} (𝓜 : Marking M) (Good : List Edge → Type 0) (Kept : M → Type 0) → Guarded 𝓜 Good Kept → (sheets : List (List ℕ)) (m : M) → Kept m → (a b : ℕ) → Good (edge a b ∷ []) → 𝓜 .open? (run (λ s m′. sheet 𝓜 s m′ .marks) sheets m) a b ≡ true
-run-open 𝓜 Good Kept safe sheets m k a b g = safe .shown _ a b (run-safe 𝓜 Good Kept safe sheets m k) g

@@ -8,10 +8,10 @@ use lib.Dec.{eqb}
 use borrow.Author.Tests.{eqb-true, eqb-false, eq-eqb, ne-eqb}
 use Rattle.lengths.specs.Edge.{edge}
 use Rattle.argument.specs.Verdict.{accepted, refused, guard}
-use Rattle.argument.specs.Record.{How, Record, line, case, other, records, recordAt, fits}
+use Rattle.argument.specs.Record.{How, Record, line, case, other, records, recordAt}
 use Rattle.argument.specs.Rules.{Rules}
 use Rattle.argument.specs.Layout.{Enters}
-use Rattle.argument.specs.Walk.{Spot, Step, ends, takes, entering, noneLeft, isNext, rest, readCase, look}
+use Rattle.argument.specs.Walk.{Spot, Step, ends, takes, entering, noneLeft, rest, readCase, look}
 use Rattle.argument.proofs.Verdicts.{refused-accepted, accepted-inj, guard-passed, pass-guard, fail-guard}
 use Rattle.argument.proofs.Tests.{Fits, fits-means, means-fits, none-left, left-none, next-is, is-next, entering-passed, pass-entering, refuse-8, refuse-9}
 
@@ -67,8 +67,8 @@ module _ (R : Rules) (s : List ℕ) (q : Spot) where
   looks-on {a} {b} {how} {next} t =
       look-on (λ z. omega (arith, t .entered)) ∙ pass-entering _ _ _ _ _ (t .entered) ∙ ap (readCase R q) (t .reads) ∙ pass-guard _ _ _ _ (means-fits (t .fit)) ∙ pass-guard _ _ _ _ (is-next _ a b _ (t .named))
 
-  -- the refusals of one step, each with the facts under which it is the first to apply: 14 at a chain's end, 8 and 9 of the index,
-  -- and 10, 11 and 14 of a record that is entered
+  -- the refusals of one step in front of its record, each with the facts under which it is the first to apply: 14 at a chain's end, 8 and
+  -- 9 of the index
   pub refuse-end : q .index ≡ 0 → noneLeft (q .pairs) ≡ false → look R s q ≡ refused 14 (q .last)
   refuse-end i e = look-end i ∙ fail-guard _ 14 (q .last) _ e
 
@@ -81,19 +81,3 @@ module _ (R : Rules) (s : List ℕ) (q : Spot) where
   -- an entered record is read
   pub look-entered : Enters s (q .high) (q .index) → look R s q ≡ readCase R q (recordAt s (q .index))
   look-entered h = look-on (λ z. omega (arith, h)) ∙ pass-entering _ _ _ _ _ h
-
-  pub refuse-line : {a b c first next : ℕ} → Enters s (q .high) (q .index) → recordAt s (q .index) ≡ line a b c first next → look R s q ≡ refused 10 (q .index)
-  unfolding readCase
-  refuse-line h e = look-entered h ∙ ap (readCase R q) e
-
-  pub refuse-other : Enters s (q .high) (q .index) → recordAt s (q .index) ≡ other → look R s q ≡ refused 10 (q .index)
-  unfolding readCase
-  refuse-other h e = look-entered h ∙ ap (readCase R q) e
-
-  pub refuse-fits : {a b : ℕ} {how : How} {next : ℕ} → Enters s (q .high) (q .index) → recordAt s (q .index) ≡ case a b how next → fits (R .n) a b how ≡ false → look R s q ≡ refused 11 (q .index)
-  unfolding readCase
-  refuse-fits h e f = look-entered h ∙ ap (readCase R q) e ∙ fail-guard _ 11 (q .index) _ f
-
-  pub refuse-next : {a b : ℕ} {how : How} {next : ℕ} → Enters s (q .high) (q .index) → recordAt s (q .index) ≡ case a b how next → fits (R .n) a b how ≡ true → isNext (q .pairs) a b ≡ false → look R s q ≡ refused 14 (q .index)
-  unfolding readCase
-  refuse-next h e f x = look-entered h ∙ ap (readCase R q) e ∙ pass-guard _ 11 (q .index) _ f ∙ fail-guard _ 14 (q .index) _ x

@@ -1,23 +1,18 @@
 -- Each test of the walk against what it means: points, records that fit, the next pair, indices that may be entered.
+pub use Rattle.rules.proofs.Laws.Bools.{and-true as both}
 use Prim.Native.Nat.{ℕ, _≤_, _<_}
 use mathlib.Core.Path.{_≡_, refl, _∙_, ap, ap₂}
-use mathlib.Core.Bool.{Bool, true, false, not, _&&_, false≢true}
+use mathlib.Core.Bool.{true, not, false≢true}
 use mathlib.Core.List.{List, [], _∷_}
 use lib.Dec.{leb}
 use borrow.Author.Tests.{leb-true, le-leb, lt-leb, ltb-true, lt-ltb, le-ltb, eqb-true, eqb-false, eq-eqb, ne-eqb, not-true}
 use Rattle.lengths.specs.Edge.{Edge, edge, Point}
+use Rattle.lengths.proofs.Bools.{and-both}
 use Rattle.argument.specs.Verdict.{Verdict, accepted, refused}
 use Rattle.argument.specs.Record.{How, splits, crosses, records, isPoint, howFits, fits}
 use Rattle.argument.specs.Layout.{Enters}
 use Rattle.argument.specs.Walk.{entering, noneLeft, isNext, rest}
 use Rattle.argument.proofs.Verdicts.{guard-passed, pass-guard, fail-guard}
-
-pub both : (a b : Bool) → (a && b) ≡ true → (a ≡ true) × (b ≡ true)
-both true b e = (refl, e)
-both false b e = absurd (false≢true e)
-
-pub and-intro : {a b : Bool} → a ≡ true → b ≡ true → (a && b) ≡ true
-and-intro p q = rw (p, q)
 
 pub is-point : (n a : ℕ) → isPoint n a ≡ true → Point n a
 unfolding isPoint
@@ -25,7 +20,7 @@ is-point n a e = let h = both (leb 1 a) (leb a n) e in record { low = leb-true 1
 
 pub point-is : {n a : ℕ} → Point n a → isPoint n a ≡ true
 unfolding isPoint
-point-is {n} {a} p = and-intro (le-leb 1 a (p .low)) (le-leb a n (p .high))
+point-is {n} {a} p = and-both _ _ (le-leb 1 a (p .low)) (le-leb a n (p .high))
 
 -- what refusal 11 leaves of a record's points
 abbrev pub HowFits : ℕ → How → Type 0
@@ -50,7 +45,7 @@ how-fits n (crosses p q r s) e =
 fits-how : (n : ℕ) (how : How) → HowFits n how → howFits n how ≡ true
 unfolding howFits
 fits-how n (splits c first) p = point-is p
-fits-how n (crosses p q r s) h = and-intro (point-is (h .0)) (and-intro (point-is (h .1)) (and-intro (point-is (h .2)) (point-is (h .3))))
+fits-how n (crosses p q r s) h = and-both _ _ (point-is (h .0)) (and-both _ _ (point-is (h .1)) (and-both _ _ (point-is (h .2)) (point-is (h .3))))
 
 pub fits-means : (n a b : ℕ) (how : How) → fits n a b how ≡ true → Fits n a b how
 unfolding fits
@@ -63,7 +58,7 @@ fits-means n a b how e =
 pub means-fits : {n a b : ℕ} {how : How} → Fits n a b how → fits n a b how ≡ true
 unfolding fits
 means-fits {n} {a} {b} {how} f =
-    and-intro (point-is (f .point-a)) (and-intro (point-is (f .point-b)) (and-intro (ap not (ne-eqb a b (f .apart))) (fits-how n how (f .how-fits))))
+    and-both _ _ (point-is (f .point-a)) (and-both _ _ (point-is (f .point-b)) (and-both _ _ (ap not (ne-eqb a b (f .apart))) (fits-how n how (f .how-fits))))
 
 pub none-left : (ps : List Edge) → noneLeft ps ≡ true → ps ≡ []
 unfolding noneLeft
@@ -81,7 +76,7 @@ next-is (edge x y ∷ ps) a b e = let h = both _ _ e in ap (λ (p : Edge). p ∷
 
 pub is-next : (ps : List Edge) (a b : ℕ) (es : List Edge) → ps ≡ edge a b ∷ es → isNext ps a b ≡ true
 unfolding isNext
-is-next ps a b es e = rw e (and-intro (eq-eqb a a refl) (eq-eqb b b refl))
+is-next ps a b es e = rw e (and-both _ _ (eq-eqb a a refl) (eq-eqb b b refl))
 
 pub rest-is : (ps : List Edge) (e : Edge) (es : List Edge) → ps ≡ e ∷ es → rest ps ≡ es
 unfolding rest

@@ -5,15 +5,15 @@ use Prim.Native.Nat.{ℕ, zero, suc, _≤_, _<_}
 use mathlib.Core.Path.{_≡_, refl, sym}
 use mathlib.Core.Logic.{⊎-elim}
 use mathlib.Core.Bool.{Bool, true, false, not, _&&_, _||_}
-use mathlib.Core.List.{List, [], _∷_}
+use mathlib.Core.List.{List, [], _∷_, List·Memᴰ·not-nil, List·Memᴰ·cases-cons, List·Memᴰ·eq-of-singleton}
 use native.Mathlib.Omega.{arith}
 use lib.Dec.{eqb}
 use lib.ListN.{length}
 use borrow.Author.Tests.{eqb-true}
 use Rattle.lengths.specs.Edge.{Edge, edge, Point}
+use Rattle.rules.specs.Rising.{Among}
 use Rattle.argument.specs.Verdict.{Verdict, accepted, refused, guard, unless, andThen}
 use Rattle.argument.specs.Record.{records, field, bare, content, recordAt, isPoint, howFits, fits}
-use Rattle.argument.specs.Pairs.{Among, before, Rising}
 use Rattle.argument.specs.Rules.{Rules, Lawful}
 use Rattle.argument.specs.Walk.{entering, noneLeft, isNext, rest, readCase, look, opening, behind, close, act, follow, walkBy, walk}
 use Rattle.argument.specs.Line.{judgeRecord, judge}
@@ -125,24 +125,14 @@ unfolding toyClosing
 zero-closing b r e = rw e
 
 toy-points : (t : Bool) (x y : ℕ) → Among (toyPairsIf t) x y → Point 4 x × Point 4 y × (x < y)
-toy-points false x y m = absurd m
-toy-points true x y m = ⊎-elim (λ e. by 1 x y (omega arith) (omega arith) e) (⊎-elim (λ e. by 2 x y (omega arith) (omega arith) e) (λ z. absurd z)) m
+toy-points false x y m = absurd (List·Memᴰ·not-nil m)
+toy-points true x y m = ⊎-elim (by 1 x y (omega arith) (omega arith)) (λ k. by 2 x y (omega arith) (omega arith) (List·Memᴰ·eq-of-singleton k)) (List·Memᴰ·cases-cons m)
   where
-    by : (a x y : ℕ) → 1 ≤ a → a ≤ 3 → edge a 4 ≡ edge x y → Point 4 x × Point 4 y × (x < y)
+    by : (a x y : ℕ) → 1 ≤ a → a ≤ 3 → edge x y ≡ edge a 4 → Point 4 x × Point 4 y × (x < y)
     by a x y l h e =
         let ex : a ≡ x = cc in
         let ey : 4 ≡ y = cc in
         (pointed a x l (omega arith) ex, pointed 4 y (omega arith) (omega arith) ey, omega arith)
-
-toy-rising : (t : Bool) → Rising (toyPairsIf t)
-unfolding before
-toy-rising false = tt
-toy-rising true = (λ x y m. ⊎-elim (λ (e : edge 2 4 ≡ edge x y). by x y e) (λ z. absurd z) m, ((λ x y m. absurd m), tt))
-  where
-    by : (x y : ℕ) → edge 2 4 ≡ edge x y → before 1 4 x y ≡ true
-    by x y e =
-        let ex : 2 ≡ x = cc in
-        rw (← ex)
 
 toy-crossing : (p q r s : ℕ) → toySettles p q r s ≡ true → Point 4 p × Point 4 q × Point 4 r × Point 4 s
 unfolding toySettles
@@ -160,6 +150,5 @@ toy-lawful =
       settled = λ K p q r s e. closing-zero _ r e;
       settles = λ K p q r s e. zero-closing _ r e;
       pair-points = λ K c x y m. toy-points (eqb c 3) x y m;
-      rising = λ K c. toy-rising (eqb c 3);
       crossing-points = λ K p q r s w e. toy-crossing p q r s e;
     }

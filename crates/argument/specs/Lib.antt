@@ -1,6 +1,5 @@
 pub mod Verdict
 pub mod Record
-pub mod Pairs
 pub mod Rules
 pub mod Argument
 pub mod Layout

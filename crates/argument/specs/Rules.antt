@@ -5,12 +5,12 @@ use mathlib.Core.Path.{_≡_}
 use mathlib.Core.List.{List}
 use Rattle.lengths.specs.Edge.{Edge, Point}
 use Rattle.rules.specs.EdgeSet.{Has}
-use Rattle.argument.specs.Pairs.{Among, Rising}
+use Rattle.rules.specs.Rising.{Among}
 
 pub record Rules : Type 1 where
   -- how many points there are
   pub n : ℕ
-  -- the pairs x < y that stand at c under K, rising
+  -- the pairs x < y that stand at c under K, in the order in which a chain names them
   pub pairs : (K : List Edge) (c : ℕ) → List Edge
   -- 0 if the crossing of pq with the centres r and s settles K, and else the number of its refusal
   pub closing : (K : List Edge) (p q r s : ℕ) → ℕ
@@ -26,6 +26,5 @@ pub record Lawful (R : Rules) : Type 0 where
   pub settles : (K : List Edge) (p q r s : ℕ) → R .Settles K p q r s → R .closing K p q r s ≡ 0
   -- a pair that stands is two points, the lower first
   pub pair-points : (K : List Edge) (c x y : ℕ) → Among (R .pairs K c) x y → Point (R .n) x × Point (R .n) y × (x < y)
-  pub rising : (K : List Edge) (c : ℕ) → Rising (R .pairs K c)
   -- a crossing that settles K names points of K only
   pub crossing-points : (K : List Edge) (p q r s : ℕ) → Within (R .n) K → R .Settles K p q r s → Point (R .n) p × Point (R .n) q × Point (R .n) r × Point (R .n) s

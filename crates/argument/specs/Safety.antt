@@ -6,7 +6,7 @@ use mathlib.Core.Bool.{true}
 use mathlib.Core.List.{List, [], _∷_}
 use Rattle.lengths.specs.Edge.{Edge, edge, Point}
 use Rattle.rules.specs.Pair.{withPair}
-use Rattle.argument.specs.Pairs.{Among}
+use Rattle.rules.specs.Rising.{Among}
 use Rattle.argument.specs.Rules.{Rules, Lawful}
 use Rattle.argument.specs.Sheet.{Marking}
 
@@ -19,8 +19,6 @@ pub record Upheld (R : Rules) (Good : List Edge → Type 0) : Type 0 where
 pub record Guarded {M : Type 0} (𝓜 : Marking M) (Good : List Edge → Type 0) (Kept : M → Type 0) : Type 0 where
   pub lawful : (m : M) → Kept m → Lawful (𝓜 .rules m)
   pub upheld : (m : M) → Kept m → Upheld (𝓜 .rules m) Good
-  -- every edge of the tour is open
-  pub shown : (m : M) (a b : ℕ) → Kept m → Good (edge a b ∷ []) → 𝓜 .open? m a b ≡ true
   -- striking an open edge that the tour does not use leaves the tour's edges open
   pub spares : (m : M) (a b : ℕ) → Kept m → Point (𝓜 .rules m .n) a → Point (𝓜 .rules m .n) b → (a ≡ b → ⊥) →
       𝓜 .open? m a b ≡ true → (Good (edge a b ∷ []) → ⊥) → Kept (𝓜 .strike m a b)

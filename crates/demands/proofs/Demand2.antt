@@ -3,8 +3,8 @@
 -- shape that they go by and a feasible pair keeps it. Assumes nothing.
 use Prim.Native.Nat.{ℕ}
 use mathlib.Core.Path.{_≡_, refl, sym, subst}
-use mathlib.Core.Logic.{_↔_, inl, inr}
-use mathlib.Core.List.{List, [], _∷_}
+use mathlib.Core.Logic.{_↔_}
+use mathlib.Core.List.{List, [], _∷_, List·Memᴰ·head, List·Memᴰ·tail}
 use native.Mathlib.Omega.{arith}
 use Rattle.lengths.specs.Edge.{Edge, edge}
 use Rattle.lengths.specs.Table.{lengthOf}
@@ -12,19 +12,19 @@ use Rattle.lengths.proofs.Tables.{length-symmetric}
 use Rattle.rules.specs.Mark.{openIn}
 use Rattle.rules.specs.Pair.{withPair, FeasiblePair}
 use Rattle.rules.specs.Pairs.{feasiblePairs}
+use Rattle.rules.specs.Rising.{Among}
 use Rattle.rules.specs.Shape.{Shape}
 use Rattle.rules.proofs.Exact.{shape-exact, kept-shape, single-shape}
 use Rattle.rules.proofs.PairLists.{feasiblePairs-rising}
 use Rattle.rules.proofs.PairTests.{feasiblePairs-iff}
+use Rattle.rules.proofs.Rising.{rising-unique}
 use Rattle.argument.specs.Argument.{Cases, none, pair, Closing, split, crossing, names, Closed, AllClosed}
 use Rattle.argument.specs.Line.{strikes, judge}
-use Rattle.argument.specs.Pairs.{Among}
 use Rattle.argument.specs.Verdict.{accepted}
 use Rattle.argument.proofs.Exact.{line-sound, line-complete}
-use Rattle.argument.proofs.Pairs.{rising-unique}
 use Rattle.marking.specs.Rules.{rulesOf}
 use Rattle.demands.specs.Complete.{NamesFeasible, Complete, AllComplete, CompleteLine}
-use Rattle.demands.proofs.Lawful.{lawful, among-member, member-among, rising-pairs}
+use Rattle.demands.proofs.Lawful.{lawful}
 
 module _ (n : ℕ) (table marks : List ℕ) where
   -- a feasible pair has the shape again
@@ -36,13 +36,10 @@ module _ (n : ℕ) (table marks : List ℕ) where
   listed : (K : List Edge) (c : ℕ) → Shape n K → NamesFeasible n (lengthOf n table) (openIn n marks) K c (feasiblePairs n (lengthOf n table) (openIn n marks) K c)
   listed K c shape =
       record {
-        rising = rising-pairs (feasiblePairs n (lengthOf n table) (openIn n marks) K c) (feasiblePairs-rising n (lengthOf n table) (openIn n marks) K c);
+        rising = feasiblePairs-rising n (lengthOf n table) (openIn n marks) K c;
         exactly = λ x y.
-            let r = feasiblePairs-iff (lengthOf n table) (length-symmetric n table) n (openIn n marks) K c x y
-            (λ xc yc e. shape-exact n K c x y shape (record { x-y = λ q. omega (arith, e .up); x-c = xc; y-c = yc })) in (
-              (λ m. r .0 (among-member (feasiblePairs n (lengthOf n table) (openIn n marks) K c) x y m)),
-              λ f. member-among (feasiblePairs n (lengthOf n table) (openIn n marks) K c) x y (r .1 f),
-            );
+            feasiblePairs-iff (lengthOf n table) (length-symmetric n table) n (openIn n marks) K c x y
+            (λ xc yc e. shape-exact n K c x y shape (record { x-y = λ q. omega (arith, e .up); x-c = xc; y-c = yc }));
       }
 
   -- closed by the tests and complete by the rules are the same of every tree, under a K that has the shape
@@ -60,7 +57,7 @@ module _ (n : ℕ) (table marks : List ℕ) where
         AllClosed (rulesOf n table marks) K c cs → AllComplete n (lengthOf n table) (openIn n marks) K c cs
     all-complete none K c shape each h = tt
     all-complete (pair x y t rest) K c shape each h =
-        (closed-complete t (withPair K c x y) (grown K c x y shape (each x y (inl refl))) (h .0), all-complete rest K c shape (λ u v m. each u v (inr m)) (h .1))
+        (closed-complete t (withPair K c x y) (grown K c x y shape (each x y (List·Memᴰ·head refl))) (h .0), all-complete rest K c shape (λ u v m. each u v (List·Memᴰ·tail m)) (h .1))
 
   mutual
     unfolding Closed Complete AllClosed AllComplete names
@@ -78,7 +75,7 @@ module _ (n : ℕ) (table marks : List ℕ) where
         AllComplete n (lengthOf n table) (openIn n marks) K c cs → AllClosed (rulesOf n table marks) K c cs
     all-closed none K c shape each h = tt
     all-closed (pair x y t rest) K c shape each h =
-        (complete-closed t (withPair K c x y) (grown K c x y shape (each x y (inl refl))) (h .0), all-closed rest K c shape (λ u v m. each u v (inr m)) (h .1))
+        (complete-closed t (withPair K c x y) (grown K c x y shape (each x y (List·Memᴰ·head refl))) (h .0), all-closed rest K c shape (λ u v m. each u v (List·Memᴰ·tail m)) (h .1))
 
   -- DEMAND 2: a line, entered as record i, is accepted exactly when it is a complete line: it names two different points, their edge is
   -- open, and a complete argument for it is laid out behind the record, at most six splits deep.

@@ -1,9 +1,9 @@
 -- A 3-optimal tour whose edges are open keeps them open, whatever sheets are marked: the tour meets what `argument` asks of a tour in
 -- question (`Guarded`), so no accepted line strikes one of its edges, and nothing else changes a mark. Assumes nothing.
 use Prim.Native.Nat.{ℕ, _≤_}
-use mathlib.Core.Path.{_≡_, refl, _∙_, ap, subst, subst₂}
+use mathlib.Core.Path.{_≡_, _∙_, ap, subst, subst₂}
 use mathlib.Core.Bool.{true}
-use mathlib.Core.Logic.{inl, ⊎-elim}
+use mathlib.Core.Logic.{⊎-elim}
 use mathlib.Core.List.{List, [], _∷_}
 use native.Mathlib.Omega.{arith}
 use lib.ListN.{length, length-set}
@@ -16,7 +16,7 @@ use Rattle.lengths.proofs.Tables.{length-symmetric}
 use Rattle.rules.specs.EdgeSet.{Has, closedEdges}
 use Rattle.rules.specs.Mark.{openIn}
 use Rattle.rules.specs.Pair.{withPair}
-use Rattle.rules.specs.Pairs.{feasiblePairs}
+use Rattle.rules.specs.Rising.{Among}
 use Rattle.rules.specs.Shape.{Shape}
 use Rattle.rules.proofs.Exact.{shape-exact}
 use Rattle.rules.proofs.PairTests.{feasiblePairs-iff}
@@ -25,11 +25,10 @@ use Rattle.tours.proofs.Edges.{inside-cons, has-sym}
 use Rattle.tours.proofs.Count.{tour-once}
 use Rattle.tours.proofs.Neighbours.{at-most-two, tour-no-loop, uses-point}
 use Rattle.tours.proofs.ShortCycle.{no-short-cycle}
-use Rattle.tours.proofs.Optimal.{Standing, optimal-feasible, optimal-not-closed}
-use Rattle.argument.specs.Pairs.{Among}
+use Rattle.tours.proofs.Optimal.{OwnPair, optimal-feasible, optimal-not-closed}
 use Rattle.argument.specs.Safety.{Upheld, Guarded}
 use Rattle.marking.specs.Rules.{rulesOf, strikeIn, markingOf}
-use Rattle.demands.proofs.Lawful.{lawful, member-among}
+use Rattle.demands.proofs.Lawful.{lawful}
 
 -- the tour uses every edge of K
 abbrev pub InTour : List ℕ → List Edge → Type 0
@@ -60,15 +59,14 @@ module _ {n : ℕ} (table : List ℕ) {t : List ℕ} (some : 4 ≤ n) (best : Th
 
   module _ (marks : List ℕ) (kept : Kept n t marks) where
     -- the tour's two neighbours of c are one of the feasible pairs
-    own : (K : List Edge) (c : ℕ) → InTour t K → Standing n (lengthOf n table) (openIn n marks) K t c
+    own : (K : List Edge) (c : ℕ) → InTour t K → OwnPair n (lengthOf n table) (openIn n marks) K t c
         → (x : ℕ) × (y : ℕ) × Among (rulesOf n table marks .pairs K c) x y × InTour t (withPair K c x y)
     unfolding withPair
     own K c uses S = (
       S .x,
       S .y,
-      member-among (feasiblePairs n (lengthOf n table) (openIn n marks) K c) (S .x) (S .y)
-          (feasiblePairs-iff (lengthOf n table) symmetric n (openIn n marks) K c (S .x) (S .y)
-          (λ xc yc e. shape-exact n K c (S .x) (S .y) (shaped K uses) (record { x-y = λ q. omega (arith, e .up); x-c = xc; y-c = yc })) .1 (S .feasible)),
+      feasiblePairs-iff (lengthOf n table) symmetric n (openIn n marks) K c (S .x) (S .y)
+          (λ xc yc e. shape-exact n K c (S .x) (S .y) (shaped K uses) (record { x-y = λ q. omega (arith, e .up); x-c = xc; y-c = yc })) .1 (S .feasible),
       inside-cons (edge c (S .y) ∷ K) (closedEdges t) c (S .x) (S .uses-x) (inside-cons K (closedEdges t) c (S .y) (S .uses-y) uses),
     )
 
@@ -101,6 +99,5 @@ module _ {n : ℕ} (table : List ℕ) {t : List ℕ} (some : 4 ≤ n) (best : Th
       record {
         lawful = λ m k. lawful n table m;
         upheld = upheld;
-        shown = λ m a b k uses. k .all-open a b (uses a b (inl (inl (refl, refl))));
         spares = λ m a b k pa pb ne o unused. spared m k a b (record { first = pa; second = pb; apart = ne }) unused;
       }

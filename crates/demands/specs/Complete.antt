@@ -10,9 +10,9 @@ use Rattle.lengths.specs.Table.{lengthOf}
 use Rattle.rules.specs.Closing.{Closes}
 use Rattle.rules.specs.Mark.{openIn}
 use Rattle.rules.specs.Pair.{withPair, FeasiblePair}
+use Rattle.rules.specs.Rising.{Among, Rising}
 use Rattle.argument.specs.Argument.{Cases, none, pair, Closing, split, crossing, names, depth}
 use Rattle.argument.specs.Layout.{Laid}
-use Rattle.argument.specs.Pairs.{Among, Rising}
 use Rattle.argument.specs.Record.{line, recordAt}
 
 -- "A chain of cases names exactly the standing pairs, in rising order"

@@ -1,16 +1,28 @@
 // The two functions for C, on the square: little-endian bytes in, one 64-bit number out.
-use crate::tally::Tally;
-use crate::tally::figure;
-use crate::tally::marks;
-use crate::tally::same_marks;
-use crate::tally::some_marks;
-use crate::tally::subject;
-use crate::tally::text;
+use answers::tally::Tally;
+use answers::tally::figure;
+use answers::tally::hold;
+use answers::tally::some_marks;
+use answers::tally::subject;
+use answers::tally::text;
 use marking::c_api::revosti_check_tour;
 use marking::c_api::revosti_mark_sheet;
 
 // `1 1 3 0 0 2 0 0` in bytes, which strikes 1-3, and a byte more.
 const GOOD: [u8; 17] = [1, 0, 1, 0, 3, 0, 0, 0, 0, 0, 2, 0, 0, 0, 0, 0, 0];
+
+// The square's table in bytes, the first length with the lowest and highest byte given, and a byte more.
+fn lengths_of(low: u8, high: u8) -> [u8; 25] {
+    let mut lengths = [0u8; 25];
+    lengths[0] = low;
+    lengths[3] = high;
+    lengths[4] = 14;
+    lengths[8] = 10;
+    lengths[12] = 10;
+    lengths[16] = 14;
+    lengths[20] = 10;
+    lengths
+}
 
 // Writes what is lent.
 fn lent_text(operation: &[u8], n: u32, table: usize, low: u8, high: u8, bytes: usize, mark_1: u8) {
@@ -21,22 +33,6 @@ fn lent_text(operation: &[u8], n: u32, table: usize, low: u8, high: u8, bytes: u
     figure(b" 0 0 ", high as u64);
     figure(b", marks ", bytes as u64);
     figure(b" from ", mark_1 as u64);
-}
-
-// Writes an answer with the marks that are left.
-fn answer(number: u64, left: &[u8]) {
-    figure(b" ", number);
-    text(b" marks ");
-    marks(left);
-}
-
-// Holds an answer and what is left to what they should be.
-fn hold(t: Tally, got: u64, found: &[u8; 7], number: u64, left: &[u8; 7]) -> Tally {
-    answer(got, found);
-    text(b", should be");
-    answer(number, left);
-    let same = same_marks(found, left);
-    t.judged(got == number && same)
 }
 
 // Marks a sheet of bytes. The first length has the lowest and highest byte given; of the table and the marks so many bytes are lent.
@@ -50,34 +46,27 @@ fn mark(
     mark_1: u8,
     sheet: &[u8],
     number: u64,
-    left: &[u8; 7],
+    left: [u8; 7],
 ) -> Tally {
     lent_text(b"C mark,", n, table, low, high, bytes, mark_1);
     figure(b", sheet of bytes ", sheet.len() as u64);
     text(b":");
-    let mut lengths = [0u8; 25];
-    lengths[0] = low;
-    lengths[3] = high;
-    lengths[4] = 14;
-    lengths[8] = 10;
-    lengths[12] = 10;
-    lengths[16] = 14;
-    lengths[20] = 10;
+    let lengths = lengths_of(low, high);
     let mut fresh = [mark_1, 1, 1, 1, 1, 1, 1];
     let k = some_marks(table, &lengths);
     let m = some_marks(bytes, &fresh);
     let got = revosti_mark_sheet(n, &lengths[..k], &mut fresh[..m], sheet);
-    hold(t, got, &fresh, number, left)
+    hold(t, got, fresh, number, left)
 }
 
 // The same on the square with fresh marks.
-fn square(t: Tally, sheet: &[u8], number: u64, left: &[u8; 7]) -> Tally {
+fn square(t: Tally, sheet: &[u8], number: u64, left: [u8; 7]) -> Tally {
     mark(t, 4, 24, 10, 0, 6, 1, sheet, number, left)
 }
 
 // The same, where the sheet is refused at its first line: the marks stay.
 fn refused(t: Tally, sheet: &[u8], number: u64) -> Tally {
-    square(t, sheet, number, &[1, 1, 1, 1, 1, 1, 1])
+    square(t, sheet, number, [1, 1, 1, 1, 1, 1, 1])
 }
 
 // The same, with so many bytes of a good sheet, where what is lent is refused: the marks stay.
@@ -104,7 +93,7 @@ fn lent(
         mark_1,
         &good[..k],
         number,
-        &[mark_1, 1, 1, 1, 1, 1, 1],
+        [mark_1, 1, 1, 1, 1, 1, 1],
     )
 }
 
@@ -124,14 +113,7 @@ fn tour(
     figure(b", tour of bytes ", size as u64);
     figure(b", byte 8 is ", last as u64);
     text(b":");
-    let mut lengths = [0u8; 25];
-    lengths[0] = 10;
-    lengths[3] = high;
-    lengths[4] = 14;
-    lengths[8] = 10;
-    lengths[12] = 10;
-    lengths[16] = 14;
-    lengths[20] = 10;
+    let lengths = lengths_of(10, high);
     let fresh = [mark_1, 1, 1, 1, 1, 1, 1];
     let points = [1, 0, 2, 0, 3, 0, 4, last, 0];
     let k = some_marks(table, &lengths);
@@ -155,7 +137,7 @@ fn two_lines(t: Tally) -> Tally {
     sheet[18] = 2;
     sheet[20] = 4;
     sheet[26] = 1;
-    square(t, &sheet, 33_554_432, &[1, 0, 1, 1, 0, 1, 1])
+    square(t, &sheet, 33_554_432, [1, 0, 1, 1, 0, 1, 1])
 }
 
 // The layout: the refusal number, 256 times the record, 16,777,216 times the lines.
@@ -167,7 +149,7 @@ fn layout(t: Tally) -> Tally {
         t,
         &[1, 0, 1, 0, 3, 0, 0, 0, 0, 0, 2, 0, 0, 0, 1, 0],
         16_777_481,
-        &[1, 0, 1, 1, 1, 1, 1],
+        [1, 0, 1, 1, 1, 1, 1],
     );
     // 14, record 1.
     let t = refused(t, &[1, 0, 1, 0, 2, 0, 0, 0, 0, 0, 3, 0, 0, 0, 0, 0], 270);
@@ -185,7 +167,7 @@ fn long_sheets(t: Tally) -> Tally {
     sheet[14] = 160;
     sheet[15] = 15;
     let k = some_marks(64000, &sheet);
-    let t = square(t, &sheet[..k], 17_801_226, &[1, 0, 1, 1, 1, 1, 1]);
+    let t = square(t, &sheet[..k], 17_801_226, [1, 0, 1, 1, 1, 1, 1]);
     let m = some_marks(64001, &sheet);
     let t = refused(t, &sheet[..m], 7);
     refused(t, &sheet, 7)

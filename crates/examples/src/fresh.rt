@@ -1,11 +1,11 @@
 // "Fresh marks": each refusal and their order. A refused call leaves the marks as they were, 0202020.
-use crate::tally::Tally;
-use crate::tally::figure;
-use crate::tally::marks;
-use crate::tally::same_marks;
-use crate::tally::some_marks;
-use crate::tally::subject;
-use crate::tally::text;
+use answers::tally::Tally;
+use answers::tally::figure;
+use answers::tally::hold;
+use answers::tally::some_marks;
+use answers::tally::subject;
+use answers::tally::text;
+use check::same;
 use marking::fresh::Fresh;
 use marking::fresh::fresh_marks;
 
@@ -20,31 +20,15 @@ fn number_of(fresh: Fresh) -> u64 {
     }
 }
 
-// Writes an answer with the marks that are left.
-fn answer(number: u64, left: &[u8]) {
-    figure(b" ", number);
-    text(b" marks ");
-    marks(left);
-}
-
-// Holds an answer and what is left to what they should be.
-fn hold(t: Tally, got: u64, found: &[u8; 7], number: u64, left: &[u8; 7]) -> Tally {
-    answer(got, found);
-    text(b", should be");
-    answer(number, left);
-    let same = same_marks(found, left);
-    t.judged(got == number && same)
-}
-
 // Makes so many marks of n points fresh.
-fn fresh(t: Tally, n: u32, size: usize, number: u64, left: &[u8; 7]) -> Tally {
+fn fresh(t: Tally, n: u32, size: usize, number: u64, left: [u8; 7]) -> Tally {
     figure(b"fresh, points ", n as u64);
     figure(b", marks ", size as u64);
     let mut bytes = UNTOUCHED;
     let k = some_marks(size, &bytes);
     let got = number_of(fresh_marks(n, &mut bytes[..k]));
     text(b":");
-    hold(t, got, &bytes, number, left)
+    hold(t, got, bytes, number, left)
 }
 
 // The most points: all of the 16,110 marks are 1.
@@ -54,17 +38,17 @@ fn largest(t: Tally) -> Tally {
     let got = number_of(fresh_marks(180, &mut bytes));
     figure(b"fresh, points 180, marks 16110: ", got);
     text(b", should be 0 and all 1");
-    let same = same_marks(&bytes, &ones);
-    t.judged(got == 0 && same)
+    let all_one = same(&bytes, &ones);
+    t.judged(got == 0 && all_one)
 }
 
 pub fn run(t: Tally) -> Tally {
     subject(b"fresh marks: 1, 6, and 1 before 6");
-    let t = fresh(t, 4, 6, 0, &[1, 1, 1, 1, 1, 1, 0]);
+    let t = fresh(t, 4, 6, 0, [1, 1, 1, 1, 1, 1, 0]);
     let t = largest(t);
-    let t = fresh(t, 3, 3, 1, &UNTOUCHED);
-    let t = fresh(t, 181, 6, 1, &UNTOUCHED);
-    let t = fresh(t, 4, 5, 6, &UNTOUCHED);
-    let t = fresh(t, 4, 7, 6, &UNTOUCHED);
-    fresh(t, 3, 6, 1, &UNTOUCHED)
+    let t = fresh(t, 3, 3, 1, UNTOUCHED);
+    let t = fresh(t, 181, 6, 1, UNTOUCHED);
+    let t = fresh(t, 4, 5, 6, UNTOUCHED);
+    let t = fresh(t, 4, 7, 6, UNTOUCHED);
+    fresh(t, 3, 6, 1, UNTOUCHED)
 }

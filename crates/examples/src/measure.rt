@@ -1,11 +1,9 @@
 // "Measure": both rules, each refusal, and their order. A refused call leaves the table as it was, all 7.
-use crate::tally::Tally;
-use crate::tally::figure;
-use crate::tally::lengths;
-use crate::tally::same_lengths;
-use crate::tally::some_lengths;
-use crate::tally::subject;
-use crate::tally::text;
+use answers::tally::Tally;
+use answers::tally::figure;
+use answers::tally::some_lengths;
+use answers::tally::subject;
+use answers::tally::text;
 use lengths::measure::Measured;
 use lengths::measure::measure;
 
@@ -20,20 +18,37 @@ fn number_of(measured: Measured) -> u64 {
     }
 }
 
+// Writes a length after a space.
+fn length(x: u32) {
+    figure(b" ", x as u64);
+}
+
 // Writes an answer with what is left in the table.
-fn answer(number: u64, left: &[u32]) {
+fn answer(number: u64, left: [u32; 7]) {
     figure(b" ", number);
     text(b" table");
-    lengths(left);
+    length(left[0]);
+    length(left[1]);
+    length(left[2]);
+    length(left[3]);
+    length(left[4]);
+    length(left[5]);
+    length(left[6]);
+}
+
+// Are the tables the same?
+fn same(a: [u32; 7], b: [u32; 7]) -> bool {
+    let front = a[0] == b[0] && a[1] == b[1] && a[2] == b[2] && a[3] == b[3];
+    front && a[4] == b[4] && a[5] == b[5] && a[6] == b[6]
 }
 
 // Holds an answer and what is left to what they should be.
-fn hold(t: Tally, got: u64, found: &[u32; 7], number: u64, left: &[u32; 7]) -> Tally {
+fn hold(t: Tally, got: u64, found: [u32; 7], number: u64, left: [u32; 7]) -> Tally {
     answer(got, found);
     text(b", should be");
     answer(number, left);
-    let same = same_lengths(found, left);
-    t.judged(got == number && same)
+    let same_table = same(found, left);
+    t.judged(got == number && same_table)
 }
 
 // Measures n points: the first so many of the square's coordinates, x the first of them, into so many places of a table.
@@ -45,7 +60,7 @@ fn measured(
     x: u32,
     places: usize,
     number: u64,
-    left: &[u32; 7],
+    left: [u32; 7],
 ) -> Tally {
     figure(b"measure, points ", n as u64);
     figure(b", rule ", rule as u64);
@@ -58,19 +73,19 @@ fn measured(
     let m = some_lengths(places, &table);
     let got = number_of(measure(n, rule, &coordinates[..k], &mut table[..m]));
     text(b":");
-    hold(t, got, &table, number, left)
+    hold(t, got, table, number, left)
 }
 
 // The same, where it is refused.
 fn refused(t: Tally, n: u32, rule: u32, size: usize, x: u32, places: usize, number: u64) -> Tally {
-    measured(t, n, rule, size, x, places, number, &UNTOUCHED)
+    measured(t, n, rule, size, x, places, number, UNTOUCHED)
 }
 
 // The square by both rules, and the largest coordinate.
 fn accepted(t: Tally) -> Tally {
     subject(b"measure");
-    let t = measured(t, 4, 1, 8, 0, 6, 0, &[10, 14, 10, 10, 14, 10, 7]);
-    let t = measured(t, 4, 2, 8, 0, 6, 0, &[10, 15, 10, 10, 15, 10, 7]);
+    let t = measured(t, 4, 1, 8, 0, 6, 0, [10, 14, 10, 10, 14, 10, 7]);
+    let t = measured(t, 4, 2, 8, 0, 6, 0, [10, 15, 10, 10, 15, 10, 7]);
     let t = measured(
         t,
         4,
@@ -79,7 +94,7 @@ fn accepted(t: Tally) -> Tally {
         1_000_000,
         6,
         0,
-        &[999_990, 999_990, 1_000_000, 10, 14, 10, 7],
+        [999_990, 999_990, 1_000_000, 10, 14, 10, 7],
     );
     measured(
         t,
@@ -89,7 +104,7 @@ fn accepted(t: Tally) -> Tally {
         1_000_000,
         6,
         0,
-        &[999_990, 999_991, 1_000_001, 10, 15, 10, 7],
+        [999_990, 999_991, 1_000_001, 10, 15, 10, 7],
     )
 }
 

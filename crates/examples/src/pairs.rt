@@ -1,14 +1,13 @@
 // "List pairs" on the square: each refusal and their order. A refused call leaves the list as it was, all 9.
-use crate::sheets::given_text;
-use crate::tally::Tally;
-use crate::tally::figure;
-use crate::tally::numbers;
-use crate::tally::same_numbers;
-use crate::tally::some_lengths;
-use crate::tally::some_marks;
-use crate::tally::some_numbers;
-use crate::tally::subject;
-use crate::tally::text;
+use answers::tally::Tally;
+use answers::tally::figure;
+use answers::tally::given_text;
+use answers::tally::numbers;
+use answers::tally::some_lengths;
+use answers::tally::some_marks;
+use answers::tally::some_numbers;
+use answers::tally::subject;
+use answers::tally::text;
 use marking::listing::Listed;
 use marking::listing::list_pairs;
 
@@ -39,21 +38,27 @@ fn answer(number: u64, count: u64, left: &[u16]) {
     numbers(left);
 }
 
+// Are the lists the same?
+fn same(a: [u16; 8], b: [u16; 8]) -> bool {
+    let front = a[0] == b[0] && a[1] == b[1] && a[2] == b[2] && a[3] == b[3];
+    front && a[4] == b[4] && a[5] == b[5] && a[6] == b[6] && a[7] == b[7]
+}
+
 // Holds an answer and what is left in the list to what they should be.
 fn hold(
     t: Tally,
     got: u64,
     found: u64,
-    list: &[u16; 8],
+    list: [u16; 8],
     number: u64,
     count: u64,
-    left: &[u16; 8],
+    left: [u16; 8],
 ) -> Tally {
-    answer(got, found, list);
+    answer(got, found, &list);
     text(b", should be");
-    answer(number, count, left);
-    let same = same_numbers(list, left);
-    t.judged(got == number && found == count && same)
+    answer(number, count, &left);
+    let same_list = same(list, left);
+    t.judged(got == number && found == count && same_list)
 }
 
 // Writes the question: K = {ab}, the split point c, and how many places the list has.
@@ -65,7 +70,7 @@ fn question(a: u16, b: u16, c: u16, places: usize) {
     text(b":");
 }
 
-// Lists the pairs of ab at c, of the square as `sheets::given` lends it, into so many places.
+// Lists the pairs of ab at c, of the square with the first so many of its lengths and marks, the first of each changed, into so many places.
 fn pairs(
     t: Tally,
     n: u32,
@@ -79,7 +84,7 @@ fn pairs(
     places: usize,
     number: u64,
     count: u64,
-    left: &[u16; 8],
+    left: [u16; 8],
 ) -> Tally {
     given_text(b"pairs,", n, entries, first, bytes, mark_1);
     question(a, b, c, places);
@@ -94,7 +99,7 @@ fn pairs(
         t,
         number_of(listed),
         count_of(listed),
-        &list,
+        list,
         number,
         count,
         left,
@@ -110,7 +115,7 @@ fn listed(
     c: u16,
     places: usize,
     count: u64,
-    left: &[u16; 8],
+    left: [u16; 8],
 ) -> Tally {
     pairs(t, 4, 6, 10, 6, mark_1, a, b, c, places, 0, count, left)
 }
@@ -130,7 +135,7 @@ fn asked(t: Tally, mark_1: u8, a: u16, b: u16, c: u16, places: usize, number: u6
         places,
         number,
         0,
-        &UNTOUCHED,
+        UNTOUCHED,
     )
 }
 
@@ -157,7 +162,7 @@ fn lent(
         8,
         number,
         0,
-        &UNTOUCHED,
+        UNTOUCHED,
     )
 }
 
@@ -176,7 +181,7 @@ fn lent_point(t: Tally, n: u32, entries: usize, first: u32, bytes: usize, number
         8,
         number,
         0,
-        &UNTOUCHED,
+        UNTOUCHED,
     )
 }
 
@@ -195,18 +200,18 @@ fn lent_no_list(t: Tally, n: u32, entries: usize, first: u32, bytes: usize, numb
         0,
         number,
         0,
-        &UNTOUCHED,
+        UNTOUCHED,
     )
 }
 
 // What is listed: places past the list keep their nines, and a struck edge has no pair.
 fn accepted(t: Tally) -> Tally {
     subject(b"list pairs: places past the list keep their old numbers");
-    let t = listed(t, 1, 1, 2, 3, 4, 2, &[1, 4, 2, 4, 9, 9, 9, 9]);
-    let t = listed(t, 1, 2, 1, 3, 8, 2, &[1, 4, 2, 4, 9, 9, 9, 9]);
-    let t = listed(t, 1, 1, 3, 2, 0, 0, &UNTOUCHED);
-    let t = listed(t, 1, 3, 4, 1, 8, 2, &[2, 3, 2, 4, 9, 9, 9, 9]);
-    listed(t, 0, 3, 4, 1, 8, 0, &UNTOUCHED)
+    let t = listed(t, 1, 1, 2, 3, 4, 2, [1, 4, 2, 4, 9, 9, 9, 9]);
+    let t = listed(t, 1, 2, 1, 3, 8, 2, [1, 4, 2, 4, 9, 9, 9, 9]);
+    let t = listed(t, 1, 1, 3, 2, 0, 0, UNTOUCHED);
+    let t = listed(t, 1, 3, 4, 1, 8, 2, [2, 3, 2, 4, 9, 9, 9, 9]);
+    listed(t, 0, 3, 4, 1, 8, 0, UNTOUCHED)
 }
 
 fn lendings(t: Tally) -> Tally {

@@ -1,15 +1,17 @@
 // "Check a tour" on the square: each refusal and their order.
-use crate::fixtures;
-use crate::sheets::given_text;
-use crate::tally::Tally;
-use crate::tally::figure;
-use crate::tally::numbers;
-use crate::tally::some_lengths;
-use crate::tally::some_marks;
-use crate::tally::subject;
-use crate::tally::text;
+use answers::tally::Tally;
+use answers::tally::figure;
+use answers::tally::given_text;
+use answers::tally::numbers;
+use answers::tally::some_lengths;
+use answers::tally::some_marks;
+use answers::tally::subject;
+use answers::tally::text;
 use marking::tour::Checked;
 use marking::tour::check_tour;
+
+// A tour of the square, of length 40.
+const ROUND: [u16; 4] = [1, 2, 3, 4];
 
 // The refusal number, or 0.
 fn number_of(checked: Checked) -> u64 {
@@ -42,7 +44,7 @@ fn answer(number: u64, length: u64, open: u64) {
     figure(b" open ", open);
 }
 
-// Checks a tour of the square as `sheets::given` lends it.
+// Checks a tour of the square with the first so many of its lengths and marks, the first of each changed.
 fn tour(
     t: Tally,
     n: u32,
@@ -92,18 +94,7 @@ fn lent(
     mark_1: u8,
     number: u64,
 ) -> Tally {
-    tour(
-        t,
-        n,
-        entries,
-        first,
-        bytes,
-        mark_1,
-        &fixtures::ROUND,
-        number,
-        0,
-        0,
-    )
+    tour(t, n, entries, first, bytes, mark_1, &ROUND, number, 0, 0)
 }
 
 // The same with a point twice.

@@ -18,9 +18,8 @@ use Rattle.rules.specs.Mark.{openIn}
 use Rattle.rules.specs.PairTest.{every}
 use Rattle.rules.proofs.PairTests.{every-has, has-every}
 use Rattle.tours.specs.Tour.{Tour, Uses}
-use Rattle.tours.proofs.Count.{tour-length}
+use Rattle.tours.proofs.Count.{tour-length, points-only}
 use Rattle.marking.specs.TourCheck.{onceEach, isTour}
-use Rattle.marking.proofs.TourCounts.{points-only}
 
 once-each : (k : ℕ) (t : List ℕ) → onceEach k t ≡ true → (v : ℕ) → Point k v → count v t ≡ 1
 unfolding onceEach

@@ -17,9 +17,9 @@ use Rattle.argument.specs.Record.{isPoint}
 use Rattle.argument.proofs.Tests.{is-point, point-is}
 use Rattle.tours.specs.Tour.{Tour}
 use Rattle.tours.proofs.Bit.{same, same-true, same-false, same-self}
-use Rattle.tours.proofs.Count.{tour-once, tour-length}
+use Rattle.tours.proofs.Count.{tour-once, tour-length, points-all}
 use Rattle.marking.specs.TourCheck.{isTour}
-use Rattle.marking.proofs.TourCounts.{count-take, count-front, count-at, points-all}
+use Rattle.marking.proofs.TourCounts.{count-take, count-front, count-at}
 use Rattle.marking.proofs.TourExact.{is-tour, tour-is}
 
 -- what is no tour is answered by false

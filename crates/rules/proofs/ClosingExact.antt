@@ -16,7 +16,8 @@ use Rattle.rules.specs.ClosingTest.{saves?, labelling?, apart?, placed?,
 use Rattle.rules.specs.declared.near.Ends as near
 use Rattle.rules.specs.declared.near.Ends.the-variants.{Two, Other}
 use Rattle.rules.specs.declared.closing.Crossed.the-variants.{Settled, NoCrossing, NoSaving}
-use Rattle.rules.proofs.Laws.Joined.{has-exact, and-true, or-true, true-or}
+use Rattle.rules.proofs.Laws.Bools.{and-true, or-true, true-or}
+use Rattle.rules.proofs.Laws.Joined.{has-exact}
 use Rattle.rules.proofs.Laws.Near.{ends-sound, ends-complete}
 use Rattle.rules.proofs.Crossings.{unplaced, no-ends-r, no-ends-s, both-ends, answer}
 

@@ -17,7 +17,7 @@ use Rattle.rules.specs.Stored.{edgeList}
 use Rattle.rules.specs.declared.edge_set.EdgeSet.{EdgeSet}
 use Rattle.rules.specs.declared.near.Ends.the-variants.{Two, Other}
 use Rattle.rules.specs.declared.closing.Crossed.the-variants.{Settled, NoCrossing, NoSaving}
-use Rattle.rules.proofs.Laws.Joined.{true-or}
+use Rattle.rules.proofs.Laws.Bools.{true-or}
 use Rattle.rules.proofs.Laws.Near.{ends-sound}
 use Rattle.rules.proofs.Laws.Stored.{held-points}
 

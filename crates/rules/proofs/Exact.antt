@@ -13,16 +13,18 @@ use mathlib.Core.Logic.{inl, inr, ⊎-elim, by-cases, _↔_}
 use lib.ListN.{length}
 use borrow.Author.Tests.{not-true}
 use Rattle.lengths.specs.Edge.{Edge, edge}
+use Rattle.lengths.proofs.Bools.{and-both}
 use Rattle.rules.specs.EdgeSet.{Has, AtMostTwo, Cycle, NoShortCycle, closedEdges}
 use Rattle.rules.specs.Near.{neighbours, beyond, within?}
 use Rattle.rules.specs.Pair.{withPair}
 use Rattle.rules.specs.Shape.{Shape, Apart, reaches?, shuts?, shape?}
 use Rattle.rules.specs.declared.near.Next.{Next}
 use Rattle.rules.specs.declared.near.Next.the-variants.{Stop, On, Fork}
+use Rattle.rules.proofs.Laws.Bools.{and-true}
 use Rattle.rules.proofs.Laws.Cycle.{cycle-sides, closed-in}
 use Rattle.rules.proofs.Laws.Degree.{pair-has, pair-keeps, pair-x, pair-y, x-pair, old-edge, two-of-room, room-of-two}
 use Rattle.rules.proofs.Laws.Follow.{found, met}
-use Rattle.rules.proofs.Laws.Joined.{has-sym, and-true, true-and}
+use Rattle.rules.proofs.Laws.Joined.{has-sym}
 use Rattle.rules.proofs.Laws.Near.{Leads, Onward, Forks}
 use Rattle.rules.proofs.Laws.Points.{In, in-dec}
 use Rattle.rules.proofs.Laws.Trail.{Trail}
@@ -176,7 +178,7 @@ module _ (n : ℕ) (K : List Edge) (c x y : ℕ) (shape : Shape n K) (apart : Ap
       let my : Next = beyond (neighbours K y) c in
       let mx : Next = beyond (neighbours K x) c in
       let e : shuts? n K x y mx my ≡ false = unseen (h .0) (h .1) mx my (onward-exact K x c) (onward-exact K y c) in
-      true-and (within? (neighbours K c) x y) (not (shuts? n K x y mx my)) (within-exact K c x y .1 (room-of-two K c x y apart (h .0) .at-c))
+      and-both (within? (neighbours K c) x y) (not (shuts? n K x y mx my)) (within-exact K c x y .1 (room-of-two K c x y apart (h .0) .at-c))
       (ap not e)
 
   -- THEOREM: the test is passed exactly when K with the pair has conditions 2 and 3.

@@ -9,6 +9,7 @@ pub mod PairSearch
 pub mod PairTests
 pub mod Preparing
 pub mod Ranks
+pub mod Rising
 pub mod RowSearch
 pub mod SingleEdge
 pub mod Splits

@@ -11,7 +11,8 @@ use Rattle.lengths.specs.Edge.{Edge, edge, IsEdgeUp, Before, row, rows, edges, 
 use Rattle.lengths.proofs.Edges.{edges-at, placeUp-below, length-edges, edgeCount-tri}
 use Rattle.rules.specs.PairTest.{feasible?}
 use Rattle.rules.specs.Pairs.{keep, feasiblePairs, pairsAfter, feasibleAfter}
-use Rattle.rules.specs.Rising.{Rising}
+use Rattle.rules.specs.Rising.{Among, Rising}
+use Rattle.rules.proofs.Rising.{edge-first, edge-second}
 
 -- the pairs after a pair
 
@@ -96,12 +97,6 @@ pub record Head (n : ℕ) (t : ℕ → ℕ → Bool) (a b : ℕ) (rest : List Ed
   pub passed : t a b ≡ true
   pub left : rest ≡ keep t (pairsAfter n a b)
 
-edge-first : {a b c d : ℕ} → edge a b ≡ edge c d → a ≡ c
-edge-first e = cc
-
-edge-second : {a b c d : ℕ} → edge a b ≡ edge c d → b ≡ d
-edge-second e = cc
-
 cons-absurd : {e : Edge} {es : List Edge} → [] ≡ e ∷ es → ⊥
 cons-absurd h = let z : _≡_ {A = ℕ} 0 1 = cc in omega arith
 
@@ -124,22 +119,22 @@ keep-head n t (edge p q ∷ es) a b rest ch h = go (t p q) refl (keep-head n t e
     go false e ih = ih (sym (keep-no t p q es e) ∙ h)
 
 -- a pair is kept exactly when it stands in the list and passes
-pub kept-in : (t : ℕ → ℕ → Bool) (es : List Edge) (a b : ℕ) → List·Memᴰ (edge a b) (keep t es) → List·Memᴰ (edge a b) es × (t a b ≡ true)
+pub kept-in : (t : ℕ → ℕ → Bool) (es : List Edge) (a b : ℕ) → Among (keep t es) a b → Among es a b × (t a b ≡ true)
 unfolding keep
 kept-in t [] a b m = absurd (List·Memᴰ·not-nil m)
 kept-in t (edge p q ∷ es) a b m = go (t p q) refl (kept-in t es a b)
   where
-    later : (List·Memᴰ (edge a b) (keep t es) → List·Memᴰ (edge a b) es × (t a b ≡ true)) → List·Memᴰ (edge a b) (keep t es) → List·Memᴰ (edge a b) (edge p q ∷ es) × (t a b ≡ true)
+    later : (Among (keep t es) a b → Among es a b × (t a b ≡ true)) → Among (keep t es) a b → Among (edge p q ∷ es) a b × (t a b ≡ true)
     later ih k = let r = ih k in (List·Memᴰ·tail (r .0), r .1)
 
-    go : (s : Bool) → t p q ≡ s → (List·Memᴰ (edge a b) (keep t es) → List·Memᴰ (edge a b) es × (t a b ≡ true)) → List·Memᴰ (edge a b) (edge p q ∷ es) × (t a b ≡ true)
+    go : (s : Bool) → t p q ≡ s → (Among (keep t es) a b → Among es a b × (t a b ≡ true)) → Among (edge p q ∷ es) a b × (t a b ≡ true)
     go true e ih = ⊎-elim
         (λ h. (List·Memᴰ·head h, ap₂ t (edge-first h) (edge-second h) ∙ e))
         (later ih)
         (List·Memᴰ·cases-cons (subst (List·Memᴰ (edge a b)) (keep-yes t p q es e) m))
     go false e ih = later ih (subst (List·Memᴰ (edge a b)) (keep-no t p q es e) m)
 
-pub in-kept : (t : ℕ → ℕ → Bool) (es : List Edge) (a b : ℕ) → List·Memᴰ (edge a b) es → t a b ≡ true → List·Memᴰ (edge a b) (keep t es)
+pub in-kept : (t : ℕ → ℕ → Bool) (es : List Edge) (a b : ℕ) → Among es a b → t a b ≡ true → Among (keep t es) a b
 unfolding keep
 in-kept t [] a b m h = absurd (List·Memᴰ·not-nil m)
 in-kept t (edge p q ∷ es) a b m h = go (t p q) refl (λ k. in-kept t es a b k h) (List·Memᴰ·cases-cons m)
@@ -147,7 +142,7 @@ in-kept t (edge p q ∷ es) a b m h = go (t p q) refl (λ k. in-kept t es a b k 
     clash : edge a b ≡ edge p q → t p q ≡ false → ⊥
     clash g e = let z : true ≡ false = sym h ∙ ap₂ t (edge-first g) (edge-second g) ∙ e in mathlib.Core.Bool.true≢false z
 
-    go : (s : Bool) → t p q ≡ s → (List·Memᴰ (edge a b) es → List·Memᴰ (edge a b) (keep t es)) → (edge a b ≡ edge p q) ⊎ List·Memᴰ (edge a b) es → List·Memᴰ (edge a b) (keep t (edge p q ∷ es))
+    go : (s : Bool) → t p q ≡ s → (Among es a b → Among (keep t es) a b) → (edge a b ≡ edge p q) ⊎ Among es a b → Among (keep t (edge p q ∷ es)) a b
     go true e ih (inl g) = subst (List·Memᴰ (edge a b)) (sym (keep-yes t p q es e)) (List·Memᴰ·head g)
     go true e ih (inr k) = subst (List·Memᴰ (edge a b)) (sym (keep-yes t p q es e)) (List·Memᴰ·tail (ih k))
     go false e ih (inl g) = absurd (clash g e)
@@ -163,13 +158,9 @@ keep-rising t (edge p q ∷ es) r = go (t p q) refl (keep-rising t es (r .1))
     go true e ih = subst Rising (sym (keep-yes t p q es e)) ((λ c d m. r .0 c d (kept-in t es c d m .0)), ih)
     go false e ih = subst Rising (sym (keep-no t p q es e)) ih
 
--- what rises has each edge once
-pub rising-once : (a b : ℕ) (es : List Edge) → Rising (edge a b ∷ es) → List·Memᴰ (edge a b) es → ⊥
-rising-once a b es r m = ⊎-elim (λ h. omega arith) (λ h. omega (arith, h .1)) (r .0 a b m)
-
 -- the edges of 1 to n
 
-pub in-row : (a b k c d : ℕ) → List·Memᴰ (edge c d) (row a b k) → (c ≡ a) × (b ≤ d)
+pub in-row : (a b k c d : ℕ) → Among (row a b k) c d → (c ≡ a) × (b ≤ d)
 unfolding row
 in-row a b zero c d m = absurd (List·Memᴰ·not-nil m)
 in-row a b (suc k) c d m = ⊎-elim
@@ -177,7 +168,7 @@ in-row a b (suc k) c d m = ⊎-elim
     (λ h. let r = in-row a (suc b) k c d h in (r .0, omega (arith, r .1)))
     (List·Memᴰ·cases-cons m)
 
-pub in-rows : (a k c d : ℕ) → List·Memᴰ (edge c d) (rows a k) → a ≤ c
+pub in-rows : (a k c d : ℕ) → Among (rows a k) c d → a ≤ c
 unfolding rows
 in-rows a zero c d m = absurd (List·Memᴰ·not-nil m)
 in-rows a (suc k) c d m = ⊎-elim
@@ -185,12 +176,12 @@ in-rows a (suc k) c d m = ⊎-elim
     (λ h. omega (arith, in-rows (suc a) k c d h))
     (mathlib.Core.List.List·Memᴰ·append-cases (row a (suc a) (suc k)) m)
 
-row-rising : (a b k : ℕ) (es : List Edge) → Rising es → ((c d : ℕ) → List·Memᴰ (edge c d) es → a < c) → Rising (row a b k ++ es)
+row-rising : (a b k : ℕ) (es : List Edge) → Rising es → ((c d : ℕ) → Among es c d → a < c) → Rising (row a b k ++ es)
 unfolding row
 row-rising a b zero es r h = r
 row-rising a b (suc k) es r h = (first, row-rising a (suc b) k es r h)
   where
-    first : (c d : ℕ) → List·Memᴰ (edge c d) (row a (suc b) k ++ es) → Before a b c d
+    first : (c d : ℕ) → Among (row a (suc b) k ++ es) c d → Before a b c d
     first c d m = ⊎-elim
         (λ g. let i = in-row a (suc b) k c d g in inr (sym (i .0), i .1))
         (λ g. inl (h c d g))
@@ -205,7 +196,7 @@ pub edges-rising : (n : ℕ) → Rising (edges n)
 unfolding edges
 edges-rising n = rows-rising 1 (n - 1)
 
-chain-in : (n : ℕ) (es : List Edge) (a b : ℕ) → Chain n es → List·Memᴰ (edge a b) es → IsEdgeUp n a b
+chain-in : (n : ℕ) (es : List Edge) (a b : ℕ) → Chain n es → Among es a b → IsEdgeUp n a b
 chain-in n [] a b ch m = absurd (List·Memᴰ·not-nil m)
 chain-in n (edge p q ∷ es) a b ch m = ⊎-elim
     (λ h.
@@ -221,7 +212,7 @@ at-in (e ∷ es) zero d h = List·Memᴰ·head refl
 at-in (e ∷ es) (suc i) d h = List·Memᴰ·tail (at-in es i d (omega arith))
 
 -- the edges are the pairs x < y of 1 to n
-pub in-edges : (n a b : ℕ) → List·Memᴰ (edge a b) (edges n) ↔ IsEdgeUp n a b
+pub in-edges : (n a b : ℕ) → Among (edges n) a b ↔ IsEdgeUp n a b
 in-edges n a b = (
   chain-in n (edges n) a b (chain-edges n),
   λ e.
@@ -246,7 +237,7 @@ module _ (n : ℕ) (l : ℕ → ℕ → ℕ) (open? : ℕ → ℕ → Bool) (K :
       (r .is-edge, r .passed, r .left)
 
   -- a pair is in the list exactly when it is a pair x < y of 1 to n and feasible
-  pub in-feasiblePairs : (x y : ℕ) → List·Memᴰ (edge x y) (feasiblePairs n l open? K c) ↔ (IsEdgeUp n x y × (feasible? n l open? K c x y ≡ true))
+  pub in-feasiblePairs : (x y : ℕ) → Among (feasiblePairs n l open? K c) x y ↔ (IsEdgeUp n x y × (feasible? n l open? K c x y ≡ true))
   unfolding feasiblePairs
   in-feasiblePairs x y = (
     λ m. let r = kept-in (feasible? n l open? K c) (edges n) x y m in (in-edges n x y .0 (r .0), r .1),

@@ -4,31 +4,27 @@ use Prim.Native.Nat.{ℕ, _+_, max}
 use mathlib.Core.Path.{_≡_, refl, sym, _∙_, ap, ap₂}
 use mathlib.Core.Bool.{Bool, true, false, not, _&&_, _||_, true≢false}
 use mathlib.Core.Logic.{inl, inr, ⊎-elim, _↔_}
-use mathlib.Core.List.{List, [], _∷_, List·Memᴰ}
+use mathlib.Core.List.{List, [], _∷_}
 use native.Mathlib.Omega.{arith}
 use lib.Dec.{eqb, ltb}
 use borrow.Author.Tests.{ne-eqb, eqb-true, eqb-false, le-leb, leb-true, ltb-true, ltb-false}
 use Rattle.lengths.specs.Edge.{Edge, edge, IsEdgeUp}
+use Rattle.lengths.proofs.Bools.{and-both}
 use Rattle.rules.specs.EdgeSet.{Has, AtMostTwo, NoShortCycle}
 use Rattle.rules.specs.Pair.{Compatible, withPair, MoveSaves, FeasiblePair}
 use Rattle.rules.specs.PairTest.{every, compatible?, leg?, stays?, unmoved?, feasible?}
 use Rattle.rules.specs.Pairs.{feasiblePairs}
+use Rattle.rules.specs.Rising.{Among}
 use Rattle.rules.specs.Shape.{shape?}
+use Rattle.rules.proofs.Laws.Bools.{and-true}
 use Rattle.rules.proofs.PairLists.{in-feasiblePairs}
-
-and-both : (a b : Bool) → a && b ≡ true → (a ≡ true) × (b ≡ true)
-and-both true b h = (refl, h)
-and-both false b h = absurd (true≢false (sym h))
-
-both-and : {a b : Bool} → a ≡ true → b ≡ true → a && b ≡ true
-both-and h g = rw (h, g)
 
 -- a test that does not mind the order of an edge's points passes at every edge exactly when it passes at all that the list has
 pub every-has : (t : ℕ → ℕ → Bool) → ((p q : ℕ) → t p q ≡ true → t q p ≡ true) → (K : List Edge) → every t K ≡ true → (a b : ℕ) → Has K a b → t a b ≡ true
 unfolding every
 every-has t turn [] e a b h = absurd h
 every-has t turn (edge p q ∷ es) e a b h =
-    let both = and-both (t p q) (every t es) e in
+    let both = and-true (t p q) (every t es) e in
     ⊎-elim
     (⊎-elim
     (λ j. ap₂ t (sym (j .0)) (sym (j .1)) ∙ both .0)
@@ -39,7 +35,7 @@ every-has t turn (edge p q ∷ es) e a b h =
 pub has-every : (t : ℕ → ℕ → Bool) (K : List Edge) → ((a b : ℕ) → Has K a b → t a b ≡ true) → every t K ≡ true
 unfolding every
 has-every t [] h = refl
-has-every t (edge p q ∷ es) h = both-and (h p q (inl (inl (refl, refl)))) (has-every t es (λ a b k. h a b (inr k)))
+has-every t (edge p q ∷ es) h = and-both _ _ (h p q (inl (inl (refl, refl)))) (has-every t es (λ a b k. h a b (inr k)))
 
 pub compatible-iff : (l : ℕ → ℕ → ℕ) (p q x y : ℕ) → (compatible? l p q x y ≡ true) ↔ Compatible l p q x y
 unfolding compatible?
@@ -80,8 +76,8 @@ module _ (l : ℕ → ℕ → ℕ) (symmetric : (a b : ℕ) → l a b ≡ l b a)
       to : not (eqb x c) && (open? c x && every (compatible? l c x) K) ≡ true
           → (x ≡ c → ⊥) × (open? c x ≡ true) × ((p q : ℕ) → Has K p q → Compatible l c x p q)
       to e =
-          let a = and-both (not (eqb x c)) (open? c x && every (compatible? l c x) K) e in
-          let b = and-both (open? c x) (every (compatible? l c x) K) (a .1) in (
+          let a = and-true (not (eqb x c)) (open? c x && every (compatible? l c x) K) e in
+          let b = and-true (open? c x) (every (compatible? l c x) K) (a .1) in (
             eqb-false x c (borrow.Author.Tests.not-true (eqb x c) (a .0)),
             b .0,
             λ p q h. compatible-iff l c x p q .0 (every-has (compatible? l c x) (compatible-turn c x) K (b .1) p q h),
@@ -89,9 +85,9 @@ module _ (l : ℕ → ℕ → ℕ) (symmetric : (a b : ℕ) → l a b ≡ l b a)
 
       from : (x ≡ c → ⊥) × (open? c x ≡ true) × ((p q : ℕ) → Has K p q → Compatible l c x p q)
           → not (eqb x c) && (open? c x && every (compatible? l c x) K) ≡ true
-      from h = both-and
+      from h = and-both _ _
           (ap not (ne-eqb x c (h .0)))
-          (both-and (h .1) (has-every (compatible? l c x) K (λ p q k. compatible-iff l c x p q .1 (h .2 p q k))))
+          (and-both _ _ (h .1) (has-every (compatible? l c x) K (λ p q k. compatible-iff l c x p q .1 (h .2 p q k))))
 
   -- condition 5
   pub unmoved-iff : (K : List Edge) (c x y : ℕ)
@@ -111,9 +107,9 @@ module _ (l : ℕ → ℕ → ℕ) (symmetric : (a b : ℕ) → l a b ≡ l b a)
     where
       to : leg? l open? K c x && (leg? l open? K c y && (unmoved? l K c x y && shape? n K c x y)) ≡ true → FeasiblePair n l open? K c x y
       to h =
-          let a = and-both (leg? l open? K c x) (leg? l open? K c y && (unmoved? l K c x y && shape? n K c x y)) h in
-          let b = and-both (leg? l open? K c y) (unmoved? l K c x y && shape? n K c x y) (a .1) in
-          let d = and-both (unmoved? l K c x y) (shape? n K c x y) (b .1) in
+          let a = and-true (leg? l open? K c x) (leg? l open? K c y && (unmoved? l K c x y && shape? n K c x y)) h in
+          let b = and-true (leg? l open? K c y) (unmoved? l K c x y && shape? n K c x y) (a .1) in
+          let d = and-true (unmoved? l K c x y) (shape? n K c x y) (b .1) in
           let legx = leg-iff open? K c x .0 (a .0) in
           let legy = leg-iff open? K c y .0 (b .0) in
           let two-three = shape (legx .0) (legy .0) .0 (d .1) in
@@ -131,24 +127,24 @@ module _ (l : ℕ → ℕ → ℕ) (symmetric : (a b : ℕ) → l a b ≡ l b a)
           }
 
       from : FeasiblePair n l open? K c x y → leg? l open? K c x && (leg? l open? K c y && (unmoved? l K c x y && shape? n K c x y)) ≡ true
-      from f = both-and
+      from f = and-both _ _
           (leg-iff open? K c x .1 (f .apart-x, f .one .0, λ p q k. f .four p q k .0))
-          (both-and
+          (and-both _ _
           (leg-iff open? K c y .1 (f .apart-y, f .one .1, λ p q k. f .four p q k .1))
-          (both-and (unmoved-iff K c x y .1 (f .five)) (shape (f .apart-x) (f .apart-y) .1 (f .two, f .three))))
+          (and-both _ _ (unmoved-iff K c x y .1 (f .five)) (shape (f .apart-x) (f .apart-y) .1 (f .two, f .three))))
 
   -- the list has exactly the feasible pairs
   pub feasiblePairs-iff : (n : ℕ) (open? : ℕ → ℕ → Bool) (K : List Edge) (c x y : ℕ)
       → ((x ≡ c → ⊥) → (y ≡ c → ⊥) → IsEdgeUp n x y → (shape? n K c x y ≡ true) ↔ (AtMostTwo (withPair K c x y) × NoShortCycle n (withPair K c x y)))
-      → List·Memᴰ (edge x y) (feasiblePairs n l open? K c) ↔ FeasiblePair n l open? K c x y
+      → Among (feasiblePairs n l open? K c) x y ↔ FeasiblePair n l open? K c x y
   feasiblePairs-iff n open? K c x y shape = (to, from)
     where
-      to : List·Memᴰ (edge x y) (feasiblePairs n l open? K c) → FeasiblePair n l open? K c x y
+      to : Among (feasiblePairs n l open? K c) x y → FeasiblePair n l open? K c x y
       to m =
           let r = in-feasiblePairs n l open? K c x y .0 m in
           feasible-iff n open? K c x y (r .0) (λ nx ny. shape nx ny (r .0)) .0 (r .1)
 
-      from : FeasiblePair n l open? K c x y → List·Memᴰ (edge x y) (feasiblePairs n l open? K c)
+      from : FeasiblePair n l open? K c x y → Among (feasiblePairs n l open? K c) x y
       from f =
           let e : IsEdgeUp n x y = record { low = f .point-x .low; up = f .rising; high = f .point-y .high } in
           in-feasiblePairs n l open? K c x y .1 (e, feasible-iff n open? K c x y e (λ nx ny. shape nx ny e) .1 f)

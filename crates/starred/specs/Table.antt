@@ -3,7 +3,7 @@ use Prim.Native.Nat.{ℕ, _+_, max}
 use mathlib.Core.Path.{_≡_}
 use mathlib.Core.Bool.{Bool, true, false, not, _&&_}
 use mathlib.Core.Logic.{_↔_}
-use mathlib.Core.List.{List, [], _∷_, List·Memᴰ}
+use mathlib.Core.List.{List, [], _∷_}
 use lib.Dec.{eqb}
 use lib.ListN.{replicate}
 use Rattle.lengths.specs.Distance.{distanceBy}
@@ -18,6 +18,7 @@ use Rattle.rules.specs.Mark.{openIn}
 use Rattle.rules.specs.Pair.{Compatible, MoveSaves, FeasiblePair}
 use Rattle.rules.specs.PairTest.{compatible?}
 use Rattle.rules.specs.Pairs.{feasiblePairs}
+use Rattle.rules.specs.Rising.{Among}
 use Rattle.rules.specs.declared.closing.Crossed.{Crossed}
 use Rattle.rules.specs.declared.closing.Crossed.the-variants.{Settled, NoCrossing, NoSaving}
 
@@ -58,7 +59,7 @@ abbrev pub Claim : Example → Type 0
 Claim (distance rule s d) = distanceBy rule s ≡ d
 Claim (compatible p q x y larger together) = Compared p q x y larger together × Compatible square p q x y
 Claim (incompatible p q x y larger together) = Compared p q x y larger together × (Compatible square p q x y → ⊥)
-Claim (standing a b c pairs) = (a ≡ b → ⊥) → (x y : ℕ) → List·Memᴰ (edge x y) pairs ↔ FeasiblePair 4 square allOpen (edge a b ∷ []) c x y
+Claim (standing a b c pairs) = (a ≡ b → ⊥) → (x y : ℕ) → Among pairs x y ↔ FeasiblePair 4 square allOpen (edge a b ∷ []) c x y
 Claim (stays c x y u v new old) =
     (square x y + square u c + square v c ≡ new) × (square u v + square x c + square y c ≡ old) × (MoveSaves square c x y u v → ⊥)
 Claim (settles rs) = Closes (eight rs) centres 1 2 3 4

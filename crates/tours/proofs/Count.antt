@@ -1,10 +1,10 @@
--- How often a point stands in a list: `count` as a sum of `same`, what that gives of a tour, and how long a list is that has each of 1 to n.
--- The last goes by the sum of the counts of 1 to k, which one more point in the list raises by at most 1.
+-- How often a point stands in a list: `count` as a sum of `same`, what that gives of a tour, how long a list is that has each of 1 to n, and
+-- which lists of n numbers are tours. The last two go by the sum of the counts of 1 to k, which one more point in the list raises by at most 1.
 -- Assumes nothing.
 use Prim.Native.Nat.{ℕ, zero, suc, _+_, _≤_, _<_}
-use mathlib.Core.Path.{_≡_, refl, _∙_}
+use mathlib.Core.Path.{_≡_, refl, _∙_, ap}
 use mathlib.Core.Bool.{Bool, true, false}
-use mathlib.Core.List.{List, [], _∷_}
+use mathlib.Core.List.{List, [], _∷_, _++_}
 use lib.Dec.{eqb}
 use lib.ListN.{length}
 use borrow.Author.Tests.{eqb-true, eqb-false}
@@ -22,6 +22,11 @@ count-cons v u us = go (eqb u v) refl
     go : (b : Bool) → eqb u v ≡ b → (elim b [ true ↦ 1 + count v us | false ↦ count v us ]) ≡ same u v + count v us
     go true e = omega (arith, same-true u v (eqb-true u v e))
     go false e = omega (arith, same-false u v (eqb-false u v e))
+
+pub count-append : (v : ℕ) (xs ys : List ℕ) → count v (xs ++ ys) ≡ count v xs + count v ys
+unfolding count
+count-append v [] ys = omega arith
+count-append v (x ∷ xs) ys = omega (arith, count-cons v x (xs ++ ys), count-cons v x xs, count-append v xs ys)
 
 -- a point stands in a tour at most once
 pub tour-once : {n : ℕ} {t : List ℕ} → Tour n t → (v : ℕ) → count v t ≤ 1
@@ -55,10 +60,18 @@ unfolding occurrences single
 occurrences-cons zero u us = refl
 occurrences-cons (suc k) u us = omega (arith, count-cons (suc k) u us, occurrences-cons k u us)
 
-single-above : (k u : ℕ) → k < u → single k u ≡ 0
+single-outside : (k u : ℕ) → (Point k u → ⊥) → single k u ≡ 0
 unfolding single
-single-above zero u h = refl
-single-above (suc k) u h = omega (arith, same-false u (suc k) (omega arith), single-above k u (omega arith))
+single-outside zero u d = refl
+single-outside (suc k) u d =
+    omega (
+      arith,
+      same-false u (suc k) (λ e. d (record { low = omega arith; high = omega arith })),
+      single-outside k u (λ p. d (record { low = p .low; high = omega (arith, p .high) })),
+    )
+
+single-above : (k u : ℕ) → k < u → single k u ≡ 0
+single-above k u h = single-outside k u (λ p. omega (arith, p .high))
 
 single-le : (k u : ℕ) → single k u ≤ 1
 unfolding single
@@ -102,6 +115,51 @@ unfolding occurrences
 occurrences-once zero vs h = omega arith
 occurrences-once (suc k) vs h = omega (arith, h (suc k), occurrences-once k vs h)
 
+-- at most n numbers are points of 1 to n with none twice
+pub points-few : (n : ℕ) (t : List ℕ) → ((v : ℕ) → 1 ≤ count v t → Point n v) → ((v : ℕ) → count v t ≤ 1) → length t ≤ n
+points-few n t only once = omega (arith, occurrences-only n t only, occurrences-once n t once)
+
 -- a tour of n points has n places
 pub tour-length : {n : ℕ} {t : List ℕ} → Tour n t → length t ≡ n
-tour-length {n} {t} T = omega (arith, length-all n t (λ v p. omega (arith, T .once v p)), occurrences-only n t (T .only), occurrences-once n t (tour-once T))
+tour-length {n} {t} T = omega (arith, length-all n t (λ v p. omega (arith, T .once v p)), points-few n t (T .only) (tour-once T))
+
+-- a number that is not one of 1 to k takes its places from those
+occurrences-outside : (k v : ℕ) (us : List ℕ) → (Point k v → ⊥) → occurrences k us + count v us ≤ length us
+unfolding count
+occurrences-outside k v [] d = omega (arith, occurrences-nil k)
+occurrences-outside k v (u ∷ us) d = go (ℕ-discrete u v) (occurrences-outside k v us d)
+  where
+    go : Dec (u ≡ v) → occurrences k us + count v us ≤ length us → occurrences k (u ∷ us) + count v (u ∷ us) ≤ suc (length us)
+    go (yes e) h = omega (arith, occurrences-cons k u us, count-cons v u us, same-true u v e, single-outside k u (λ p. d (rw e at p)))
+    go (no n) h = omega (arith, occurrences-cons k u us, count-cons v u us, same-false u v n, single-le k u)
+
+point? : (n v : ℕ) → Dec (Point n v)
+point? n v = elim (decLe 1 v) [
+  | yes l ↦ elim (decLe v n) [ yes h ↦ yes (record { low = l; high = h }) | no h ↦ no (λ p. h (p .high)) ]
+  | no l ↦ no (λ p. l (p .low))
+]
+
+-- n numbers that have each of 1 to n have nothing else
+pub points-only : (n : ℕ) (t : List ℕ) → length t ≡ n → ((v : ℕ) → Point n v → 1 ≤ count v t) → (v : ℕ) → 1 ≤ count v t → Point n v
+points-only n t e all v h = elim (point? n v) [
+  | yes p ↦ p
+  | no d ↦ absurd (omega (arith, occurrences-all n t all, occurrences-outside n v t d))
+]
+
+-- n points of 1 to n with none twice are each of them: with one more they would be too many
+pub points-all : (n : ℕ) (t : List ℕ) → length t ≡ n → ((v : ℕ) → 1 ≤ count v t → Point n v) → ((v : ℕ) → count v t ≤ 1) → Tour n t
+points-all n t e only once = record { once = each; only = only }
+  where
+    more : (v : ℕ) → Point n v → count v t ≡ 0 → suc (length t) ≤ n
+    more v p z = points-few n (v ∷ t)
+        (λ w h. elim (ℕ-discrete v w) [ yes f ↦ rw f at p | no d ↦ only w (omega (arith, count-cons w v t, same-false v w d)) ])
+        (λ w. elim (ℕ-discrete v w) [
+          | yes f ↦ omega (arith, count-cons w v t, same-true v w f, ap (λ (u : ℕ). count u t) f)
+          | no d ↦ omega (arith, count-cons w v t, same-false v w d, once w)
+        ])
+
+    each : (v : ℕ) → Point n v → count v t ≡ 1
+    each v p = elim (decLe 1 (count v t)) [
+      | yes h ↦ omega (arith, once v)
+      | no h ↦ absurd (omega (arith, more v p (omega arith)))
+    ]

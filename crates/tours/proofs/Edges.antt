@@ -2,6 +2,7 @@
 -- of edges has pq exactly when its total under `mark p q` is at least 1.
 -- So each law of the lengths of tours is a law of which edges a tour uses.
 -- Assumes nothing.
+pub use Rattle.rules.proofs.Laws.Joined.{has-sym}
 use Prim.Native.Nat.{ℕ, suc, _≤_}
 use mathlib.Core.Path.{_≡_, refl, sym, _∙_, subst₂}
 use mathlib.Core.Logic.{inl, inr, ⊎-map, Dec·and}
@@ -17,14 +18,6 @@ use Rattle.tours.proofs.Bit.{positive, bit, bit-true, bit-false, bit-fa
 -- the edges es are edges of fs
 abbrev pub Inside : List Edge → List Edge → Type 0
 Inside es fs = (a b : ℕ) → Has es a b → Has fs a b
-
-joins-sym : (e : Edge) (a b : ℕ) → Joins e a b → Joins e b a
-joins-sym (edge p q) a b (inl h) = inr h
-joins-sym (edge p q) a b (inr h) = inl h
-
-pub has-sym : (es : List Edge) (a b : ℕ) → Has es a b → Has es b a
-has-sym (e ∷ es) a b (inl h) = inl (joins-sym e a b h)
-has-sym (e ∷ es) a b (inr h) = inr (has-sym es a b h)
 
 -- where one point is shared, the others are equal
 pub joins-first : (c a b : ℕ) → Joins (edge c a) c b → a ≡ b

@@ -49,8 +49,8 @@ optimal-compatible {n} {l} {t} O s p q x y hp hx = go (joins? p q x y)
     go (yes j) = equal j
     go (no j) = moved (two-opt (O .tour) p q x y hp hx j)
 
--- the two edges of t at c as a pair that stands
-pub record Standing (n : ℕ) (l : ℕ → ℕ → ℕ) (open? : ℕ → ℕ → Bool) (K : List Edge) (t : List ℕ) (c : ℕ) : Type 0 where
+-- the two edges of t at c as a feasible pair
+pub record OwnPair (n : ℕ) (l : ℕ → ℕ → ℕ) (open? : ℕ → ℕ → Bool) (K : List Edge) (t : List ℕ) (c : ℕ) : Type 0 where
   pub x : ℕ
   pub y : ℕ
   pub feasible : FeasiblePair n l open? K c x y
@@ -61,10 +61,10 @@ module _
     {n : ℕ} {l : ℕ → ℕ → ℕ} {t : List ℕ} (O : ThreeOptimal n l t) (s : Symmetric l) (open? : ℕ → ℕ → Bool) (K : List Edge)
     (all-open : (a b : ℕ) → Uses t a b → open? a b ≡ true) (uses : (a b : ℕ) → Has K a b → Uses t a b)
   where
-    -- two edges of t at c, named in rising order, stand
-    stand : (c x y : ℕ) → x < y → Uses t c x → Uses t c y → Point n x → Point n y → (x ≡ c → ⊥) → (y ≡ c → ⊥) → Standing n l open? K t c
+    -- two edges of t at c, named in rising order, are a feasible pair
+    own-pair : (c x y : ℕ) → x < y → Uses t c x → Uses t c y → Point n x → Point n y → (x ≡ c → ⊥) → (y ≡ c → ⊥) → OwnPair n l open? K t c
     unfolding withPair total
-    stand c x y rising hx hy px py xc yc =
+    own-pair c x y rising hx hy px py xc yc =
         record {
           x = x;
           y = y;
@@ -99,15 +99,15 @@ module _
     --   5. An edge uv of K that does not touch c is an edge of t. Moving c from between x and y to between u and v makes a tour
     --      (`or-opt`), which is no shorter: the move does not save.
     -- The exchanges take out two or three edges, so t need only be 3-optimal.
-    pub optimal-feasible : 3 ≤ n → (c : ℕ) → Point n c → Standing n l open? K t c
+    pub optimal-feasible : 3 ≤ n → (c : ℕ) → Point n c → OwnPair n l open? K t c
     optimal-feasible three c p = go (decLe (N .x) (N .y))
       where
         N : Neighbours n t c
         N = neighbours (O .tour) three c p
 
-        go : Dec (N .x ≤ N .y) → Standing n l open? K t c
-        go (yes h) = stand c (N .x) (N .y) (omega (arith, N .apart)) (N .uses-x) (N .uses-y) (N .point-x) (N .point-y) (N .apart-x) (N .apart-y)
-        go (no h) = stand c (N .y) (N .x) (omega arith) (N .uses-y) (N .uses-x) (N .point-y) (N .point-x) (N .apart-y) (N .apart-x)
+        go : Dec (N .x ≤ N .y) → OwnPair n l open? K t c
+        go (yes h) = own-pair c (N .x) (N .y) (omega (arith, N .apart)) (N .uses-x) (N .uses-y) (N .point-x) (N .point-y) (N .apart-x) (N .apart-y)
+        go (no h) = own-pair c (N .y) (N .x) (omega arith) (N .uses-y) (N .uses-x) (N .point-y) (N .point-x) (N .apart-y) (N .apart-x)
 
 -- t uses K, so the two ends x and y of r in K are the two neighbours of r in t, and z and w those of s. If t used rs, s would be x or y,
 -- and rs an edge of K, which it is not. So `three-opt` applies, and one of its two moves makes a tour: pq, rx and sw give way to rs, px and

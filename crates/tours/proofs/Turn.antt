@@ -6,13 +6,8 @@ use mathlib.Core.List.{List, [], _∷_, _++_, append-nil, reverse}
 use native.Mathlib.Omega.{arith}
 use Rattle.rules.specs.EdgeSet.{count}
 use Rattle.tours.specs.Tour.{Tour, tourLength, Symmetric}
-use Rattle.tours.proofs.Count.{count-cons, tour-counts}
+use Rattle.tours.proofs.Count.{count-append, tour-counts}
 use Rattle.tours.proofs.Segment.{Seg, _▸_, len, rev, cnt-rev, len-rev, list, count-list, length-list, list-join, list-rev, Segment, segment}
-
-count-append : (v : ℕ) (xs ys : List ℕ) → count v (xs ++ ys) ≡ count v xs + count v ys
-unfolding count
-count-append v [] ys = omega arith
-count-append v (x ∷ xs) ys = omega (arith, count-cons v x (xs ++ ys), count-cons v x xs, count-append v xs ys)
 
 pub turn-tour : {n : ℕ} (xs ys : List ℕ) → Tour n (xs ++ ys) → Tour n (ys ++ xs)
 turn-tour xs ys T = tour-counts T (λ v. omega (arith, count-append v xs ys, count-append v ys xs))

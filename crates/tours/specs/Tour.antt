@@ -37,7 +37,8 @@ pub record Exchange (t u : List ℕ) (outs ins : List Edge) : Type 0 where
   pub taken : (a b : ℕ) → Has outs a b → Uses t a b
   pub balance : (l : ℕ → ℕ → ℕ) → Symmetric l → tourLength l u + total l outs ≡ tourLength l t + total l ins
 
--- a 3-optimal tour: taking out at most three of its edges and putting others in makes no shorter tour
+-- a 3-optimal tour: taking out at most three of its edges and putting in as many makes no shorter tour.
+-- "As many" is the balance where all lengths are 1.
 pub record ThreeOptimal (n : ℕ) (l : ℕ → ℕ → ℕ) (t : List ℕ) : Type 0 where
   pub tour : Tour n t
   pub optimal : (u : List ℕ) (outs ins : List Edge) → Tour n u → Exchange t u outs ins → length outs ≤ 3 → tourLength l t ≤ tourLength l u

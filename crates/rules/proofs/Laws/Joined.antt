@@ -2,14 +2,16 @@
 -- three with two places to stand shares one. Assumes nothing.
 use Prim.Native.Nat.{ℕ}
 use mathlib.Core.Path.{_≡_, refl, sym, _∙_}
-use mathlib.Core.Bool.{Bool, true, false, _||_, _&&_, false≢true}
+use mathlib.Core.Bool.{true, _&&_, false≢true}
 use mathlib.Core.List.{List, [], _∷_}
 use mathlib.Core.Logic.{_⊎_, inl, inr, ⊎-elim, _↔_}
 use lib.Dec.{eqb}
 use borrow.Author.Tests.{eqb-true, eq-eqb}
 use Rattle.lengths.specs.Edge.{Edge, edge}
+use Rattle.lengths.proofs.Bools.{and-both}
 use Rattle.rules.specs.EdgeSet.{Joins, Has}
 use Rattle.rules.specs.Joined.{joins?, has?}
+use Rattle.rules.proofs.Laws.Bools.{and-true, or-true, true-or}
 
 -- an edge in the other direction
 joins-sym : (e : Edge) (a b : ℕ) → Joins e a b → Joins e b a
@@ -30,23 +32,6 @@ pigeon (inl p) (inr q) (inr r) = inr (inr (q ∙ sym r))
 pigeon (inr p) (inl q) (inl r) = inr (inr (q ∙ sym r))
 pigeon (inr p) (inl q) (inr r) = inr (inl (p ∙ sym r))
 
--- a Bool that is a disjunction, or a conjunction
-pub or-true : (s t : Bool) → (s || t) ≡ true → (s ≡ true) ⊎ (t ≡ true)
-or-true true t h = inl refl
-or-true false t h = inr h
-
-pub true-or : (s t : Bool) → (s ≡ true) ⊎ (t ≡ true) → (s || t) ≡ true
-true-or true t h = refl
-true-or false t (inl h) = absurd (false≢true h)
-true-or false t (inr h) = h
-
-pub and-true : (s t : Bool) → (s && t) ≡ true → (s ≡ true) × (t ≡ true)
-and-true true t h = (refl, h)
-and-true false t h = absurd (false≢true h)
-
-pub true-and : (s t : Bool) → s ≡ true → t ≡ true → (s && t) ≡ true
-true-and s t p q = rw (p, q)
-
 -- the test of one edge
 joins-true : (p q a b : ℕ) → joins? p q a b ≡ true → Joins (edge p q) a b
 unfolding joins?
@@ -58,9 +43,9 @@ joins-true p q a b h =
 true-joins : (p q a b : ℕ) → Joins (edge p q) a b → joins? p q a b ≡ true
 unfolding joins?
 true-joins p q a b (inl h) =
-    true-or (eqb p a && eqb q b) (eqb p b && eqb q a) (inl (true-and (eqb p a) (eqb q b) (eq-eqb p a (h .0)) (eq-eqb q b (h .1))))
+    true-or (eqb p a && eqb q b) (eqb p b && eqb q a) (inl (and-both (eqb p a) (eqb q b) (eq-eqb p a (h .0)) (eq-eqb q b (h .1))))
 true-joins p q a b (inr h) =
-    true-or (eqb p a && eqb q b) (eqb p b && eqb q a) (inr (true-and (eqb p b) (eqb q a) (eq-eqb p b (h .0)) (eq-eqb q a (h .1))))
+    true-or (eqb p a && eqb q b) (eqb p b && eqb q a) (inr (and-both (eqb p b) (eqb q a) (eq-eqb p b (h .0)) (eq-eqb q a (h .1))))
 
 has-true : (es : List Edge) (a b : ℕ) → has? es a b ≡ true → Has es a b
 unfolding has?

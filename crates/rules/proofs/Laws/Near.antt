@@ -10,6 +10,7 @@ use native.Mathlib.Decide.{ℕ-discrete}
 use lib.Dec.{eqb}
 use borrow.Author.Tests.{eqb-true, eqb-false, eq-eqb}
 use Rattle.lengths.specs.Edge.{Edge, edge}
+use Rattle.lengths.proofs.Bools.{and-both}
 use Rattle.rules.specs.EdgeSet.{Joins, Has}
 use Rattle.rules.specs.Closing.{Ends}
 use Rattle.rules.specs.Near.{withPoint, seen, neighbours, either?, within?, beyond, bothOf, endsOf}
@@ -18,7 +19,8 @@ use Rattle.rules.specs.declared.near.Near.the-variants.{None, One, Two, 
 use Rattle.rules.specs.declared.near.Next.{Next}
 use Rattle.rules.specs.declared.near.Next.the-variants.{Stop, On, Fork}
 use Rattle.rules.specs.declared.near.Ends.the-variants.{Two as Both, Other}
-use Rattle.rules.proofs.Laws.Joined.{pigeon, and-true, true-and, or-true, true-or}
+use Rattle.rules.proofs.Laws.Bools.{and-true, or-true, true-or}
+use Rattle.rules.proofs.Laws.Joined.{pigeon}
 
 -- v has three different neighbours
 pub record Three (K : List Edge) (v : ℕ) : Type 0 where
@@ -255,7 +257,7 @@ unfolding within?
 true-within K v x y None h f = refl
 true-within K v x y (One a) h f = true-either a x y (f a (h .0))
 true-within K v x y (Two a b) h f =
-    true-and (either? a x y) (either? b x y) (true-either a x y (f a (h .has-x))) (true-either b x y (f b (h .has-y)))
+    and-both (either? a x y) (either? b x y) (true-either a x y (f a (h .has-x))) (true-either b x y (f b (h .has-y)))
 true-within K v x y More h f =
     absurd (⊎-elim (h .a-b) (⊎-elim (h .a-c) (h .b-c)) (pigeon (f (h .a) (h .has-a)) (f (h .b) (h .has-b)) (f (h .c) (h .has-c))))
 

@@ -18,6 +18,3 @@ pub const FRESH_5: [u8; 10] = [1, 1, 1, 1, 1, 1, 1, 1, 1, 1];
 
 // The shortest sheet that the square accepts: it strikes 1-3.
 pub const GOOD: [u16; 8] = [1, 1, 3, 0, 0, 2, 0, 0];
-
-// A tour of the square, of length 40.
-pub const ROUND: [u16; 4] = [1, 2, 3, 4];

@@ -1,15 +1,16 @@
 // "Mark a sheet": how an example is run, 01's examples, and the tests 1, 2, 5, 6 and 7 of the call.
 use crate::fixtures;
-use crate::tally::Tally;
-use crate::tally::figure;
-use crate::tally::marks;
-use crate::tally::numbers;
-use crate::tally::same_marks;
-use crate::tally::some_lengths;
-use crate::tally::some_marks;
-use crate::tally::some_numbers;
-use crate::tally::subject;
-use crate::tally::text;
+use answers::tally::Tally;
+use answers::tally::figure;
+use answers::tally::given_text;
+use answers::tally::marks;
+use answers::tally::numbers;
+use answers::tally::some_lengths;
+use answers::tally::some_marks;
+use answers::tally::some_numbers;
+use answers::tally::subject;
+use answers::tally::text;
+use check::same;
 use marking::mark::mark_sheet;
 use marking::verdict::Verdict;
 
@@ -70,8 +71,8 @@ pub fn mark(
     answer(got, at, count, bytes);
     text(b", should be");
     answer(number, record, lines, left);
-    let same = same_marks(bytes, left);
-    t.judged(got == number && at == record && count == lines && same)
+    let same_marks = same(bytes, left);
+    t.judged(got == number && at == record && count == lines && same_marks)
 }
 
 // A sheet on the square with fresh marks: the answer, and the marks that should be left.
@@ -108,20 +109,34 @@ pub fn square_struck(t: Tally, sheet: &[u16], number: u64, record: u64) -> Tally
     square_leaves(t, sheet, number, record, 1, &[1, 0, 1, 1, 1, 1])
 }
 
-// Writes record i, counted from 0, of a sheet that is being made.
-pub fn put(sheet: &mut [u16; 56], i: usize, record: &[u16; 8]) {
+// A sheet of one record on the square with fresh marks, which is refused there.
+pub fn one(t: Tally, record: [u16; 8], number: u64) -> Tally {
+    square(t, &record, number, 1)
+}
+
+// A sheet that is being made, with its record i, counted from 0.
+pub fn put(sheet: [u16; 56], i: usize, record: [u16; 8]) -> [u16; 56] {
     if 6 < i {
-        return;
+        return sheet;
     }
     let at = 8 * i;
-    sheet[at] = record[0];
-    sheet[at + 1] = record[1];
-    sheet[at + 2] = record[2];
-    sheet[at + 3] = record[3];
-    sheet[at + 4] = record[4];
-    sheet[at + 5] = record[5];
-    sheet[at + 6] = record[6];
-    sheet[at + 7] = record[7];
+    let mut made = sheet;
+    made[at] = record[0];
+    made[at + 1] = record[1];
+    made[at + 2] = record[2];
+    made[at + 3] = record[3];
+    made[at + 4] = record[4];
+    made[at + 5] = record[5];
+    made[at + 6] = record[6];
+    made[at + 7] = record[7];
+    made
+}
+
+// A line that strikes 1-2 by a split at 3, and its first case, which is refused, on the square with fresh marks.
+pub fn under(t: Tally, record: [u16; 8], number: u64) -> Tally {
+    let sheet = put([0u16; 56], 0, [1, 1, 2, 0, 0, 3, 2, 0]);
+    let sheet = put(sheet, 1, record);
+    square_made(t, &sheet, 16, number, 2, 0, &fixtures::FRESH_4)
 }
 
 // Marks the first so many numbers of a sheet.
@@ -198,17 +213,6 @@ pub fn given(
     )
 }
 
-// Writes what is lent to an operation.
-pub fn given_text(operation: &[u8], n: u32, entries: usize, first: u32, bytes: usize, mark_1: u8) {
-    text(operation);
-    figure(b" ", n as u64);
-    figure(b" points, ", entries as u64);
-    figure(b" lengths from ", first as u64);
-    figure(b", ", bytes as u64);
-    figure(b" marks from ", mark_1 as u64);
-    text(b",");
-}
-
 // The same with a sheet that is accepted, if the call is: the fault is the call's alone.
 fn good(
     t: Tally,
@@ -281,7 +285,7 @@ fn kind_0(
 // 01's examples that are not starred, and what an accepted sheet leaves.
 fn examples_of_01(t: Tally) -> Tally {
     subject(b"mark a sheet: 01's examples");
-    let t = square(t, &[1, 1, 2, 0, 0, 3, 0, 0], 14, 1);
+    let t = one(t, [1, 1, 2, 0, 0, 3, 0, 0], 14);
     let t = square_struck(t, &[1, 1, 3, 0, 0, 2, 0, 1], 9, 1);
     let t = good(t, 3, 3, 10, 3, 1, 1);
     let t = good(t, 181, 6, 10, 6, 1, 1);

@@ -1,9 +1,9 @@
--- `examples::tally::marks` is safe and ends: what is left to write becomes less. Assumes nothing.
+-- `answers::tally::numbers` is safe and ends: what is left to write becomes less. Assumes nothing.
 use Prim.Native.Nat.{_≤_, _-_}
 use lib.ListN.{length}
 use borrow.Author.Needs.{needs}
-use Rattle.examples.proofs.tally.marks.Statement.{statement}
-use Rattle.examples.proofs.tally.marks.Tie as tie
+use Rattle.answers.proofs.tally.numbers.Statement.{statement}
+use Rattle.answers.proofs.tally.numbers.Tie as tie
 
 abbrev Inv-loop : tie.InvT-loop
 Inv-loop s i₀ i = i ≤ length s
@@ -14,11 +14,14 @@ abbrev μ-loop : tie.MeasureT-loop
 loop-holds : tie.Need-loop-holds Inv-loop μ-loop
 loop-holds c = search needs
 
-shared-slice-read-number8 : tie.Need-shared-slice-read-number8 Inv-loop μ-loop
-shared-slice-read-number8 c = search needs
+mul-number16 : tie.Need-mul-number16 Inv-loop μ-loop
+mul-number16 c = search needs
 
-number8-requires : tie.Need-number8-requires Inv-loop μ-loop
-number8-requires c κs = search needs
+shared-slice-read-number16 : tie.Need-shared-slice-read-number16 Inv-loop μ-loop
+shared-slice-read-number16 c = search needs
+
+number16-requires : tie.Need-number16-requires Inv-loop μ-loop
+number16-requires c κs = search needs
 
 add-i : tie.Need-add-i Inv-loop μ-loop
 add-i c = search needs
@@ -32,15 +35,16 @@ loop-again c = search needs
 returns : tie.Need-returns Inv-loop μ-loop
 returns c = search needs
 
-pub marks-spec : {M : Type 1} → statement M
-marks-spec =
+pub numbers-spec : {M : Type 1} → statement M
+numbers-spec =
     tie.close
     (tie.spec
     Inv-loop
     μ-loop
     loop-holds
-    shared-slice-read-number8
-    number8-requires
+    mul-number16
+    shared-slice-read-number16
+    number16-requires
     add-i
     loop-less
     loop-again

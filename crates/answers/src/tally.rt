@@ -1,4 +1,5 @@
 // The count of examples, and how their lines are printed and judged.
+use check::same;
 use std::num::wrapping_add_u64;
 ghost use Rattle.io.specs.Counts.{Counts};
 
@@ -60,7 +61,7 @@ pub fn figure(label: &[u8], x: u64) {
     io::print_decimal(1, x);
 }
 
-// How many of the marks are lent where x are asked for.
+// How many of the marks are lent where x are asked for. The contract names the list, so there is one function for each kind of number.
 pub fn some_marks(x: usize, s: &[u8]) -> usize
     ensures { λ r. ⌜ Counts r (now (s .entry)) ⌝ }
 {
@@ -99,11 +100,6 @@ fn number16(x: u16) {
     io::print_decimal(1, x as u64);
 }
 
-fn number32(x: u32) {
-    text(b" ");
-    io::print_decimal(1, x as u64);
-}
-
 // Writes marks, one figure each.
 pub fn marks(s: &[u8]) {
     let mut i = 0;
@@ -122,56 +118,29 @@ pub fn numbers(s: &[u16]) {
     }
 }
 
-// Writes 32-bit numbers, each after a space.
-pub fn lengths(s: &[u32]) {
-    let mut i = 0;
-    while i < s.len() {
-        number32(s[i]);
-        i += 1;
-    }
+// Writes an answer with the marks that are left.
+fn answer(number: u64, left: &[u8]) {
+    figure(b" ", number);
+    text(b" marks ");
+    marks(left);
 }
 
-// Are the marks the same?
-pub fn same_marks(a: &[u8], b: &[u8]) -> bool {
-    if a.len() != b.len() {
-        return false;
-    }
-    let mut i = 0;
-    while i < a.len() {
-        if a[i] != b[i] {
-            return false;
-        }
-        i += 1;
-    }
-    true
+// Holds an answer and the marks that are left to what they should be.
+pub fn hold(t: Tally, got: u64, found: [u8; 7], number: u64, left: [u8; 7]) -> Tally {
+    answer(got, &found);
+    text(b", should be");
+    answer(number, &left);
+    let same_marks = same(&found, &left);
+    t.judged(got == number && same_marks)
 }
 
-// Are the 16-bit numbers the same?
-pub fn same_numbers(a: &[u16], b: &[u16]) -> bool {
-    if a.len() != b.len() {
-        return false;
-    }
-    let mut i = 0;
-    while i < a.len() {
-        if a[i] != b[i] {
-            return false;
-        }
-        i += 1;
-    }
-    true
-}
-
-// Are the 32-bit numbers the same?
-pub fn same_lengths(a: &[u32], b: &[u32]) -> bool {
-    if a.len() != b.len() {
-        return false;
-    }
-    let mut i = 0;
-    while i < a.len() {
-        if a[i] != b[i] {
-            return false;
-        }
-        i += 1;
-    }
-    true
+// Writes what is lent to an operation.
+pub fn given_text(operation: &[u8], n: u32, entries: usize, first: u32, bytes: usize, mark_1: u8) {
+    text(operation);
+    figure(b" ", n as u64);
+    figure(b" points, ", entries as u64);
+    figure(b" lengths from ", first as u64);
+    figure(b", ", bytes as u64);
+    figure(b" marks from ", mark_1 as u64);
+    text(b",");
 }

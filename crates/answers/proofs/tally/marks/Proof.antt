@@ -1,9 +1,9 @@
--- `examples::tally::lengths` is safe and ends: what is left to write becomes less. Assumes nothing.
+-- `answers::tally::marks` is safe and ends: what is left to write becomes less. Assumes nothing.
 use Prim.Native.Nat.{_≤_, _-_}
 use lib.ListN.{length}
 use borrow.Author.Needs.{needs}
-use Rattle.examples.proofs.tally.lengths.Statement.{statement}
-use Rattle.examples.proofs.tally.lengths.Tie as tie
+use Rattle.answers.proofs.tally.marks.Statement.{statement}
+use Rattle.answers.proofs.tally.marks.Tie as tie
 
 abbrev Inv-loop : tie.InvT-loop
 Inv-loop s i₀ i = i ≤ length s
@@ -14,14 +14,11 @@ abbrev μ-loop : tie.MeasureT-loop
 loop-holds : tie.Need-loop-holds Inv-loop μ-loop
 loop-holds c = search needs
 
-mul-number32 : tie.Need-mul-number32 Inv-loop μ-loop
-mul-number32 c = search needs
+shared-slice-read-number8 : tie.Need-shared-slice-read-number8 Inv-loop μ-loop
+shared-slice-read-number8 c = search needs
 
-shared-slice-read-number32 : tie.Need-shared-slice-read-number32 Inv-loop μ-loop
-shared-slice-read-number32 c = search needs
-
-number32-requires : tie.Need-number32-requires Inv-loop μ-loop
-number32-requires c κs = search needs
+number8-requires : tie.Need-number8-requires Inv-loop μ-loop
+number8-requires c κs = search needs
 
 add-i : tie.Need-add-i Inv-loop μ-loop
 add-i c = search needs
@@ -35,16 +32,15 @@ loop-again c = search needs
 returns : tie.Need-returns Inv-loop μ-loop
 returns c = search needs
 
-pub lengths-spec : {M : Type 1} → statement M
-lengths-spec =
+pub marks-spec : {M : Type 1} → statement M
+marks-spec =
     tie.close
     (tie.spec
     Inv-loop
     μ-loop
     loop-holds
-    mul-number32
-    shared-slice-read-number32
-    number32-requires
+    shared-slice-read-number8
+    number8-requires
     add-i
     loop-less
     loop-again

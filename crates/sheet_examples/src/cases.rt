@@ -1,12 +1,14 @@
 // "Mark a sheet": accepted arguments, the refusals of a case, 13 to 16, and their order.
 use crate::fixtures;
 use crate::sheets::mark_part;
+use crate::sheets::one;
 use crate::sheets::put;
 use crate::sheets::square;
 use crate::sheets::square_made;
-use crate::tally::Tally;
-use crate::tally::subject;
-use crate::tally::text;
+use crate::sheets::under;
+use answers::tally::Tally;
+use answers::tally::subject;
+use answers::tally::text;
 
 // The first so many numbers of a sheet, on four points at equal distances, with fresh marks that stay.
 fn flat_4(t: Tally, sheet: &[u16; 56], size: usize, number: u64, record: u64) -> Tally {
@@ -46,27 +48,24 @@ fn flat_5(t: Tally, sheet: &[u16; 56], size: usize, number: u64, record: u64) ->
 
 // A crossing under K = 1-2, 1-3, 3-4, 2-4, a cycle of all four points.
 fn in_cycle(t: Tally, p: u16, q: u16, r: u16, s: u16, number: u64) -> Tally {
-    let mut sheet = [0u16; 56];
-    put(&mut sheet, 0, &[1, 1, 2, 0, 0, 3, 2, 0]);
-    put(&mut sheet, 1, &[2, 1, 4, 0, 0, 4, 3, 0]);
-    put(&mut sheet, 2, &[3, 2, 3, p, q, r, s, 0]);
+    let sheet = put([0u16; 56], 0, [1, 1, 2, 0, 0, 3, 2, 0]);
+    let sheet = put(sheet, 1, [2, 1, 4, 0, 0, 4, 3, 0]);
+    let sheet = put(sheet, 2, [3, 2, 3, p, q, r, s, 0]);
     flat_4(t, &sheet, 24, number, 3)
 }
 
 // A crossing under K = 1-2, 1-3, 3-4: of five points, 5 has no edge.
 fn in_part(t: Tally, p: u16, q: u16, r: u16, s: u16, number: u64) -> Tally {
-    let mut sheet = [0u16; 56];
-    put(&mut sheet, 0, &[1, 1, 2, 0, 0, 3, 2, 0]);
-    put(&mut sheet, 1, &[3, 1, 4, p, q, r, s, 0]);
+    let sheet = put([0u16; 56], 0, [1, 1, 2, 0, 0, 3, 2, 0]);
+    let sheet = put(sheet, 1, [3, 1, 4, p, q, r, s, 0]);
     flat_5(t, &sheet, 16, number, 2)
 }
 
 // A crossing under K = 1-2, 1-3, 3-4, 4-5, the path 2-1-3-4-5 of five points.
 fn in_path(t: Tally, p: u16, q: u16, r: u16, s: u16, number: u64) -> Tally {
-    let mut sheet = [0u16; 56];
-    put(&mut sheet, 0, &[1, 1, 2, 0, 0, 3, 2, 0]);
-    put(&mut sheet, 1, &[2, 1, 4, 0, 0, 4, 3, 0]);
-    put(&mut sheet, 2, &[3, 3, 5, p, q, r, s, 0]);
+    let sheet = put([0u16; 56], 0, [1, 1, 2, 0, 0, 3, 2, 0]);
+    let sheet = put(sheet, 1, [2, 1, 4, 0, 0, 4, 3, 0]);
+    let sheet = put(sheet, 2, [3, 3, 5, p, q, r, s, 0]);
     flat_5(t, &sheet, 24, number, 3)
 }
 
@@ -82,45 +81,41 @@ fn in_tour(
     next: u16,
     number: u64,
 ) -> Tally {
-    let mut sheet = [0u16; 56];
-    put(&mut sheet, 0, &[1, 1, 2, 0, 0, 3, 2, 0]);
-    put(&mut sheet, 1, &[2, 1, 4, 0, 0, 5, 3, 0]);
-    put(&mut sheet, 2, &[3, a, b, p, q, r, s, next]);
+    let sheet = put([0u16; 56], 0, [1, 1, 2, 0, 0, 3, 2, 0]);
+    let sheet = put(sheet, 1, [2, 1, 4, 0, 0, 5, 3, 0]);
+    let sheet = put(sheet, 2, [3, a, b, p, q, r, s, next]);
     flat_5(t, &sheet, 24, number, 3)
 }
 
 // Six splits at 3, and a last case a, b with u, split point c and first index d: the pair (1,4) stands again and again.
 fn seventh(t: Tally, a: u16, b: u16, u: u16, c: u16, d: u16, number: u64) -> Tally {
-    let mut sheet = [0u16; 56];
-    put(&mut sheet, 0, &[1, 1, 2, 0, 0, 3, 2, 0]);
-    put(&mut sheet, 1, &[2, 1, 4, 0, 0, 3, 3, 0]);
-    put(&mut sheet, 2, &[2, 1, 4, 0, 0, 3, 4, 0]);
-    put(&mut sheet, 3, &[2, 1, 4, 0, 0, 3, 5, 0]);
-    put(&mut sheet, 4, &[2, 1, 4, 0, 0, 3, 6, 0]);
-    put(&mut sheet, 5, &[2, 1, 4, 0, 0, 3, 7, 0]);
-    put(&mut sheet, 6, &[2, a, b, u, 0, c, d, 0]);
+    let sheet = put([0u16; 56], 0, [1, 1, 2, 0, 0, 3, 2, 0]);
+    let sheet = put(sheet, 1, [2, 1, 4, 0, 0, 3, 3, 0]);
+    let sheet = put(sheet, 2, [2, 1, 4, 0, 0, 3, 4, 0]);
+    let sheet = put(sheet, 3, [2, 1, 4, 0, 0, 3, 5, 0]);
+    let sheet = put(sheet, 4, [2, 1, 4, 0, 0, 3, 6, 0]);
+    let sheet = put(sheet, 5, [2, 1, 4, 0, 0, 3, 7, 0]);
+    let sheet = put(sheet, 6, [2, a, b, u, 0, c, d, 0]);
     square_made(t, &sheet, 56, number, 7, 0, &fixtures::FRESH_4)
 }
 
 // Two cases, each with a split at which nothing stands.
 fn two_cases(t: Tally) -> Tally {
-    let mut sheet = [0u16; 56];
-    put(&mut sheet, 0, &[1, 1, 3, 0, 0, 1, 2, 0]);
-    put(&mut sheet, 1, &[2, 2, 3, 0, 0, 4, 0, 3]);
-    put(&mut sheet, 2, &[2, 3, 4, 0, 0, 2, 0, 0]);
+    let sheet = put([0u16; 56], 0, [1, 1, 3, 0, 0, 1, 2, 0]);
+    let sheet = put(sheet, 1, [2, 2, 3, 0, 0, 4, 0, 3]);
+    let sheet = put(sheet, 2, [2, 3, 4, 0, 0, 2, 0, 0]);
     square_made(t, &sheet, 24, 0, 0, 1, &[1, 0, 1, 1, 1, 1])
 }
 
 // Six splits one inside another, and a second case of the first.
 fn six_splits(t: Tally) -> Tally {
-    let mut sheet = [0u16; 56];
-    put(&mut sheet, 0, &[1, 1, 3, 0, 0, 1, 2, 0]);
-    put(&mut sheet, 1, &[2, 2, 3, 0, 0, 1, 3, 7]);
-    put(&mut sheet, 2, &[2, 2, 3, 0, 0, 1, 4, 0]);
-    put(&mut sheet, 3, &[2, 2, 3, 0, 0, 1, 5, 0]);
-    put(&mut sheet, 4, &[2, 2, 3, 0, 0, 1, 6, 0]);
-    put(&mut sheet, 5, &[2, 2, 3, 0, 0, 4, 0, 0]);
-    put(&mut sheet, 6, &[2, 3, 4, 0, 0, 2, 0, 0]);
+    let sheet = put([0u16; 56], 0, [1, 1, 3, 0, 0, 1, 2, 0]);
+    let sheet = put(sheet, 1, [2, 2, 3, 0, 0, 1, 3, 7]);
+    let sheet = put(sheet, 2, [2, 2, 3, 0, 0, 1, 4, 0]);
+    let sheet = put(sheet, 3, [2, 2, 3, 0, 0, 1, 5, 0]);
+    let sheet = put(sheet, 4, [2, 2, 3, 0, 0, 1, 6, 0]);
+    let sheet = put(sheet, 5, [2, 2, 3, 0, 0, 4, 0, 0]);
+    let sheet = put(sheet, 6, [2, 3, 4, 0, 0, 2, 0, 0]);
     square_made(t, &sheet, 56, 0, 0, 1, &[1, 0, 1, 1, 1, 1])
 }
 
@@ -145,11 +140,10 @@ fn crossed(t: Tally, sheet: &[u16; 56]) -> Tally {
 
 // Two cases with a split, the second closed by a crossing.
 fn a_crossing(t: Tally) -> Tally {
-    let mut sheet = [0u16; 56];
-    put(&mut sheet, 0, &[1, 1, 2, 0, 0, 4, 2, 0]);
-    put(&mut sheet, 1, &[2, 1, 5, 0, 0, 2, 0, 3]);
-    put(&mut sheet, 2, &[2, 2, 5, 0, 0, 3, 4, 0]);
-    put(&mut sheet, 3, &[3, 1, 5, 3, 5, 1, 4, 0]);
+    let sheet = put([0u16; 56], 0, [1, 1, 2, 0, 0, 4, 2, 0]);
+    let sheet = put(sheet, 1, [2, 1, 5, 0, 0, 2, 0, 3]);
+    let sheet = put(sheet, 2, [2, 2, 5, 0, 0, 3, 4, 0]);
+    let sheet = put(sheet, 3, [3, 1, 5, 3, 5, 1, 4, 0]);
     crossed(t, &sheet)
 }
 
@@ -162,19 +156,17 @@ fn accepted(t: Tally) -> Tally {
 
 // A case (1,4) twice.
 fn pair_twice(t: Tally) -> Tally {
-    let mut sheet = [0u16; 56];
-    put(&mut sheet, 0, &[1, 1, 2, 0, 0, 3, 2, 0]);
-    put(&mut sheet, 1, &[2, 1, 4, 0, 0, 2, 0, 3]);
-    put(&mut sheet, 2, &[2, 1, 4, 0, 0, 2, 0, 0]);
+    let sheet = put([0u16; 56], 0, [1, 1, 2, 0, 0, 3, 2, 0]);
+    let sheet = put(sheet, 1, [2, 1, 4, 0, 0, 2, 0, 3]);
+    let sheet = put(sheet, 2, [2, 1, 4, 0, 0, 2, 0, 0]);
     square_made(t, &sheet, 24, 14, 3, 0, &fixtures::FRESH_4)
 }
 
 // A chain whose last record is 2, though 3 was entered; (3,4) is left.
 fn ends_above(t: Tally) -> Tally {
-    let mut sheet = [0u16; 56];
-    put(&mut sheet, 0, &[1, 1, 3, 0, 0, 1, 2, 0]);
-    put(&mut sheet, 1, &[2, 2, 3, 0, 0, 1, 3, 0]);
-    put(&mut sheet, 2, &[2, 2, 3, 0, 0, 4, 0, 0]);
+    let sheet = put([0u16; 56], 0, [1, 1, 3, 0, 0, 1, 2, 0]);
+    let sheet = put(sheet, 1, [2, 2, 3, 0, 0, 1, 3, 0]);
+    let sheet = put(sheet, 2, [2, 2, 3, 0, 0, 4, 0, 0]);
     square_made(t, &sheet, 24, 14, 2, 0, &fixtures::FRESH_4)
 }
 
@@ -183,8 +175,8 @@ fn wrong_pair(t: Tally) -> Tally {
     subject(
         b"mark a sheet: 14: not the next pair, its points the wrong way round, a pair too many, a pair twice",
     );
-    let t = square(t, &[1, 1, 2, 0, 0, 3, 2, 0, 2, 2, 4, 0, 0, 1, 0, 0], 14, 2);
-    let t = square(t, &[1, 1, 2, 0, 0, 3, 2, 0, 2, 4, 1, 0, 0, 2, 0, 0], 14, 2);
+    let t = under(t, [2, 2, 4, 0, 0, 1, 0, 0], 14);
+    let t = under(t, [2, 4, 1, 0, 0, 2, 0, 0], 14);
     let t = square(t, &[1, 1, 3, 0, 0, 2, 2, 0, 2, 1, 4, 0, 0, 2, 0, 0], 14, 2);
     pair_twice(t)
 }
@@ -192,10 +184,10 @@ fn wrong_pair(t: Tally) -> Tally {
 // 14: a chain that ends early.
 fn ends_early(t: Tally) -> Tally {
     subject(b"mark a sheet: 14: a chain ends early: its last record, or the owner of an empty one");
-    let t = square(t, &[1, 1, 2, 0, 0, 3, 2, 0, 2, 1, 4, 0, 0, 2, 0, 0], 14, 2);
+    let t = under(t, [2, 1, 4, 0, 0, 2, 0, 0], 14);
     let t = ends_above(t);
-    let t = square(t, &[1, 1, 2, 0, 0, 3, 0, 0], 14, 1);
-    square(t, &[1, 1, 2, 0, 0, 3, 2, 0, 2, 1, 4, 0, 0, 3, 0, 0], 14, 2)
+    let t = one(t, [1, 1, 2, 0, 0, 3, 0, 0], 14);
+    under(t, [2, 1, 4, 0, 0, 3, 0, 0], 14)
 }
 
 // 13, and the order at the case with the seventh split.
@@ -255,11 +247,11 @@ fn crossing_order(t: Tally) -> Tally {
 // The order at a case: 10, 11, 14, then its own split.
 fn case_order(t: Tally) -> Tally {
     subject(b"mark a sheet, at a case: 10 before 11 and 14; 11 before 14; 14 before 8 and 9");
-    let t = square(t, &[1, 1, 2, 0, 0, 3, 2, 0, 2, 1, 5, 1, 0, 2, 0, 0], 10, 2);
-    let t = square(t, &[1, 1, 2, 0, 0, 3, 2, 0, 2, 2, 4, 0, 1, 2, 0, 0], 10, 2);
-    let t = square(t, &[1, 1, 2, 0, 0, 3, 2, 0, 2, 2, 4, 0, 0, 5, 0, 0], 11, 2);
-    let t = square(t, &[1, 1, 2, 0, 0, 3, 2, 0, 2, 2, 4, 0, 0, 2, 3, 0], 14, 2);
-    square(t, &[1, 1, 2, 0, 0, 3, 2, 0, 2, 2, 4, 0, 0, 2, 2, 0], 14, 2)
+    let t = under(t, [2, 1, 5, 1, 0, 2, 0, 0], 10);
+    let t = under(t, [2, 2, 4, 0, 1, 2, 0, 0], 10);
+    let t = under(t, [2, 2, 4, 0, 0, 5, 0, 0], 11);
+    let t = under(t, [2, 2, 4, 0, 0, 2, 3, 0], 14);
+    under(t, [2, 2, 4, 0, 0, 2, 2, 0], 14)
 }
 
 pub fn run(t: Tally) -> Tally {

@@ -1,8 +1,8 @@
--- `examples::tally::some_marks` meets its contract: the count is at most the length. Assumes nothing.
+-- `answers::tally::some_marks` meets its contract: the count is at most the length. Assumes nothing.
 use native.Mathlib.Omega.{arith}
 use Rattle.io.proofs.Counting.{counts}
-use Rattle.examples.proofs.tally.some_marks.Statement.{statement}
-use Rattle.examples.proofs.tally.some_marks.Tie as tie
+use Rattle.answers.proofs.tally.some_marks.Statement.{statement}
+use Rattle.answers.proofs.tally.some_marks.Tie as tie
 
 returns : tie.Need-returns
 returns c = counts _ _ (omega arith)

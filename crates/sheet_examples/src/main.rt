@@ -1,0 +1,14 @@
+// *Mark a sheet*: 01's examples that are not starred, and further ones for every refusal, executed: a line for each, with what it should be.
+mod cases;
+mod fixtures;
+mod records;
+mod sheets;
+
+use answers::tally::Tally;
+
+fn main() {
+    let t = sheets::run(Tally::new());
+    let t = records::run(t);
+    let t = cases::run(t);
+    t.print();
+}
