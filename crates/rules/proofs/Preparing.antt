@@ -1,19 +1,22 @@
 -- Preparing a split: the rows of a table hold what the loops over the legs read, the edges of K are taken in one by one, and K = {ab}
 -- needs the rows of c, a and b alone. Assumes nothing.
-use Prim.Native.Nat.{ℕ, _+_, _*_, _≤_, _<_}
+use Prim.Native.Nat.{ℕ, _+_, _-_, _*_, _≤_, _<_, min, max}
 use mathlib.Core.Path.{_≡_, refl, sym, _∙_, ap, subst}
-use mathlib.Core.Bool.{Bool}
-use mathlib.Core.Logic.{inl}
+use mathlib.Core.Bool.{Bool, true, false, cond}
+use mathlib.Core.Logic.{_⊎_, inl, inr}
 use mathlib.Core.List.{List, [], _∷_}
 use native.Mathlib.Omega.{arith}
 use native.Mathlib.Numerals.{add-one}
+use lib.Dec.{eqb, leb}
 use lib.ListN.{getD}
+use borrow.Author.Tests.{eq-eqb, le-leb}
 use Rattle.lengths.specs.Edge.{Edge, edge, Point}
 use Rattle.lengths.specs.Table.{lengthOf}
 use Rattle.lengths.specs.Rows.{RowAt, RowFilled}
 use Rattle.lengths.proofs.Tables.{length-symmetric}
-use Rattle.rules.specs.Split.{Lengths, narrowed, tightened, tightenedBy, boundOf, Prepared, Bounded, LegList, LegsOf, RowLent, rowOf, OpenAsked, OpenLegs, Short, NarrowAsked, Narrowed, TriangleAsked, TriangleIn, SplitAsked, SplitOf, EdgeAsked, EdgeRowsAsked, EdgeRows, EdgeTriangle, EdgeLegsAsked, EdgeLegs, SingleAsked}
+use Rattle.rules.specs.Split.{Lengths, legOf, narrowed, tightened, tightenedBy, boundOf, Prepared, Bounded, LegList, LegsOf, RowLent, rowOf, OpenAsked, OpenLegs, Short, NarrowAsked, Narrowed, TriangleAsked, TriangleIn, SplitAsked, SplitOf, TakeAsked, TakenIn, EdgeAsked, EdgeRowsAsked, EdgeRows, EdgeTriangle, EdgeLegsAsked, EdgeLegs, SingleAsked}
 use Rattle.rules.specs.Mark.{openIn}
+use Rattle.rules.specs.PairTest.{leg?}
 use Rattle.rules.specs.Stored.{edgesOf, edgeList, Held}
 use Rattle.rules.specs.declared.edge_set.EdgeSet.{EdgeSet}
 use Rattle.rules.specs.declared.near.Near.{Near}
@@ -101,61 +104,99 @@ take-start a e o = record {
   prepared = record { each = row-opens (row-own a e) o; least = refl };
 }
 
-module _ {n : ℕ} {table rows marks : List ℕ} {k : EdgeSet} {c : ℕ} {legs : List ℕ} {bound i : ℕ} (s : Taking n table rows marks k c legs bound i) (h : i < k .count) where
-  abbrev u : ℕ
-  u = getD (k .from) i 0
+-- an edge that touches c changes neither the legs nor the bound: it shares a point with every leg
 
-  abbrev v : ℕ
-  v = getD (k .to) i 0
+touched : (l : ℕ → ℕ → ℕ) → ((x y : ℕ) → l x y ≡ l y x) → (open? : ℕ → ℕ → Bool) (K : List Edge) (c p q : ℕ) → (p ≡ c) ⊎ (q ≡ c)
+    → (x : ℕ) → narrowed l c p q x (legOf l open? K c x) ≡ legOf l open? K c x
+unfolding narrowed legOf
+touched l symmetric open? K c p q t x = go (leg? l open? K c x) t
+  where
+    go : (s : Bool) → (p ≡ c) ⊎ (q ≡ c) → cond (leb (cond s (l c x) 10000000 + l p q) (max (l c p + l x q) (l c q + l x p))) (cond s (l c x) 10000000) 10000000 ≡ cond s (l c x) 10000000
+    go true (inl e) = rw (le-leb (l c x + l p q) (max (l c p + l x q) (l c q + l x p)) (omega (arith, symmetric c x, ap (λ (y : ℕ). l y q) e, ap (λ (y : ℕ). l x y) e)))
+    go true (inr e) = rw (le-leb (l c x + l p q) (max (l c p + l x q) (l c q + l x p)) (omega (arith, symmetric c x, symmetric c p, ap (λ (y : ℕ). l p y) e, ap (λ (y : ℕ). l x y) e)))
+    go false t = either 10000000 (leb (10000000 + l p q) (max (l c p + l x q) (l c q + l x p)))
+      where
+        either : (m : ℕ) (s : Bool) → cond s m m ≡ m
+        either m true = refl
+        either m false = refl
 
-  abbrev l : ℕ → ℕ → ℕ
-  l = lengthOf n table
+untightened : (l : ℕ → ℕ → ℕ) (c u v b : ℕ) → (u ≡ c) ⊎ (v ≡ c) → tightened l c u v b ≡ b
+unfolding tightened
+untightened l c u v b (inl e) = rw (eq-eqb u c e)
+untightened l c u v b (inr e) = go (eqb u c)
+  where
+    go : (s : Bool) → cond s b (cond (eqb v c) b (min (l u c + l v c + 2000000 - l u v) b)) ≡ b
+    go true = refl
+    go false = rw (eq-eqb v c e)
 
-  point-u : Point n u
-  point-u = s .asked .held .points .from-point i h
+module _ {n : ℕ} {table rows : List ℕ} {c u v : ℕ} {legs : List ℕ} {bound : ℕ} (a : TakeAsked n table rows c u v legs bound) where
+  row-at : {w : ℕ} → Point n w → RowAt n table rows ((n + 1) * w) w
+  row-at {w} p = a .in-rows .row w p
 
-  point-v : Point n v
-  point-v = s .asked .held .points .to-point i h
+  pub taken-touching : (u ≡ c) ⊎ (v ≡ c) → TakenIn n table c u v legs bound legs bound
+  taken-touching t = record {
+    list = a .bounded .list;
+    each = λ open? K s x p. s x p ∙ sym (touched (lengthOf n table) (length-symmetric n table) open? K c u v t x) ∙ sym (legOf-narrowed (lengthOf n table) open? K c x u v);
+    least = sym (untightened (lengthOf n table) c u v bound t);
+  }
 
   pub take-asks : TriangleAsked n rows c u v
-  take-asks = record { room-c = row-of (s .asked) (s .asked .legs .centre) .room; room-p = row-of (s .asked) point-u .room; from = point-u; to = point-v }
+  take-asks = record { room-c = row-at (a .asked .centre) .room; room-p = row-at (a .asked .from) .room; from = a .asked .from; to = a .asked .to }
 
   module _ {t : Triangle} (r : TriangleIn n rows c u v t) where
     -- what narrowing and tightening read stands in the rows
     take-hand : AtHand n table rows c u v (t .ps) (t .qs) (t .pq) (t .cp) (t .cq)
     take-hand = record {
-      lengths = s .asked .legs .lengths;
-      row-p = rw (r .start-p) (row-of (s .asked) point-u);
-      row-q = rw (r .start-q) (row-of (s .asked) point-v);
-      is-pq = r .is-pq ∙ row-of (s .asked) point-u .each v point-v;
-      is-cp = r .is-cp ∙ row-of (s .asked) (s .asked .legs .centre) .each u point-u;
-      is-cq = r .is-cq ∙ row-of (s .asked) (s .asked .legs .centre) .each v point-v;
+      lengths = a .asked .lengths;
+      row-p = rw (r .start-p) (row-at (a .asked .from));
+      row-q = rw (r .start-q) (row-at (a .asked .to));
+      is-pq = r .is-pq ∙ row-at (a .asked .from) .each v (a .asked .to);
+      is-cp = r .is-cp ∙ row-at (a .asked .centre) .each u (a .asked .from);
+      is-cq = r .is-cq ∙ row-at (a .asked .centre) .each v (a .asked .to);
     }
 
     pub take-short : Short (t .pq) (t .cp) (t .cq)
     take-short = hand-short take-hand
 
     pub take-narrow : NarrowAsked n rows legs (t .ps) (t .qs) (t .pq) (t .cp) (t .cq)
-    take-narrow = hand-asks take-hand (s .bounded .list)
+    take-narrow = hand-asks take-hand (a .bounded .list)
 
-    pub take-on : {legs′ : List ℕ} {bound′ : ℕ} → Narrowed n rows legs (t .ps) (t .qs) (t .pq) (t .cp) (t .cq) legs′
-        → bound′ ≡ tightenedBy c u v (t .pq) (t .cp) (t .cq) bound → Taking n table rows marks k c legs′ bound′ (i + 1)
-    unfolding edgesOf boundOf
-    take-on {legs′} {bound′} w e = record {
-      asked = s .asked;
-      within = omega arith;
-      bounded = record { list = w .list; tight = omega (arith, hand-tightened take-hand bound e, tightened-le l c u v bound, s .bounded .tight) };
-      prepared =
-          subst
-          (λ (j : ℕ). Prepared n l (openIn n marks) (edgesOf (k .from) (k .to) j) c legs′ bound′)
-          (sym (add-one i))
-          (record {
-            each = hand-legs take-hand (openIn n marks) (edgesOf (k .from) (k .to) i) (s .prepared .each) w;
-            least = hand-tightened take-hand bound e ∙ ap (tightened l c u v) (s .prepared .least);
-          });
-    }
+    pub taken-in : {legs′ : List ℕ} {bound′ : ℕ} → Narrowed n rows legs (t .ps) (t .qs) (t .pq) (t .cp) (t .cq) legs′
+        → bound′ ≡ tightenedBy c u v (t .pq) (t .cp) (t .cq) bound → TakenIn n table c u v legs bound legs′ bound′
+    taken-in w e = record { list = w .list; each = λ open? K s. hand-legs take-hand open? K s w; least = hand-tightened take-hand bound e }
 
--- the points of K are places of the array
+module _ {n : ℕ} {table rows marks : List ℕ} {k : EdgeSet} {c : ℕ} {legs : List ℕ} {bound i : ℕ} (s : Taking n table rows marks k c legs bound i) (h : i < k .count) where
+  pub take-edge : TakeAsked n table rows c (getD (k .from) i 0) (getD (k .to) i 0) legs bound
+  take-edge = record {
+    asked = record {
+      lengths = s .asked .legs .lengths;
+      centre = s .asked .legs .centre;
+      from = s .asked .held .points .from-point i h;
+      to = s .asked .held .points .to-point i h;
+    };
+    in-rows = s .asked .in-rows;
+    bounded = s .bounded;
+  }
+
+  pub take-on : {legs′ : List ℕ} {bound′ : ℕ} → TakenIn n table c (getD (k .from) i 0) (getD (k .to) i 0) legs bound legs′ bound′ → Taking n table rows marks k c legs′ bound′ (i + 1)
+  unfolding edgesOf boundOf
+  take-on {legs′} {bound′} w =
+      let u = getD (k .from) i 0 in
+      let v = getD (k .to) i 0 in
+      record {
+        asked = s .asked;
+        within = omega arith;
+        bounded = record { list = w .list; tight = omega (arith, w .least, tightened-le (lengthOf n table) c u v bound, s .bounded .tight) };
+        prepared =
+            subst
+            (λ (j : ℕ). Prepared n (lengthOf n table) (openIn n marks) (edgesOf (k .from) (k .to) j) c legs′ bound′)
+            (sym (add-one i))
+            (record {
+              each = w .each (openIn n marks) (edgesOf (k .from) (k .to) i) (s .prepared .each);
+              least = w .least ∙ ap (tightened (lengthOf n table) c u v) (s .prepared .least);
+            });
+      }
+
 pub take-end : {n : ℕ} {table rows marks : List ℕ} {k : EdgeSet} {c : ℕ} {legs : List ℕ} {bound i : ℕ}
     → Taking n table rows marks k c legs bound i → k .count ≤ i → SplitOf n table marks k c (record { legs = legs; bound = bound })
 unfolding edgeList

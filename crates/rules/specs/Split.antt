@@ -153,7 +153,19 @@ pub record EdgeAsked (n : ℕ) (table : List ℕ) (a b c : ℕ) : Type 0 where
   pub from : Point n a
   pub to : Point n b
 
--- the same, with room for three rows of 181 places
+-- what taking in the edge uv of K is asked about: the same, the rows of the table, and legs and a bound of it
+pub record TakeAsked (n : ℕ) (table rows : List ℕ) (c u v : ℕ) (legs : List ℕ) (bound : ℕ) : Type 0 where
+  pub asked : EdgeAsked n table u v c
+  pub in-rows : Rows n table rows
+  pub bounded : Bounded legs bound
+
+-- what it leaves: where the legs were those of K, they are those of K with uv, and so is the bound
+pub record TakenIn (n : ℕ) (table : List ℕ) (c u v : ℕ) (legs : List ℕ) (bound : ℕ) (left : List ℕ) (r : ℕ) : Type 0 where
+  pub list : LegList left
+  pub each : (open? : ℕ → ℕ → Bool) (K : List Edge) → LegsOf n (lengthOf n table) open? K c legs → LegsOf n (lengthOf n table) open? (edge u v ∷ K) c left
+  pub least : r ≡ tightened (lengthOf n table) c u v bound
+
+-- what writing three rows is asked about: an edge and a point, and room for rows of 181 places
 pub record EdgeRowsAsked (n : ℕ) (table : List ℕ) (a b c : ℕ) (rows : List ℕ) : Type 0 where
   pub asked : EdgeAsked n table a b c
   pub size : length rows ≡ 543

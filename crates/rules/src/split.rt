@@ -10,7 +10,7 @@ ghost use mathlib.Core.Bool.{cond};
 ghost use mathlib.Core.List.{[], _∷_};
 ghost use lib.Dec.{eqb};
 ghost use lib.ListN.{length, getD};
-ghost use Rattle.rules.specs.Split.{narrowedBy, tightenedBy, OpenAsked, OpenFrom, OpenBelow, OpenLegs, Short, NarrowAsked, Narrowed, TriangleAsked, TriangleIn, SingleAsked, SplitAsked, SplitOf, boundOf, EdgeAsked, EdgeRowsAsked, EdgeRows, EdgeTriangle, EdgeLegsAsked, EdgeLegs};
+ghost use Rattle.rules.specs.Split.{TakeAsked, TakenIn, narrowedBy, tightenedBy, OpenAsked, OpenFrom, OpenBelow, OpenLegs, Short, NarrowAsked, Narrowed, TriangleAsked, TriangleIn, SingleAsked, SplitAsked, SplitOf, boundOf, EdgeAsked, EdgeRowsAsked, EdgeRows, EdgeTriangle, EdgeLegsAsked, EdgeLegs};
 ghost use Rattle.lengths.specs.Edge.{edge};
 ghost use Rattle.lengths.specs.Table.{lengthOf};
 
@@ -203,6 +203,31 @@ fn triangle_of(n: u16, rows: &[u32], c: u16, p: u16, q: u16) -> Triangle
     }
 }
 
+// Takes the edge uv of K into the legs, and answers the bound with it: an edge that touches c changes neither.
+fn take_in(
+    n: u16,
+    table: &[u32],
+    rows: &[u32],
+    c: u16,
+    u: u16,
+    v: u16,
+    legs: &mut [u32; Split::PLACES],
+    bound: u32,
+) -> u32
+    requires { ⌜ TakeAsked n (now table) (now rows) c u v (now legs) bound ⌝ }
+    ensures { λ r. ⌜ TakenIn n (now (table .entry)) c u v (now (legs .entry)) bound (now (legs .exit)) r ⌝ }
+{
+    if u == c {
+        return bound;
+    }
+    if v == c {
+        return bound;
+    }
+    let t = triangle_of(n, rows, c, u, v);
+    narrow(n, rows, legs, t.ps, t.qs, t.pq, t.cp, t.cq);
+    tighten(c, u, v, t.pq, t.cp, t.cq, bound)
+}
+
 // What the search looks up for k at c. The table is there to name the lengths: the rows hold them.
 pub fn prepare(n: u16, table: &[u32], rows: &[u32], marks: &[u8], k: EdgeSet, c: u16) -> Split
     requires { ⌜ SplitAsked n (now table) (now rows) (now marks) k c ⌝ }
@@ -216,11 +241,7 @@ pub fn prepare(n: u16, table: &[u32], rows: &[u32], marks: &[u8], k: EdgeSet, c:
     let mut bound = Split::LOOSE;
     let mut i = 0;
     while i < count {
-        let u = from[i];
-        let v = to[i];
-        let t = triangle_of(n, rows, c, u, v);
-        narrow(n, rows, &mut legs, t.ps, t.qs, t.pq, t.cp, t.cq);
-        bound = tighten(c, u, v, t.pq, t.cp, t.cq, bound);
+        bound = take_in(n, table, rows, c, from[i], to[i], &mut legs, bound);
         i += 1;
     }
     Split {

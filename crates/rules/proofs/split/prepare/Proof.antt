@@ -1,7 +1,7 @@
 -- `rules::split::prepare` meets its contract: the invariant is `Taking`, that the legs and the bound are those of the first i edges.
 -- Assumes nothing.
 use Prim.Native.Nat.{_-_}
-use Rattle.rules.proofs.Preparing.{Taking, take-open, take-start, take-asks, take-short, take-narrow, take-on, take-end}
+use Rattle.rules.proofs.Preparing.{Taking, take-open, take-start, take-edge, take-on, take-end}
 use borrow.Author.Needs.{needs}
 use Rattle.rules.proofs.split.prepare.Statement.{statement}
 use Rattle.rules.proofs.split.prepare.Tie as tie
@@ -22,26 +22,20 @@ open-legs-requires c κs = take-open (c .before .before .before .before .before 
 loop-holds : tie.Need-loop-holds Inv-loop μ-loop
 loop-holds c = take-start (c .before .before .before .before .before .before .before .pre) (c .before .row-start .ensures) (c .open-legs .ensures)
 
-mul-u : tie.Need-mul-u Inv-loop μ-loop
-mul-u c = search needs
+mul-take-in : tie.Need-mul-take-in Inv-loop μ-loop
+mul-take-in c = search needs
 
-array-read-u : tie.Need-array-read-u Inv-loop μ-loop
-array-read-u c = search needs
+array-read-take-in : tie.Need-array-read-take-in Inv-loop μ-loop
+array-read-take-in c = search needs
 
-mul-v : tie.Need-mul-v Inv-loop μ-loop
-mul-v c = search needs
+mul-take-in-2 : tie.Need-mul-take-in-2 Inv-loop μ-loop
+mul-take-in-2 c = search needs
 
-array-read-v : tie.Need-array-read-v Inv-loop μ-loop
-array-read-v c = search needs
+array-read-take-in-2 : tie.Need-array-read-take-in-2 Inv-loop μ-loop
+array-read-take-in-2 c = search needs
 
-triangle-of-requires : tie.Need-triangle-of-requires Inv-loop μ-loop
-triangle-of-requires c κs = take-asks (c .before .loop .inv) (c .loop-test .taken)
-
-narrow-requires : tie.Need-narrow-requires Inv-loop μ-loop
-narrow-requires c κs = take-narrow (c .before .before .before .loop .inv) (c .before .before .loop-test .taken) (c .before .triangle-of .ensures)
-
-tighten-requires : tie.Need-tighten-requires Inv-loop μ-loop
-tighten-requires c κs = take-short (c .before .before .before .before .loop .inv) (c .before .before .before .loop-test .taken) (c .before .before .triangle-of .ensures)
+take-in-requires : tie.Need-take-in-requires Inv-loop μ-loop
+take-in-requires c κs = take-edge (c .before .before .loop .inv) (c .before .loop-test .taken)
 
 add-i : tie.Need-add-i Inv-loop μ-loop
 add-i c = search needs
@@ -50,7 +44,7 @@ loop-less : tie.Need-loop-less Inv-loop μ-loop
 loop-less c = search needs
 
 loop-again : tie.Need-loop-again Inv-loop μ-loop
-loop-again c = take-on (c .before .before .before .before .before .loop .inv) (c .before .before .before .before .loop-test .taken) (c .before .before .before .triangle-of .ensures) (c .before .narrow .ensures) (c .tighten .ensures)
+loop-again c = take-on (c .before .before .before .loop .inv) (c .before .before .loop-test .taken) (c .take-in .ensures)
 
 returns : tie.Need-returns Inv-loop μ-loop
 returns c = take-end (c .before .loop .inv) (c .loop-test .left)
@@ -64,13 +58,11 @@ prepare-spec =
     row-start-requires
     open-legs-requires
     loop-holds
-    mul-u
-    array-read-u
-    mul-v
-    array-read-v
-    triangle-of-requires
-    narrow-requires
-    tighten-requires
+    mul-take-in
+    array-read-take-in
+    mul-take-in-2
+    array-read-take-in-2
+    take-in-requires
     add-i
     loop-less
     loop-again
