@@ -13,7 +13,7 @@
  *
  * Both functions accept any buffers of any lengths and any n: faulty input gets a refusal number, the first that applies in the order of
  * the numbers listed at each function. They touch no byte outside the lengths given, allocate nothing, keep no state and always return.
- * They use some 150 KB of stack. Buffers must not overlap `marks` while revosti_mark_sheet runs.
+ * They use some 300 KB of stack. Buffers must not overlap `marks` while revosti_mark_sheet runs.
  *
  * What is proved of them: demands 1 to 3 of README.md. In particular, no edge of a shortest tour is ever struck, whatever sheets are
  * marked from fresh marks over one table, provided that nobody else writes the table or the marks meanwhile.
