@@ -22,7 +22,7 @@ use Rattle.argument.specs.Argument.{Cases, none, pair, Closing, split, crossing
 use Rattle.argument.specs.Line.{strikes, judge}
 use Rattle.argument.specs.Verdict.{accepted}
 use Rattle.argument.proofs.Exact.{line-sound, line-complete}
-use Rattle.marking.specs.Rules.{rulesOf}
+use Rattle.sheets.specs.Rules.{rulesOf}
 use Rattle.demands.specs.Complete.{NamesFeasible, Complete, AllComplete, CompleteLine}
 use Rattle.demands.proofs.Lawful.{lawful}
 

@@ -19,11 +19,11 @@ use Rattle.tours.specs.Tour.{Uses, Shortest, ThreeOptimal}
 use Rattle.tours.proofs.Optimal.{shortest-optimal}
 use Rattle.argument.specs.Sheet.{sheet, run}
 use Rattle.argument.proofs.Safe.{sheet-safe, run-keeps}
+use Rattle.sheets.specs.Rules.{markingOf}
+use Rattle.sheets.specs.Sheets.{wholeSheet}
 use Rattle.marking.specs.Bytes.{whole16, whole32}
 use Rattle.marking.specs.Fresh.{freshAnswer, freshMarks, freshLeft}
 use Rattle.marking.specs.Marking.{markSheet, markTested, turnedDown}
-use Rattle.marking.specs.Rules.{markingOf}
-use Rattle.marking.specs.Sheets.{wholeSheet}
 use Rattle.marking.specs.Tests.{tested}
 use Rattle.marking.proofs.Tested.{passed}
 use Rattle.marking.specs.declared.tests.Tested.{Tested}

@@ -27,7 +27,7 @@ use Rattle.tours.proofs.Neighbours.{at-most-two, tour-no-loop, uses-point}
 use Rattle.tours.proofs.ShortCycle.{no-short-cycle}
 use Rattle.tours.proofs.Optimal.{OwnPair, optimal-feasible, optimal-not-closed}
 use Rattle.argument.specs.Safety.{Upheld, Guarded}
-use Rattle.marking.specs.Rules.{rulesOf, strikeIn, markingOf}
+use Rattle.sheets.specs.Rules.{rulesOf, strikeIn, markingOf}
 use Rattle.demands.proofs.Lawful.{lawful}
 
 -- the tour uses every edge of K

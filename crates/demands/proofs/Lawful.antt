@@ -12,7 +12,7 @@ use Rattle.rules.specs.declared.closing.Crossed.the-variants.{Settled, NoCrossi
 use Rattle.rules.proofs.ClosingExact.{settled-exact}
 use Rattle.rules.proofs.PairLists.{in-feasiblePairs}
 use Rattle.argument.specs.Rules.{Lawful}
-use Rattle.marking.specs.Rules.{rulesOf}
+use Rattle.sheets.specs.Rules.{rulesOf}
 
 module _ (n : ℕ) (table marks : List ℕ) where
   zero-settled : (c : Crossed) → refusalOf c ≡ 0 → c ≡ Settled

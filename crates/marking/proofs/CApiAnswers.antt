@@ -3,10 +3,10 @@ use Prim.Native.Nat.{ℕ, _+_, _*_, _^_, _<_}
 use mathlib.Core.Path.{_≡_}
 use mathlib.Core.Bool.{Bool, true, false}
 use native.Mathlib.Nat.{add-zero, zero-add}
+use Rattle.sheets.specs.declared.verdict.Marked.{Marked}
+use Rattle.sheets.specs.declared.verdict.Verdict.the-variants as verdict
 use Rattle.marking.specs.CApi.{resultNumber, MarkNumber, checkedNumber}
 use Rattle.marking.specs.TourCheck.{Countable}
-use Rattle.marking.specs.declared.verdict.Marked.{Marked}
-use Rattle.marking.specs.declared.verdict.Verdict.the-variants as verdict
 use Rattle.marking.specs.declared.tour.Checked.{Checked}
 use Rattle.marking.specs.declared.tour.Checked.the-variants as checked
 

@@ -14,18 +14,19 @@ use Rattle.lengths.specs.Instance.{inRange}
 use Rattle.lengths.specs.Test.{unless}
 use Rattle.lengths.proofs.Edges.{edgeCount-tri, tri-mono}
 use Rattle.argument.specs.Sheet.{Result}
+use Rattle.sheets.specs.Results.{resultOf}
+use Rattle.sheets.specs.Sheets.{wholeSheet}
+use Rattle.sheets.specs.declared.verdict.Marked.{Marked}
+use Rattle.sheets.proofs.Records.{whole-none, whole-long}
 use Rattle.marking.specs.Bytes.{whole16, whole32, fitting16, fitting32, Decoded}
 use Rattle.marking.specs.CApi.{resultNumber, MarkNumber, MarkedInC, MarkRoom, TableRoom, tourInC, checkedNumber}
-use Rattle.marking.specs.Marking.{markTested, markSheet, resultOf}
-use Rattle.marking.specs.Sheets.{wholeSheet}
+use Rattle.marking.specs.Marking.{markTested, markSheet}
 use Rattle.marking.specs.Tests.{tested}
 use Rattle.marking.specs.TourCheck.{isTour, checkTested, tourChecked}
 use Rattle.marking.specs.declared.tests.Tested.{Tested}
 use Rattle.marking.specs.declared.tests.Tested.the-variants.{Points, Refused}
 use Rattle.marking.specs.declared.tour.Checked.{Checked}
-use Rattle.marking.specs.declared.verdict.Marked.{Marked}
 use Rattle.marking.proofs.BytesDecoded.{TooLong, in16, in32, handed-on}
-use Rattle.marking.proofs.Records.{whole-none, whole-long}
 use Rattle.marking.proofs.Tested.{range-admits, passed}
 use Rattle.marking.proofs.TestWays.{wrong-size}
 

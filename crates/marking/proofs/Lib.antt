@@ -2,14 +2,11 @@ pub mod BytesDecoded
 pub mod CApiAnswers
 pub mod CApiSizes
 pub mod FreshMarks
-pub mod Lining
 pub mod ListingAnswers
 pub mod ListingChoice
 pub mod ListingLoops
 pub mod ListingRows
-pub mod Looking
 pub mod MarkingSheets
-pub mod Records
 pub mod Tested
 pub mod TestWays
 pub mod TourAnswers
@@ -17,4 +14,3 @@ pub mod TourCounts
 pub mod TourExact
 pub mod TourLoops
 pub mod TourSeen
-pub mod Walking

@@ -10,20 +10,21 @@ use lib.ListN.{length}
 use Rattle.lengths.specs.Test.{unless}
 use Rattle.argument.specs.Verdict.{Verdict, refused}
 use Rattle.argument.specs.Sheet.{Result, sheet}
-use Rattle.marking.proofs.Records.{sheet-records, sheet-admitted, sheet-refused}
+use Rattle.sheets.proofs.Records.{sheet-records, sheet-admitted, sheet-refused}
+use Rattle.sheets.specs.Lines.{RowsAsked}
+use Rattle.sheets.specs.Results.{verdictOf, resultOf}
+use Rattle.sheets.specs.Rules.{markingOf}
+use Rattle.sheets.specs.Sheets.{wholeSheet, sheetAdmission}
+use Rattle.sheets.specs.Walks.{Admitted}
+use Rattle.sheets.specs.declared.sheet.Sheet as declared
+use Rattle.sheets.specs.declared.sheet.SheetAdmission.{SheetAdmission}
+use Rattle.sheets.specs.declared.sheet.SheetAdmission.the-variants as admitting
+use Rattle.sheets.specs.declared.verdict.Marked.{Marked}
 use Rattle.marking.proofs.Tested.{passed}
-use Rattle.marking.specs.Lines.{RowsAsked}
-use Rattle.marking.specs.Marking.{turnedDown, markTested, markSheet, verdictOf, resultOf}
-use Rattle.marking.specs.Rules.{markingOf}
-use Rattle.marking.specs.Sheets.{wholeSheet, sheetAdmission}
+use Rattle.marking.specs.Marking.{turnedDown, markTested, markSheet}
 use Rattle.marking.specs.Tests.{tested}
-use Rattle.marking.specs.Walks.{Admitted}
-use Rattle.marking.specs.declared.sheet.Sheet as declared
-use Rattle.marking.specs.declared.sheet.SheetAdmission.{SheetAdmission}
-use Rattle.marking.specs.declared.sheet.SheetAdmission.the-variants as admitting
 use Rattle.marking.specs.declared.tests.Tested.{Tested}
 use Rattle.marking.specs.declared.tests.Tested.the-variants.{Points, Refused}
-use Rattle.marking.specs.declared.verdict.Marked.{Marked}
 
 -- an array for the rows of `most` points has room for those of fewer
 pub rows-room : {n : ℕ} {table rows marks s : List ℕ} (most : ℕ) → Admitted n table marks s → n ≤ most → length rows ≡ (most + 1) * (most + 1) → RowsAsked n table rows marks s

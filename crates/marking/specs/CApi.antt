@@ -6,10 +6,11 @@ use mathlib.Core.List.{List}
 use lib.ListN.{length}
 use Rattle.argument.specs.Verdict.{Verdict, accepted, refused}
 use Rattle.argument.specs.Sheet.{Result}
+use Rattle.sheets.specs.Results.{resultOf}
+use Rattle.sheets.specs.declared.verdict.Marked.{Marked}
 use Rattle.marking.specs.Bytes.{whole16, whole32}
-use Rattle.marking.specs.Marking.{markSheet, resultOf}
+use Rattle.marking.specs.Marking.{markSheet}
 use Rattle.marking.specs.TourCheck.{tourChecked}
-use Rattle.marking.specs.declared.verdict.Marked.{Marked}
 use Rattle.marking.specs.declared.tour.Checked.{Checked}
 use Rattle.marking.specs.declared.tour.Checked.the-variants as checked
 

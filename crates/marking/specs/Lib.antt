@@ -1,11 +1,7 @@
 pub mod Bytes
 pub mod CApi
 pub mod Fresh
-pub mod Lines
 pub mod Listing
 pub mod Marking
-pub mod Rules
-pub mod Sheets
 pub mod Tests
 pub mod TourCheck
-pub mod Walks

@@ -3,16 +3,13 @@ use Prim.Native.Nat.{ℕ}
 use mathlib.Core.List.{List}
 use lib.ListN.{length}
 use Rattle.lengths.specs.Test.{unless}
-use Rattle.argument.specs.Verdict.{Verdict, accepted, refused}
+use Rattle.argument.specs.Verdict.{refused}
 use Rattle.argument.specs.Sheet.{Result, sheet}
-use Rattle.marking.specs.Rules.{markingOf}
-use Rattle.marking.specs.Sheets.{wholeSheet}
+use Rattle.sheets.specs.Rules.{markingOf}
+use Rattle.sheets.specs.Sheets.{wholeSheet}
 use Rattle.marking.specs.Tests.{tested}
 use Rattle.marking.specs.declared.tests.Tested.{Tested}
 use Rattle.marking.specs.declared.tests.Tested.the-variants.{Points, Refused}
-use Rattle.marking.specs.declared.verdict.Marked.{Marked}
-use Rattle.marking.specs.declared.verdict.Verdict as declared
-use Rattle.marking.specs.declared.verdict.Verdict.the-variants as verdict
 
 -- refused before the first line: nothing is marked, and no record is at fault
 abbrev pub turnedDown : ℕ → List ℕ → Result (List ℕ)
@@ -25,11 +22,3 @@ markTested (Points n) table marks s = unless (wholeSheet (length s)) (turnedDown
 -- what marking a sheet answers, and the marks that it leaves
 unfoldable pub markSheet : ℕ → List ℕ → List ℕ → List ℕ → Result (List ℕ)
 markSheet n table marks s = markTested (tested n table marks) table marks s
-
--- the declared verdict as 01's: the number and the record of a refusal
-abbrev pub verdictOf : declared.Verdict → Verdict (Unit {0})
-verdictOf verdict.Accepted = accepted tt
-verdictOf (verdict.Refused number rec) = refused number rec
-
-abbrev pub resultOf : Marked → List ℕ → Result (List ℕ)
-resultOf m marks = record { marks = marks; lines = m .lines; verdict = verdictOf (m .verdict) }

@@ -1,8 +1,6 @@
 // The operation "list pairs": the feasible pairs of K = {ab} at c.
-use crate::sheet::Closing;
 use crate::tests::Tested;
 use crate::tests::test_instance;
-use crate::walk::points_fit;
 use lengths::edge;
 use lengths::instance::Instance;
 use lengths::refusal;
@@ -16,6 +14,8 @@ use rules::pairs::next_pair;
 use rules::split::Split;
 use rules::split::prepare_single;
 use rules::ways::ways_beyond;
+use sheets::sheet::Closing;
+use sheets::walk::points_fit;
 ghost use mathlib.Core.Bool.{_&&_, not};
 ghost use mathlib.Core.Path.{_≡_};
 ghost use mathlib.Core.List.{_++_};

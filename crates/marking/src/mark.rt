@@ -1,21 +1,22 @@
 // The operation "mark a sheet".
-use crate::line::mark_lines;
-use crate::sheet::Sheet;
-use crate::sheet::SheetAdmission;
 use crate::tests::Tested;
 use crate::tests::test_instance;
-use crate::verdict::Marked;
-use crate::verdict::Verdict;
 use lengths::refusal;
 use lengths::rows::fill_rows;
+use sheets::line::mark_lines;
+use sheets::sheet::Sheet;
+use sheets::sheet::SheetAdmission;
+use sheets::verdict::Marked;
+use sheets::verdict::Verdict;
 ghost use mathlib.Core.Path.{_≡_};
 ghost use Prim.Native.Nat.{_≤_};
 ghost use Rattle.argument.specs.Sheet as lines;
 ghost use Rattle.argument.specs.Verdict.{refused};
-ghost use Rattle.marking.specs.Lines.{RowsAsked};
-ghost use Rattle.marking.specs.Marking.{markSheet, resultOf, verdictOf};
-ghost use Rattle.marking.specs.Rules.{markingOf};
-ghost use Rattle.marking.specs.Walks.{Admitted};
+ghost use Rattle.sheets.specs.Lines.{RowsAsked};
+ghost use Rattle.sheets.specs.Results.{resultOf, verdictOf};
+ghost use Rattle.sheets.specs.Rules.{markingOf};
+ghost use Rattle.sheets.specs.Walks.{Admitted};
+ghost use Rattle.marking.specs.Marking.{markSheet};
 
 // Up to so many points the rows of lengths stand in a small array: to clear a large one takes longer than to mark a short sheet.
 const FEW_POINTS: u16 = 60;

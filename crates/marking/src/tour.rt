@@ -1,10 +1,10 @@
 // The operation "check a tour".
 use crate::tests::Tested;
 use crate::tests::test_instance;
-use crate::walk::is_point;
 use lengths::refusal;
 use lengths::table::length_between;
 use rules::marks::is_open;
+use sheets::walk::is_point;
 ghost use mathlib.Core.Path.{_≡_};
 ghost use Prim.Native.Nat.{_≤_};
 ghost use Rattle.lengths.specs.Table.{lengthOf};

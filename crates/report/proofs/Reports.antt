@@ -7,9 +7,9 @@ use lib.ListN.{length, take, length-take}
 use lib.Seq.{length-take-le}
 use Rattle.lengths.specs.Edge.{edgeCount}
 use Rattle.lengths.proofs.Instances.{in-range}
-use Rattle.marking.specs.Marking.{verdictOf}
-use Rattle.marking.specs.declared.verdict.Verdict.{Verdict}
-use Rattle.marking.specs.declared.verdict.Verdict.the-variants.{Accepted, Refused}
+use Rattle.sheets.specs.Results.{verdictOf}
+use Rattle.sheets.specs.declared.verdict.Verdict.{Verdict}
+use Rattle.sheets.specs.declared.verdict.Verdict.the-variants.{Accepted, Refused}
 use Rattle.report.specs.Text.{Wrote}
 use Rattle.report.specs.Lines.{allLines, LinesAsked}
 use Rattle.report.specs.Input.{headerOf}

@@ -11,15 +11,16 @@ use borrow.Author.Tests.{eq-eqb, le-leb, lt-leb, leb-false}
 use Rattle.lengths.specs.Edge.{edgeCount}
 use Rattle.lengths.specs.Instance.{inRange}
 use Rattle.argument.specs.Sheet.{Result}
+use Rattle.sheets.specs.Results.{resultOf, verdictOf}
+use Rattle.sheets.specs.Sheets.{wholeSheet}
+use Rattle.sheets.specs.declared.verdict.Marked.{Marked}
 use Rattle.marking.specs.Bytes.{numbers16, numbers32, whole16, whole32, fitting16, fitting32, Decoded}
 use Rattle.marking.specs.Fresh.{freshAnswer, freshMarks, FreshAs}
-use Rattle.marking.specs.Marking.{markSheet, markTested, resultOf, verdictOf}
-use Rattle.marking.specs.Sheets.{wholeSheet}
+use Rattle.marking.specs.Marking.{markSheet, markTested}
 use Rattle.marking.specs.Tests.{tested}
 use Rattle.marking.specs.declared.tests.Tested.{Tested}
 use Rattle.marking.specs.declared.tests.Tested.the-variants as tests
 use Rattle.marking.specs.declared.fresh.Fresh.{Fresh}
-use Rattle.marking.specs.declared.verdict.Marked.{Marked}
 use Rattle.report.specs.Text.{Wrote}
 use Rattle.report.specs.Input.{coordinatesIn}
 use Rattle.report.specs.Output.{linesFor, markedText}

@@ -1,11 +1,11 @@
 // "Mark a sheet": accepted arguments, the refusals of a case, 13 to 16, and their order.
 use crate::fixtures;
-use crate::sheets::mark_part;
-use crate::sheets::one;
-use crate::sheets::put;
-use crate::sheets::square;
-use crate::sheets::square_made;
-use crate::sheets::under;
+use crate::sheet_checks::mark_part;
+use crate::sheet_checks::one;
+use crate::sheet_checks::put;
+use crate::sheet_checks::square;
+use crate::sheet_checks::square_made;
+use crate::sheet_checks::under;
 use answers::tally::Tally;
 use answers::tally::subject;
 use answers::tally::text;

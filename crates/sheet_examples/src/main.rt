@@ -2,12 +2,12 @@
 mod cases;
 mod fixtures;
 mod records;
-mod sheets;
+mod sheet_checks;
 
 use answers::tally::Tally;
 
 fn main() {
-    let t = sheets::run(Tally::new());
+    let t = sheet_checks::run(Tally::new());
     let t = records::run(t);
     let t = cases::run(t);
     t.print();

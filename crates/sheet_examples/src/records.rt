@@ -1,11 +1,11 @@
 // "Mark a sheet": the refusals of an index and of a record, 8 to 12, and their order.
 // On the square nothing stands for 1-3 at 2, (1,4) and (2,4) stand for 1-2 at 3, and nothing stands at 2 once (1,4) is added.
-use crate::sheets::given;
-use crate::sheets::one;
-use crate::sheets::put;
-use crate::sheets::square_made;
-use crate::sheets::square_struck;
-use crate::sheets::under;
+use crate::sheet_checks::given;
+use crate::sheet_checks::one;
+use crate::sheet_checks::put;
+use crate::sheet_checks::square_made;
+use crate::sheet_checks::square_struck;
+use crate::sheet_checks::under;
 use answers::tally::Tally;
 use answers::tally::subject;
 

@@ -1,0 +1,4 @@
+pub mod Lining
+pub mod Looking
+pub mod Records
+pub mod Walking

@@ -1,0 +1,193 @@
+-- One line in code, judged and then marked, and the lines of a sheet one after another: one lemma for each way out of `judgeRecord`,
+-- `judge`, `turn` and `linesFrom`. Assumes nothing.
+use Prim.Native.Nat.{ℕ, suc, _+_, _-_, _≤_, _<_}
+use mathlib.Core.Path.{_≡_, refl, sym, _∙_, ap}
+use mathlib.Core.Bool.{Bool, true, false}
+use mathlib.Core.List.{List, [], _∷_}
+use native.Mathlib.Numerals.{add-one}
+use native.Mathlib.Omega.{arith}
+use lib.ListN.{length}
+use Rattle.lengths.specs.Edge.{Edge, edge}
+use Rattle.rules.specs.Mark.{openIn}
+use Rattle.rules.specs.Mark as mark
+use Rattle.rules.specs.Stored.{edgeList, Single}
+use Rattle.rules.specs.declared.edge_set.EdgeSet.{EdgeSet}
+use Rattle.argument.specs.Verdict.{Verdict, accepted, refused, andThen}
+use Rattle.argument.specs.Record.{splits, line, records, recordAt, fits}
+use Rattle.argument.specs.Layout.{Enters}
+use Rattle.argument.specs.Rules.{Rules}
+use Rattle.argument.specs.Argument.{splitLimit}
+use Rattle.argument.specs.Walk.{opening, walk}
+use Rattle.argument.specs.Line.{Struck, strikes, judgeRecord, judge}
+use Rattle.argument.specs.Sheet.{Place, onward, struck, turn, answer, linesFrom, start, sheet}
+use Rattle.argument.proofs.Verdicts.{pass-guard, fail-guard}
+use Rattle.argument.proofs.Tests.{fits-means}
+use Rattle.argument.proofs.Equations.{close-splits, judged}
+use Rattle.argument.proofs.Sheet.{turn-over, turn-8, turn-9, turn-stops, turn-strikes, turn-rises, lines-over, lines-stop, lines-go-on}
+use Rattle.sheets.specs.Lines.{LineAsked, TurnedAs, judgedOf, placeOf, turnedOf, marksAfter}
+use Rattle.sheets.specs.Results.{resultOf}
+use Rattle.sheets.specs.Rules.{rulesOf, markingOf, strikeIn}
+use Rattle.sheets.specs.Sheets.{recordOf}
+use Rattle.sheets.specs.Walks.{walkedOf, Tried, ChainAsked}
+use Rattle.sheets.specs.declared.line.Judged.{Judged}
+use Rattle.sheets.specs.declared.line.Judged.the-variants as judging
+use Rattle.sheets.specs.declared.line.Turned.{Turned}
+use Rattle.sheets.specs.declared.line.Turned.the-variants as turned
+use Rattle.sheets.specs.declared.sheet.Case.{Case}
+use Rattle.sheets.specs.declared.sheet.Line.{Line}
+use Rattle.sheets.specs.declared.sheet.Record as declared
+use Rattle.sheets.specs.declared.sheet.Record.the-variants as variant
+use Rattle.sheets.specs.declared.verdict.Verdict.the-variants as verdict
+use Rattle.sheets.specs.declared.walk.Walked.{Walked}
+use Rattle.sheets.specs.declared.walk.Walked.the-variants as walked
+
+-- a line that was read
+
+module _ (R : Rules) (open? : ℕ → ℕ → Bool) (s : List ℕ) (i a b c first next : ℕ) where
+  pub line-misfit : fits (R .n) a b (splits c first) ≡ false → refused 11 i ≡ judgeRecord R open? s i (line a b c first next)
+  unfolding judgeRecord
+  line-misfit f = sym (fail-guard _ 11 i _ f)
+
+  module _ (f : fits (R .n) a b (splits c first) ≡ true) where
+    pub line-struck : open? a b ≡ false → refused 12 i ≡ judgeRecord R open? s i (line a b c first next)
+    unfolding judgeRecord
+    line-struck o = sym (pass-guard _ 11 i _ f ∙ fail-guard _ 12 i _ o)
+
+    module _ (o : open? a b ≡ true) {k : EdgeSet} (one : Single a b k) {v : Walked} (z : walkedOf v ≡ walk R s (opening R splitLimit (edgeList k) i c first)) where
+      line-walks : {v′ : Walked} → v ≡ v′ → judgeRecord R open? s i (line a b c first next) ≡ andThen (walkedOf v′) λ high. accepted (strikes a b next high)
+      unfolding judgeRecord
+      line-walks g =
+          pass-guard _ 11 i _ f ∙ pass-guard _ 12 i _ o ∙ ap (λ (w : Verdict ℕ). andThen w (λ high. accepted (strikes a b next high)))
+          (close-splits R s splitLimit (edge a b ∷ []) i c first (omega arith) ∙ ap (λ (K : List Edge). walk R s (opening R splitLimit K i c first)) (sym (one .edges)) ∙ sym z ∙ ap walkedOf g)
+
+      pub line-strikes : {high : ℕ} → v ≡ walked.Closed high → accepted (strikes a b next high) ≡ judgeRecord R open? s i (line a b c first next)
+      unfolding andThen
+      line-strikes g = sym (line-walks g)
+
+      pub line-stops : {m r : ℕ} → v ≡ walked.Refused m r → refused m r ≡ judgeRecord R open? s i (line a b c first next)
+      unfolding andThen
+      line-stops g = sym (line-walks g)
+
+module _ {n : ℕ} {table rows marks s : List ℕ} {i : ℕ} (asked : LineAsked n table rows marks s i) (a b c first : ℕ) (f : fits n a b (splits c first) ≡ true) where
+  pub line-marked : mark.Marked n marks a b
+  line-marked =
+      let t = fits-means n a b (splits c first) f in
+      record { is-edge = record { first = t .point-a; second = t .point-b; apart = t .apart }; whole = asked .tried .admitted .marked }
+
+  -- the first split: five more may lie inside it
+  pub line-chain : {k : EdgeSet} → Single a b k → ChainAsked n table rows marks s k 5 c
+  line-chain one =
+      let t = fits-means n a b (splits c first) f in
+      record { tried = asked .tried; held = one .held n (t .point-a) (t .point-b); room = omega (arith, one .one); centre = t .how-fits }
+
+-- the record of a line, by the declared record that was read
+
+module _ (R : Rules) (open? : ℕ → ℕ → Bool) (s : List ℕ) (i : ℕ) {r : declared.Record} (e : recordOf r ≡ recordAt s i) where
+  judge-read : {x : declared.Record} → r ≡ x → judge R open? s i ≡ judgeRecord R open? s i (recordOf x)
+  unfolding judge
+  judge-read g = ap (judgeRecord R open? s i) (sym e ∙ ap recordOf g)
+
+  pub judge-line : {x : Line} {v : Verdict Struck} → r ≡ variant.Line x → v ≡ judgeRecord R open? s i (recordOf (variant.Line x)) → v ≡ judge R open? s i
+  judge-line g z = z ∙ sym (judge-read g)
+
+  pub judge-case : {x : Case} → r ≡ variant.Case x → refused 10 i ≡ judge R open? s i
+  unfolding judgeRecord
+  judge-case g = sym (judge-read g)
+
+  pub judge-other : r ≡ variant.Other → refused 10 i ≡ judge R open? s i
+  unfolding judgeRecord
+  judge-other g = sym (judge-read g)
+
+-- one line from an index
+
+module _ (n : ℕ) (table marks s : List ℕ) (last index high : ℕ) where
+  abbrev at : ℕ → Place (List ℕ)
+  at lines = placeOf marks lines last index high
+
+  turned-as : (r : Turned) (left : List ℕ) → ((lines : ℕ) → turn (markingOf n table) s (at lines) ≡ turnedOf (at lines) r left) → ((lines : ℕ) → left ≡ marksAfter (at lines) (turnedOf (at lines) r left)) → TurnedAs n table marks s last index high r left
+  turned-as r left t m = record { answered = λ lines. sym (t lines); marks-left = λ lines. m lines ∙ ap (marksAfter (at lines)) (sym (t lines)) }
+
+  pub mark-over : index ≡ 0 → TurnedAs n table marks s last index high turned.Over marks
+  mark-over e = turned-as turned.Over marks (λ lines. turn-over (markingOf n table) s (at lines) e) (λ lines. refl)
+
+  pub mark-above : records s < index → TurnedAs n table marks s last index high (turned.Refused 8 last) marks
+  mark-above h = turned-as (turned.Refused 8 last) marks (λ lines. turn-8 (markingOf n table) s (at lines) h) (λ lines. refl)
+
+  pub mark-low : (index ≡ 0 → ⊥) → index ≤ records s → index ≤ high → TurnedAs n table marks s last index high (turned.Refused 9 last) marks
+  mark-low z h l = turned-as (turned.Refused 9 last) marks (λ lines. turn-9 (markingOf n table) s (at lines) z h l) (λ lines. refl)
+
+  module _ (h : Enters s high index) {v : Judged} (z : judgedOf v ≡ judge (rulesOf n table marks) (openIn n marks) s index) where
+    judges : {v′ : Judged} → v ≡ v′ → judge (rulesOf n table marks) (openIn n marks) s index ≡ judgedOf v′
+    judges g = sym z ∙ ap judgedOf g
+
+    pub mark-stops : {m r : ℕ} → v ≡ judging.Refused m r → TurnedAs n table marks s last index high (turned.Refused m r) marks
+    mark-stops {m} {r} g = turned-as (turned.Refused m r) marks (λ lines. turn-stops (markingOf n table) s (at lines) h m r (judges g)) (λ lines. refl)
+
+    pub mark-strikes : {a b next reached : ℕ} {left : List ℕ} → v ≡ judging.Strikes a b next reached → left ≡ strikeIn n marks a b → TurnedAs n table marks s last index high (turned.Struck next reached) left
+    unfolding struck
+    mark-strikes {a} {b} {next} {reached} {left} g e =
+        turned-as (turned.Struck next reached) left (λ lines.
+        turn-strikes (markingOf n table) s (at lines) h (strikes a b next reached) (judges g) ∙ ap (λ (m : List ℕ). accepted (onward (placeOf m (suc lines) index next reached))) (sym e))
+        (λ lines. refl)
+
+-- an accepted line strikes an edge
+pub mark-marked : {n : ℕ} {table rows marks s : List ℕ} → Tried n table rows marks s → (index : ℕ) {v : Judged} {a b next reached : ℕ} → judgedOf v ≡ judge (rulesOf n table marks) (openIn n marks) s index → v ≡ judging.Strikes a b next reached → mark.Marked n marks a b
+mark-marked {n} {table} {rows} {marks} {s} t index {v} {a} {b} {next} {reached} z g =
+    let l = judged (rulesOf n table marks) (openIn n marks) s index a b next reached (sym z ∙ ap judgedOf g) .at-line in
+    record { is-edge = record { first = l .point-a; second = l .point-b; apart = l .apart }; whole = t .admitted .marked }
+
+-- the lines of a sheet
+
+-- the loop's invariant: the lines from here are the lines of the sheet
+pub record Proceeding (n : ℕ) (table rows marks₀ s marks : List ℕ) (lines last index high : ℕ) : Type 0 where
+  pub tried : Tried n table rows marks s
+  pub kept : length marks ≡ length marks₀
+  pub counted : lines ≤ high
+  pub goes : linesFrom (markingOf n table) s (placeOf marks lines last index high) ≡ sheet (markingOf n table) s marks₀
+
+pub lines-start : {n : ℕ} {table rows marks s : List ℕ} → Tried n table rows marks s → Proceeding n table rows marks s marks 0 0 1 0
+unfolding sheet start
+lines-start t = record { tried = t; kept = refl; counted = omega arith; goes = refl }
+
+module _ {n : ℕ} {table rows marks₀ s marks : List ℕ} {lines last index high : ℕ} (p : Proceeding n table rows marks₀ s marks lines last index high) {r : Turned} {left : List ℕ} (t : TurnedAs n table marks s last index high r left) where
+  abbrev here : Place (List ℕ)
+  here = placeOf marks lines last index high
+
+  turns : {r′ : Turned} → r ≡ r′ → turn (markingOf n table) s here ≡ turnedOf here r′ left
+  turns g = sym (t .answered lines) ∙ ap (λ (x : Turned). turnedOf here x left) g
+
+  leaves : {r′ : Turned} → r ≡ r′ → left ≡ marksAfter here (turnedOf here r′ left)
+  leaves g = t .marks-left lines ∙ ap (marksAfter here) (turns g)
+
+  pub lines-accepted : r ≡ turned.Over → resultOf (record { verdict = verdict.Accepted; lines = lines }) left ≡ sheet (markingOf n table) s marks₀
+  unfolding answer
+  lines-accepted g =
+      ap (λ (m : List ℕ). resultOf (record { verdict = verdict.Accepted; lines = lines }) m) (leaves g)
+      ∙ sym (lines-over (markingOf n table) s here (turns g))
+      ∙ p .goes
+
+  pub lines-refused : {m i : ℕ} → r ≡ turned.Refused m i → resultOf (record { verdict = verdict.Refused m i; lines = lines }) left ≡ sheet (markingOf n table) s marks₀
+  unfolding answer
+  lines-refused {m} {i} g =
+      ap (λ (x : List ℕ). resultOf (record { verdict = verdict.Refused m i; lines = lines }) x) (leaves g)
+      ∙ sym (lines-stop (markingOf n table) s here m i (turns g))
+      ∙ p .goes
+
+  module _ {next reached : ℕ} (g : r ≡ turned.Struck next reached) where
+    risen : Enters s high index × (index ≤ reached)
+    risen = turn-rises (markingOf n table) s here (placeOf left (suc lines) index next reached) (turns g)
+
+    pub lines-few : lines + 1 ≤ 4000
+    lines-few = omega (arith, risen .0, p .tried .admitted .few, p .counted)
+
+    pub lines-fall : records s - reached < records s - high
+    lines-fall = omega (arith, risen .0, risen .1)
+
+    pub lines-on : length left ≡ length marks → Proceeding n table rows marks₀ s left (lines + 1) index next reached
+    lines-on e =
+        record {
+          tried = let a = p .tried .admitted in record { admitted = record { least = a .least; lengths = a .lengths; marked = e ∙ a .marked; whole = a .whole; few = a .few }; in-rows = p .tried .in-rows };
+          kept = e ∙ p .kept;
+          counted = omega (arith, risen .0, risen .1, p .counted);
+          goes = ap (λ (m : ℕ). linesFrom (markingOf n table) s (placeOf left m index next reached)) (add-one lines) ∙ sym (lines-go-on (markingOf n table) s here (placeOf left (suc lines) index next reached) (turns g)) ∙ p .goes;
+        }

@@ -1,0 +1,179 @@
+-- One step of a chain in code: the tests of points, the reading of a case, and the look at an index, each with one lemma for each way
+-- out. A look asks the rules for the number of points only, and a spot for its first pair only (`look-heads`). Assumes nothing.
+use Prim.Native.Nat.{ℕ, _≤_, _<_}
+use mathlib.Core.Path.{_≡_, refl, sym, _∙_, ap, ap₂}
+use mathlib.Core.Bool.{Bool, true, false, not, _&&_}
+use mathlib.Core.List.{List, [], _∷_}
+use lib.Dec.{leb, eqb}
+use borrow.Author.Tests.{lt-leb, le-leb, eq-eqb, ne-eqb}
+use Rattle.lengths.specs.Edge.{Edge, edge}
+use Rattle.rules.specs.NextPair.{firstOf}
+use Rattle.rules.specs.declared.pairs.NextPair.{NextPair}
+use Rattle.rules.specs.declared.pairs.NextPair.the-variants.{Pair, End}
+use Rattle.argument.specs.Verdict.{Verdict, accepted, refused, guard}
+use Rattle.argument.specs.Record.{How, Record, line, case, other, recordAt, isPoint, howFits, fits}
+use Rattle.argument.specs.Rules.{Rules}
+use Rattle.argument.specs.Walk.{Spot, Step, ends, takes, entering, noneLeft, isNext, readCase, look}
+use Rattle.argument.specs.Layout.{Enters}
+use Rattle.argument.proofs.Verdicts.{pass-guard, fail-guard}
+use Rattle.argument.proofs.Tests.{both}
+use Rattle.argument.proofs.Steps.{look-entered}
+use Rattle.sheets.specs.Sheets.{howOf, recordOf}
+use Rattle.sheets.specs.Walks.{pointsOnly, pairsOf, spotOf}
+use Rattle.sheets.specs.declared.sheet.Closing.{Closing}
+use Rattle.sheets.specs.declared.sheet.Closing.the-variants.{Split, Crossing}
+use Rattle.sheets.specs.declared.sheet.Case.{Case}
+use Rattle.sheets.specs.declared.sheet.Line.{Line}
+use Rattle.sheets.specs.declared.sheet.Record as declared
+use Rattle.sheets.specs.declared.sheet.Record.the-variants as variant
+
+-- tests one after another
+
+and-stop : {a : Bool} (b : Bool) → a ≡ false → false ≡ (a && b)
+and-stop b e = rw e
+
+and-go : {a b r : Bool} → a ≡ true → r ≡ b → r ≡ (a && b)
+and-go e h = rw (e, h)
+
+-- points
+
+pub point-zero : (n a : ℕ) → a < 1 → false ≡ isPoint n a
+unfolding isPoint
+point-zero n a h = and-stop _ (lt-leb 1 a h)
+
+pub point-above : (n a : ℕ) → 1 ≤ a → leb a n ≡ isPoint n a
+unfolding isPoint
+point-above n a h = and-go (le-leb 1 a h) refl
+
+pub split-fits : (n : ℕ) {closing : Closing} {c first : ℕ} → closing ≡ Split c first → isPoint n c ≡ howFits n (howOf closing)
+unfolding howFits
+split-fits n e = rw e
+
+module _ (n : ℕ) {closing : Closing} {p q r s : ℕ} (e : closing ≡ Crossing p q r s) where
+  crossing-is : howFits n (howOf closing) ≡ (isPoint n p && (isPoint n q && (isPoint n r && isPoint n s)))
+  unfolding howFits
+  crossing-is = rw e
+
+  pub crossing-p : isPoint n p ≡ false → false ≡ howFits n (howOf closing)
+  crossing-p h = and-stop _ h ∙ sym crossing-is
+
+  pub crossing-q : isPoint n p ≡ true → isPoint n q ≡ false → false ≡ howFits n (howOf closing)
+  crossing-q hp h = and-go hp (and-stop _ h) ∙ sym crossing-is
+
+  pub crossing-r : isPoint n p ≡ true → isPoint n q ≡ true → isPoint n r ≡ false → false ≡ howFits n (howOf closing)
+  crossing-r hp hq h = and-go hp (and-go hq (and-stop _ h)) ∙ sym crossing-is
+
+  pub crossing-s : isPoint n p ≡ true → isPoint n q ≡ true → isPoint n r ≡ true → isPoint n s ≡ howFits n (howOf closing)
+  crossing-s hp hq hr = and-go hp (and-go hq (and-go hr refl)) ∙ sym crossing-is
+
+module _ (n a b : ℕ) (how : How) where
+  pub fits-not-a : isPoint n a ≡ false → false ≡ fits n a b how
+  unfolding fits
+  fits-not-a h = and-stop _ h
+
+  pub fits-not-b : isPoint n a ≡ true → isPoint n b ≡ false → false ≡ fits n a b how
+  unfolding fits
+  fits-not-b ha h = and-go ha (and-stop _ h)
+
+  pub fits-not-apart : isPoint n a ≡ true → isPoint n b ≡ true → a ≡ b → false ≡ fits n a b how
+  unfolding fits
+  fits-not-apart ha hb h = and-go ha (and-go hb (and-stop _ (ap not (eq-eqb a b h))))
+
+  pub fits-how : isPoint n a ≡ true → isPoint n b ≡ true → (a ≡ b → ⊥) → howFits n how ≡ fits n a b how
+  unfolding fits
+  fits-how ha hb h = and-go ha (and-go hb (and-go (ap not (ne-eqb a b h)) refl))
+
+pub closing-fits : (n a b : ℕ) (how : How) → fits n a b how ≡ true → howFits n how ≡ true
+unfolding fits
+closing-fits n a b how e =
+    let h = both (isPoint n a) _ e in
+    let k = both (isPoint n b) _ (h .1) in
+    both (not (eqb a b)) _ (k .1) .1
+
+-- the next pair
+
+pub no-pair : {next : NextPair} (a b : ℕ) → next ≡ End → isNext (pairsOf next) a b ≡ false
+unfolding isNext
+no-pair a b e = rw e
+
+pub other-x : {next : NextPair} {x y : ℕ} (a b : ℕ) → next ≡ Pair x y → (x ≡ a → ⊥) → isNext (pairsOf next) a b ≡ false
+unfolding isNext
+other-x {next} {x} {y} a b e h = rw e (sym (and-stop _ (ne-eqb x a h)))
+
+pub other-y : {next : NextPair} {x y : ℕ} (a b : ℕ) → next ≡ Pair x y → x ≡ a → (y ≡ b → ⊥) → isNext (pairsOf next) a b ≡ false
+unfolding isNext
+other-y {next} {x} {y} a b e g h = rw e (sym (and-go (eq-eqb x a g) (sym (ne-eqb y b h))))
+
+pub same-pair : {next : NextPair} {x y : ℕ} (a b : ℕ) → next ≡ Pair x y → x ≡ a → y ≡ b → isNext (pairsOf next) a b ≡ true
+unfolding isNext
+same-pair {next} {x} {y} a b e g h = rw e (sym (and-go (eq-eqb x a g) (sym (eq-eqb y b h))))
+
+pub none-at-end : {next : NextPair} → next ≡ End → noneLeft (pairsOf next) ≡ true
+unfolding noneLeft
+none-at-end e = rw e
+
+pub some-at-pair : {next : NextPair} {x y : ℕ} → next ≡ Pair x y → noneLeft (pairsOf next) ≡ false
+unfolding noneLeft
+some-at-pair e = rw e
+
+-- a case that was read
+
+module _ (R : Rules) (q : Spot) (a b : ℕ) (how : How) (next : ℕ) where
+  pub read-misfit : fits (R .n) a b how ≡ false → refused 11 (q .index) ≡ readCase R q (case a b how next)
+  unfolding readCase
+  read-misfit f = sym (fail-guard _ 11 (q .index) _ f)
+
+  pub read-other : fits (R .n) a b how ≡ true → isNext (q .pairs) a b ≡ false → refused 14 (q .index) ≡ readCase R q (case a b how next)
+  unfolding readCase
+  read-other f h = sym (pass-guard _ 11 (q .index) _ f ∙ fail-guard _ 14 (q .index) _ h)
+
+  pub read-takes : fits (R .n) a b how ≡ true → isNext (q .pairs) a b ≡ true → accepted (takes a b how next) ≡ readCase R q (case a b how next)
+  unfolding readCase
+  read-takes f h = sym (pass-guard _ 11 (q .index) _ f ∙ pass-guard _ 14 (q .index) _ h)
+
+-- a look at rules and a spot is a look at the number of points and the first pair
+
+abbrev spot : (left : ℕ) (K : List Edge) (c : ℕ) (pairs : List Edge) (last index high : ℕ) → Spot
+spot left K c pairs last index high = record { left = left; known = K; point = c; pairs = pairs; last = last; index = index; high = high }
+
+module _ (R : Rules) (s : List ℕ) (left : ℕ) (K : List Edge) (c : ℕ) where
+  heads-none : (pairs : List Edge) → noneLeft pairs ≡ noneLeft (pairsOf (firstOf pairs))
+  unfolding noneLeft firstOf
+  heads-none [] = refl
+  heads-none (edge x y ∷ es) = refl
+
+  heads-next : (pairs : List Edge) (a b : ℕ) → isNext pairs a b ≡ isNext (pairsOf (firstOf pairs)) a b
+  unfolding isNext firstOf
+  heads-next [] a b = refl
+  heads-next (edge x y ∷ es) a b = refl
+
+  heads-read : (pairs : List Edge) (last index high : ℕ) (r : Record) → readCase R (spot left K c pairs last index high) r ≡ readCase (pointsOnly (R .n)) (spotOf (firstOf pairs) last index high) r
+  unfolding readCase
+  heads-read pairs last index high (line a b p first next) = refl
+  heads-read pairs last index high (case a b how next) = ap (λ (t : Bool). guard (fits (R .n) a b how) 11 index λ _. guard t 14 index λ _. accepted (takes a b how next)) (heads-next pairs a b)
+  heads-read pairs last index high other = refl
+
+  pub look-heads : (pairs : List Edge) (last index high : ℕ) → look R s (spot left K c pairs last index high) ≡ look (pointsOnly (R .n)) s (spotOf (firstOf pairs) last index high)
+  unfolding look
+  look-heads pairs last index high =
+      ap₂ (λ (t : Bool) (v : Verdict Step). elim (eqb index 0) [
+        | true ↦ guard t 14 last λ _. accepted ends
+        | false ↦ entering s last high index λ _. v
+      ]) (heads-none pairs) (heads-read pairs last index high (recordAt s index))
+
+-- an index that is entered: what the record there is, by the declared record that was read
+
+module _ (R : Rules) (s : List ℕ) (q : Spot) (h : Enters s (q .high) (q .index)) {r : declared.Record} (e : recordOf r ≡ recordAt s (q .index)) where
+  look-read : {x : declared.Record} → r ≡ x → look R s q ≡ readCase R q (recordOf x)
+  look-read {x} g = look-entered R s q h ∙ ap (readCase R q) (sym e ∙ ap recordOf g)
+
+  pub look-case : {x : Case} {v : Verdict Step} → r ≡ variant.Case x → v ≡ readCase R q (recordOf (variant.Case x)) → v ≡ look R s q
+  look-case g z = z ∙ sym (look-read g)
+
+  pub look-line : {x : Line} → r ≡ variant.Line x → refused 10 (q .index) ≡ look R s q
+  unfolding readCase
+  look-line g = sym (look-read g)
+
+  pub look-other : r ≡ variant.Other → refused 10 (q .index) ≡ look R s q
+  unfolding readCase
+  look-other g = sym (look-read g)

@@ -1,0 +1,221 @@
+-- The chain of a split and the closing of a case, in code. A chain's loop stands at the spot whose pairs are the feasible ones after the
+-- last pair taken, and `Following` says that the walk from there is the walk from the chain's opening; there is one lemma for each way
+-- on and each way out. Assumes nothing.
+use Prim.Native.Nat.{ℕ, suc, _-_, _≤_, _<_}
+use mathlib.Core.Path.{_≡_, sym, _∙_, ap, ap₂}
+use mathlib.Core.Bool.{true}
+use mathlib.Core.List.{List}
+use native.Mathlib.Omega.{arith}
+use Rattle.lengths.specs.Edge.{Edge, edge}
+use Rattle.lengths.specs.Table.{lengthOf}
+use Rattle.rules.specs.Mark.{openIn}
+use Rattle.rules.specs.Pair.{withPair}
+use Rattle.rules.specs.Pairs.{feasibleAfter}
+use Rattle.rules.specs.Near.{neighbours}
+use Rattle.rules.specs.Nearby.{NearbyOf}
+use Rattle.rules.specs.NextPair.{Searchable, Next}
+use Rattle.rules.specs.Split.{Bounded, Prepared, SplitAsked, SplitOf}
+use Rattle.rules.specs.Stored.{edgeList, Added}
+use Rattle.rules.specs.Ways.{Scouted, Ways}
+use Rattle.rules.specs.ClosingTest.{crossedBy, refusalOf, Crossable}
+use Rattle.rules.specs.declared.edge_set.EdgeSet.{EdgeSet}
+use Rattle.rules.specs.declared.near.Near.{Near}
+use Rattle.rules.specs.declared.pairs.NextPair.{NextPair}
+use Rattle.rules.specs.declared.split.Split as split
+use Rattle.rules.specs.declared.closing.Crossed.{Crossed}
+use Rattle.rules.specs.declared.closing.Crossed.the-variants.{Settled, NoCrossing, NoSaving}
+use Rattle.rules.proofs.WaysBeyond.{fit-of}
+use Rattle.rules.proofs.PairLists.{feasibleAfter-start, feasibleAfter-next}
+use Rattle.argument.specs.Verdict.{Verdict, accepted, refused, unless}
+use Rattle.argument.specs.Record.{records, howFits}
+use Rattle.argument.specs.Rules.{Rules}
+use Rattle.argument.specs.Walk.{Spot, takes, look, opening, behind, close, walk}
+use Rattle.argument.proofs.Tests.{both, is-point, means-fits}
+use Rattle.argument.proofs.Steps.{Taken, looked}
+use Rattle.argument.proofs.Fuel.{close-rises, walk-rises}
+use Rattle.argument.proofs.Equations.{walk-ends, walk-stops, walk-goes-on, walk-case-stops, close-splits, close-seventh, close-crosses}
+use Rattle.sheets.specs.Rules.{rulesOf}
+use Rattle.sheets.specs.Sheets.{howOf}
+use Rattle.sheets.specs.Walks.{walkedOf, lookedOf, pointsOnly, spotOf, ChainAsked, CaseAsked}
+use Rattle.sheets.specs.declared.sheet.Closing.{Closing}
+use Rattle.sheets.specs.declared.sheet.Closing.the-variants.{Split, Crossing}
+use Rattle.sheets.specs.declared.sheet.Case.{Case}
+use Rattle.sheets.specs.declared.walk.Walked.{Walked}
+use Rattle.sheets.specs.declared.walk.Walked.the-variants as walked
+use Rattle.sheets.specs.declared.walk.Looked.{Looked}
+use Rattle.sheets.specs.declared.walk.Looked.the-variants as looking
+use Rattle.sheets.proofs.Looking.{closing-fits, look-heads}
+
+-- where a chain's loop stands: its last pair is x, y, and 1, 1 before the first
+abbrev spotAt : (n : ℕ) (table marks : List ℕ) (k : EdgeSet) (left c x y last index high : ℕ) → Spot
+spotAt n table marks k left c x y last index high =
+    record {
+      left = left;
+      known = edgeList k;
+      point = c;
+      pairs = feasibleAfter n (lengthOf n table) (openIn n marks) (edgeList k) c x y;
+      last = last;
+      index = index;
+      high = high;
+    }
+
+-- the loop's invariant
+pub record Following (n : ℕ) (table rows marks sheet : List ℕ) (k : EdgeSet) (left i c first : ℕ) (legs near rank : List ℕ) (bound : ℕ) (ways : List ℕ) (centre : Near) (x y last index high : ℕ) : Type 0 where
+  pub asked : ChainAsked n table rows marks sheet k left c
+  pub bounded : Bounded legs bound
+  pub listed : NearbyOf n legs near rank
+  pub prepared : Prepared n (lengthOf n table) (openIn n marks) (edgeList k) c legs bound
+  pub scouted : Scouted (edgeList k) c ways centre
+  pub low : 1 ≤ x
+  pub up : x ≤ y
+  pub top : y ≤ n
+  pub walks : walk (rulesOf n table marks) sheet (spotAt n table marks k left c x y last index high) ≡ walk (rulesOf n table marks) sheet (opening (rulesOf n table marks) (suc left) (edgeList k) i c first)
+
+module _ {n : ℕ} {table rows marks sheet : List ℕ} {k : EdgeSet} {left c : ℕ} (asked : ChainAsked n table rows marks sheet k left c) where
+  pub chain-split : SplitAsked n table rows marks k c
+  chain-split = record { legs = record { lengths = asked .tried .admitted .lengths; marked = asked .tried .admitted .marked; centre = asked .centre }; in-rows = asked .tried .in-rows; held = asked .held }
+
+  pub follow-start : {p : split.Split} {ways near rank : List ℕ} {centre : Near} (i first : ℕ) → SplitOf n table marks k c p → Ways (edgeList k) c ways → centre ≡ neighbours (edgeList k) c
+      → NearbyOf n (p .legs) near rank → Following n table rows marks sheet k left i c first (p .legs) near rank (p .bound) ways centre 1 1 i first i
+  unfolding opening
+  follow-start i first s each own listed =
+      let e : left ≡ suc left - 1 = omega arith in
+      record {
+        asked = asked;
+        bounded = s .bounded;
+        listed = listed;
+        prepared = s .prepared;
+        scouted = record { each = each; own = own };
+        low = omega arith;
+        up = omega arith;
+        top = omega (arith, asked .centre);
+        walks = ap₂ (λ (l : ℕ) (ps : List Edge). walk (rulesOf n table marks) sheet record { left = l; known = edgeList k; point = c; pairs = ps; last = i; index = first; high = i }) e (feasibleAfter-start n (lengthOf n table) (openIn n marks) (edgeList k) c);
+      }
+
+module _ {n : ℕ} {table rows marks sheet : List ℕ} {k : EdgeSet} {left i c first : ℕ} {legs near rank : List ℕ} {bound : ℕ} {ways : List ℕ} {centre : Near} {x y last index high : ℕ} (f : Following n table rows marks sheet k left i c first legs near rank bound ways centre x y last index high) where
+  abbrev rules : Rules
+  rules = rulesOf n table marks
+
+  abbrev here : Spot
+  here = spotAt n table marks k left c x y last index high
+
+  pub follow-search : Searchable n table legs near rank bound ways centre k x y
+  follow-search = record { row = record { lengths = f .asked .tried .admitted .lengths; bounded = f .bounded; listed = f .listed; low = f .low; up = f .up; high = f .top }; fit = fit-of (f .scouted); stored = f .asked .held .stored }
+
+  pub follow-few : k .count ≤ 11
+  follow-few = omega (arith, f .asked .room)
+
+  -- what the code's look answers is what the walk looks at
+  module _ {next : NextPair} (found : Next n table legs bound ways centre k x y next) {r : Looked} (e : lookedOf r ≡ look (pointsOnly n) sheet (spotOf next last index high)) where
+    looks : {r′ : Looked} → r ≡ r′ → look rules sheet here ≡ lookedOf r′
+    looks g =
+        look-heads rules sheet left (edgeList k) c _ last index high ∙ ap (λ (p : NextPair). look (pointsOnly n) sheet (spotOf p last index high)) (sym (found .first (openIn n marks) c (f .prepared) (f .scouted))) ∙ sym e ∙ ap lookedOf g
+
+    pub follow-ends : r ≡ looking.Ends → accepted high ≡ walk rules sheet (opening rules (suc left) (edgeList k) i c first)
+    follow-ends g = sym (walk-ends rules sheet here (looks g)) ∙ f .walks
+
+    pub follow-stops : {m a : ℕ} → r ≡ looking.Refused m a → refused m a ≡ walk rules sheet (opening rules (suc left) (edgeList k) i c first)
+    follow-stops {m} {a} g = sym (walk-stops rules sheet here m a (looks g)) ∙ f .walks
+
+    module _ {x′ : Case} (g : r ≡ looking.Takes x′) where
+      taken : Taken rules sheet here (x′ .a) (x′ .b) (howOf (x′ .closing)) (x′ .next)
+      taken = looked rules sheet here (takes (x′ .a) (x′ .b) (howOf (x′ .closing)) (x′ .next)) (looks g)
+
+      module _ {k′ : EdgeSet} (added : Added k c (x′ .a) (x′ .b) k′) where
+        pub follow-case : CaseAsked n table rows marks sheet k′ left (x′ .closing)
+        follow-case =
+            let t = taken in
+            record {
+              tried = f .asked .tried;
+              held = added .held n (f .asked .held) (f .asked .centre) (t .fit .point-a) (t .fit .point-b);
+              room = omega (arith, f .asked .room, added .two);
+              points = closing-fits _ _ _ _ (means-fits (t .fit));
+            }
+
+        module _ {v : Walked} (z : walkedOf v ≡ close rules (walk rules sheet) left (edgeList k′) index (howOf (x′ .closing))) where
+          closes : {v′ : Walked} → v ≡ v′ → close rules (walk rules sheet) left (withPair (edgeList k) c (x′ .a) (x′ .b)) index (howOf (x′ .closing)) ≡ walkedOf v′
+          closes w = ap (λ (K : List Edge). close rules (walk rules sheet) left K index (howOf (x′ .closing))) (sym (added .edges)) ∙ sym z ∙ ap walkedOf w
+
+          pub follow-case-stops : {m a : ℕ} → v ≡ walked.Refused m a → refused m a ≡ walk rules sheet (opening rules (suc left) (edgeList k) i c first)
+          follow-case-stops {m} {a} w = sym (walk-case-stops rules sheet here _ _ _ _ (looks g) m a (closes w)) ∙ f .walks
+
+          module _ {reached : ℕ} (w : v ≡ walked.Closed reached) where
+            -- the records left above the highest entered fall
+            pub follow-falls : records sheet - reached < records sheet - high
+            unfolding walk
+            follow-falls = omega (arith, taken .entered, close-rises rules sheet (walk rules sheet) (walk-rises rules sheet (suc (records sheet))) left _ index (howOf (x′ .closing)) reached (closes w))
+
+            pub follow-on : Following n table rows marks sheet k left i c first legs near rank bound ways centre (x′ .a) (x′ .b) index (x′ .next) reached
+            unfolding behind
+            follow-on =
+                let t = taken in
+                let h = feasibleAfter-next n (lengthOf n table) (openIn n marks) (edgeList k) c (f .low) (f .up) (f .top) (t .named) in
+                record {
+                  asked = f .asked;
+                  bounded = f .bounded;
+                  listed = f .listed;
+                  prepared = f .prepared;
+                  scouted = f .scouted;
+                  low = h .0 .low;
+                  up = omega (arith, h .0 .up);
+                  top = h .0 .high;
+                  walks =
+                      ap (λ (ps : List Edge). walk rules sheet record { left = left; known = edgeList k; point = c; pairs = ps; last = index; index = x′ .next; high = reached }) (sym (h .2))
+                      ∙ sym (walk-goes-on rules sheet here _ _ _ _ (looks g) reached (closes w))
+                      ∙ f .walks;
+                }
+
+-- the closing of a case
+
+module _ {n : ℕ} {table rows marks sheet : List ℕ} {k : EdgeSet} {left : ℕ} {closing : Closing} (asked : CaseAsked n table rows marks sheet k left closing) where
+  abbrev case-rules : Rules
+  case-rules = rulesOf n table marks
+
+  fitting : {how : Closing} → closing ≡ how → howFits n (howOf how) ≡ true
+  fitting e = ap (λ (x : Closing). howFits n (howOf x)) (sym e) ∙ asked .points
+
+  closed-as : (i : ℕ) {how : Closing} → closing ≡ how → close case-rules (walk case-rules sheet) left (edgeList k) i (howOf how) ≡ close case-rules (walk case-rules sheet) left (edgeList k) i (howOf closing)
+  closed-as i e = ap (λ (x : Closing). close case-rules (walk case-rules sheet) left (edgeList k) i (howOf x)) (sym e)
+
+  module _ {point first : ℕ} (e : closing ≡ Split point first) where
+    pub close-too-deep : (i : ℕ) → left ≡ 0 → refused 13 i ≡ close case-rules (walk case-rules sheet) left (edgeList k) i (howOf closing)
+    close-too-deep i z = sym (close-seventh case-rules sheet left (edgeList k) i point first z) ∙ closed-as i e
+
+    pub close-chain : (left ≡ 0 → ⊥) → ChainAsked n table rows marks sheet k (left - 1) point
+    unfolding howFits
+    close-chain z = record { tried = asked .tried; held = asked .held; room = omega (arith, asked .room); centre = is-point n point (fitting e) }
+
+    pub close-walks : (i : ℕ) {v : Verdict ℕ} → (left ≡ 0 → ⊥) → v ≡ walk case-rules sheet (opening case-rules (suc (left - 1)) (edgeList k) i point first) → v ≡ close case-rules (walk case-rules sheet) left (edgeList k) i (howOf closing)
+    close-walks i z w =
+        let l : suc (left - 1) ≡ left = omega arith in
+        w ∙ ap (λ (m : ℕ). walk case-rules sheet (opening case-rules m (edgeList k) i point first)) l ∙ sym (close-splits case-rules sheet left (edgeList k) i point first (omega arith)) ∙ closed-as i e
+
+  module _ {p q r s : ℕ} (e : closing ≡ Crossing p q r s) where
+    pub close-crossable : Crossable n table k p q r s
+    unfolding howFits
+    close-crossable =
+        let h = both _ _ (fitting e) in
+        let g = both _ _ (h .1) in
+        let f = both _ _ (g .1) in
+        let whole = asked .tried .admitted .lengths .whole in
+        record {
+          edge = record { first = is-point n p (h .0); second = is-point n q (g .0); whole = whole };
+          centres = record { first = is-point n r (f .0); second = is-point n s (f .1); whole = whole };
+          held = asked .held;
+        }
+
+    module _ (i : ℕ) {v : Crossed} (z : v ≡ crossedBy (lengthOf n table) (edgeList k) p q r s) where
+      crossed-as : {v′ : Crossed} → v ≡ v′ → unless (refusalOf v′) i i ≡ close case-rules (walk case-rules sheet) left (edgeList k) i (howOf closing)
+      crossed-as g = ap (λ (x : Crossed). unless (refusalOf x) i i) (sym g ∙ z) ∙ sym (close-crosses case-rules sheet left (edgeList k) i p q r s) ∙ closed-as i e
+
+      pub close-settled : v ≡ Settled → accepted i ≡ close case-rules (walk case-rules sheet) left (edgeList k) i (howOf closing)
+      unfolding refusalOf unless
+      close-settled g = crossed-as g
+
+      pub close-no-crossing : v ≡ NoCrossing → refused 15 i ≡ close case-rules (walk case-rules sheet) left (edgeList k) i (howOf closing)
+      unfolding refusalOf unless
+      close-no-crossing g = crossed-as g
+
+      pub close-no-saving : v ≡ NoSaving → refused 16 i ≡ close case-rules (walk case-rules sheet) left (edgeList k) i (howOf closing)
+      unfolding refusalOf unless
+      close-no-saving g = crossed-as g

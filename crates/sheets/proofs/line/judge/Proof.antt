@@ -1,0 +1,42 @@
+-- `marking::line::judge` meets its contract: each return is a way out of `judge`, by the record that was read. Assumes nothing.
+use Rattle.sheets.proofs.Lining.{judge-line, judge-case, judge-other}
+use borrow.Author.Needs.{needs}
+use Rattle.sheets.proofs.line.judge.Statement.{statement}
+use Rattle.sheets.proofs.line.judge.Tie as tie
+
+record-requires : tie.Need-record-requires
+record-requires c κs = search needs
+
+enum-known-line : tie.Need-enum-known-line
+enum-known-line c = search needs
+
+judge-line-requires : tie.Need-judge-line-requires
+judge-line-requires c κs = search needs
+
+enum-told : tie.Need-enum-told
+enum-told c = search needs
+
+enum-told-2 : tie.Need-enum-told-2
+enum-told-2 c = search needs
+
+returns : tie.Need-returns
+returns c = judge-line _ _ _ _ (c .before .before .before .before .«record» .ensures) (c .before .before .line .given .1) (c .judge-line .ensures)
+
+returns-2 : tie.Need-returns-2
+returns-2 c = judge-case _ _ _ _ (c .before .before .«record» .ensures) (c .enum-told .given .1)
+
+returns-3 : tie.Need-returns-3
+returns-3 c = judge-other _ _ _ _ (c .before .before .«record» .ensures) (c .enum-told2 .given .1)
+
+pub judge-spec : {M : Type 1} → statement M
+judge-spec =
+    tie.close
+    (tie.spec
+    record-requires
+    enum-known-line
+    judge-line-requires
+    enum-told
+    enum-told-2
+    returns
+    returns-2
+    returns-3)

@@ -1,0 +1,72 @@
+-- `marking::line::mark_lines` meets its contract: the loop's invariant is `Proceeding`, and its measure the records left above the highest
+-- entered. Assumes nothing.
+use Prim.Native.Nat.{_-_}
+use mathlib.Core.Path.{_∙_}
+use native.Mathlib.Omega.{arith}
+use borrow.Author.Needs.{needs}
+use Rattle.argument.specs.Record.{records}
+use Rattle.sheets.proofs.Lining.{Proceeding, lines-start, lines-accepted, lines-refused, lines-few, lines-fall, lines-on}
+use Rattle.sheets.proofs.line.mark_lines.Statement.{statement}
+use Rattle.sheets.proofs.line.mark_lines.Tie as tie
+
+abbrev Inv-loop : tie.InvT-loop
+Inv-loop n table rows marks₀ sheet lines₀ last₀ index₀ high₀ marks lines last index high =
+    Proceeding n table rows marks₀ sheet marks lines last index high
+
+abbrev μ-loop : tie.MeasureT-loop
+μ-loop n table rows marks₀ sheet lines₀ last₀ index₀ high₀ marks lines last index high = records sheet - high
+
+loop-holds : tie.Need-loop-holds Inv-loop μ-loop
+loop-holds c = lines-start (c .before .before .before .before .pre)
+
+mark-line-requires : tie.Need-mark-line-requires Inv-loop μ-loop
+mark-line-requires c κs = c .before .loop .inv .tried
+
+enum-told : tie.Need-enum-told Inv-loop μ-loop
+enum-told c = search needs
+
+same-length : tie.Need-same-length Inv-loop μ-loop
+same-length c = c .before .before .before .before .mark-line .kept .1 .1 .1 .0 ∙ c .before .before .before .before .before .before .loop .inv .kept
+
+returns : tie.Need-returns Inv-loop μ-loop
+returns c = lines-accepted (c .before .before .before .before .before .before .loop .inv) (c .before .before .before .before .mark-line .ensures) (c .enum-told .given .1)
+
+enum-known-number : tie.Need-enum-known-number Inv-loop μ-loop
+enum-known-number c = search needs
+
+same-length-2 : tie.Need-same-length-2 Inv-loop μ-loop
+same-length-2 c = c .before .before .before .before .before .mark-line .kept .1 .1 .1 .0 ∙ c .before .before .before .before .before .before .before .loop .inv .kept
+
+returns-2 : tie.Need-returns-2 Inv-loop μ-loop
+returns-2 c = lines-refused (c .before .before .before .before .before .before .before .loop .inv) (c .before .before .before .before .before .mark-line .ensures) (c .before .number .given .1)
+
+enum-known-next : tie.Need-enum-known-next Inv-loop μ-loop
+enum-known-next c = search needs
+
+add-lines : tie.Need-add-lines Inv-loop μ-loop
+add-lines c = omega (arith, lines-few (c .before .before .before .before .before .before .before .loop .inv) (c .before .before .before .before .before .mark-line .ensures) (c .before .next .given .1))
+
+loop-less : tie.Need-loop-less Inv-loop μ-loop
+loop-less c = lines-fall (c .before .before .before .before .before .before .before .loop .inv) (c .before .before .before .before .before .mark-line .ensures) (c .before .next .given .1)
+
+loop-again : tie.Need-loop-again Inv-loop μ-loop
+loop-again c = lines-on (c .before .before .before .before .before .before .before .loop .inv) (c .before .before .before .before .before .mark-line .ensures) (c .before .next .given .1) (c .before .before .before .before .before .mark-line .kept .1 .1 .1 .0)
+
+pub mark-lines-spec : {M : Type 1} → statement M
+mark-lines-spec =
+    tie.close
+    (tie.spec
+    Inv-loop
+    μ-loop
+    loop-holds
+    mark-line-requires
+    enum-told
+    same-length
+    returns
+    enum-known-number
+    same-length-2
+    returns-2
+    enum-known-next
+    add-lines
+    loop-less
+    loop-again)

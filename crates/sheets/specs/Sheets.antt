@@ -1,0 +1,35 @@
+-- Sheets (01, "The sheet"): test 7, and the declared records as the records of the argument's layer.
+use Prim.Native.Nat.{ℕ, _*_, _/_, _%_, _≤_}
+use mathlib.Core.Bool.{Bool, true, false, not, _&&_}
+use mathlib.Core.List.{List}
+use lib.Dec.{leb, eqb}
+use Rattle.argument.specs.Record.{records}
+use Rattle.argument.specs.Record as R
+use Rattle.sheets.specs.declared.sheet.SheetAdmission.{SheetAdmission}
+use Rattle.sheets.specs.declared.sheet.SheetAdmission.the-variants.{Admitted, Refused}
+use Rattle.sheets.specs.declared.sheet.Closing.{Closing}
+use Rattle.sheets.specs.declared.sheet.Closing.the-variants.{Split, Crossing}
+use Rattle.sheets.specs.declared.sheet.Record.{Record}
+use Rattle.sheets.specs.declared.sheet.Record.the-variants.{Line, Case, Other}
+
+-- test 7: so many numbers are 1 to 4,000 whole records
+unfoldable pub wholeSheet : ℕ → Bool
+wholeSheet numbers = not (eqb numbers 0) && (eqb (numbers % 8) 0 && leb numbers (4000 * 8))
+
+unfoldable pub sheetAdmission : ℕ → SheetAdmission
+sheetAdmission numbers = elim (wholeSheet numbers) [ true ↦ Admitted (record { records = numbers / 8 }) | false ↦ Refused ]
+
+-- the declared closing and record, as the argument's layer has them
+abbrev pub howOf : Closing → R.How
+howOf (Split point first) = R.splits point first
+howOf (Crossing p q r s) = R.crosses p q r s
+
+abbrev pub recordOf : Record → R.Record
+recordOf (Line l) = R.line (l .a) (l .b) (l .point) (l .first) (l .next)
+recordOf (Case c) = R.case (c .a) (c .b) (howOf (c .closing)) (c .next)
+recordOf Other = R.other
+
+-- i is the number of a record
+pub record Readable (sheet : List ℕ) (i : ℕ) : Type 0 where
+  pub low : 1 ≤ i
+  pub high : i ≤ records sheet

@@ -1,0 +1,180 @@
+// One line of a sheet: judged against the marks as they are, and then marked; and a sheet as the repetition of one line.
+use crate::sheet::Closing;
+use crate::sheet::Line;
+use crate::sheet::Record;
+use crate::sheet::Sheet;
+use crate::verdict::Marked;
+use crate::verdict::Verdict;
+use crate::walk::Walked;
+use crate::walk::chain;
+use crate::walk::points_fit;
+use lengths::edge;
+use lengths::refusal;
+use rules::edge_set::EdgeSet;
+use rules::marks::is_open;
+ghost use mathlib.Core.Path.{_≡_};
+ghost use Rattle.rules.specs.Mark.{openIn};
+ghost use Rattle.rules.specs.Mark as mark;
+ghost use Rattle.argument.specs.Line.{judgeRecord};
+ghost use Rattle.argument.specs.Line as judging;
+ghost use Rattle.argument.specs.Sheet as lines;
+ghost use Rattle.sheets.specs.Lines.{LineAsked, TurnedAs, judgedOf};
+ghost use Rattle.sheets.specs.Results.{resultOf};
+ghost use Rattle.sheets.specs.Rules.{rulesOf, markingOf, strikeIn};
+ghost use Rattle.sheets.specs.Sheets.{recordOf};
+ghost use Rattle.sheets.specs.Walks.{Tried};
+
+// What a line that was entered comes to: it strikes its edge, with the next index and the highest record entered, or it is refused.
+pub enum Judged {
+    Strikes {
+        a: u16,
+        b: u16,
+        next: u16,
+        high: u16,
+    },
+    Refused(u8, u16),
+}
+
+// What the lines come to at an index: they are over, the line there struck its edge, or it is refused.
+pub enum Turned {
+    Over,
+    Struck { next: u16, high: u16 },
+    Refused(u8, u16),
+}
+
+// Judges the line that was read as record i.
+fn judge_line(
+    n: u16,
+    table: &[u32],
+    rows: &[u32],
+    marks: &[u8],
+    sheet: &[u16],
+    i: u16,
+    line: Line,
+) -> Judged
+    requires { ⌜ LineAsked n (now table) (now rows) (now marks) (now sheet) i ⌝ }
+    ensures { λ r. ⌜ judgedOf r ≡ judgeRecord (rulesOf n (now (table .entry)) (now (marks .entry))) (openIn n (now (marks .entry))) (now (sheet .entry)) i (recordOf (Record.Line line)) ⌝ }
+{
+    let closing = Closing::Split {
+        point: line.point,
+        first: line.first,
+    };
+    if !points_fit(n, line.a, line.b, closing) {
+        return Judged::Refused(refusal::POINT, i);
+    }
+    if !is_open(n, marks, line.a, line.b) {
+        return Judged::Refused(refusal::STRUCK, i);
+    }
+    let k = EdgeSet::single(line.a, line.b);
+    match chain(
+        n,
+        table,
+        rows,
+        marks,
+        sheet,
+        k,
+        Sheet::MOST_SPLITS - 1,
+        i,
+        line.point,
+        line.first,
+    ) {
+        Walked::Closed(high) => Judged::Strikes {
+            a: line.a,
+            b: line.b,
+            next: line.next,
+            high: high,
+        },
+        Walked::Refused(number, at) => Judged::Refused(number, at),
+    }
+}
+
+// Judges the line that record i should be.
+pub fn judge(n: u16, table: &[u32], rows: &[u32], marks: &[u8], sheet: &[u16], i: u16) -> Judged
+    requires { ⌜ LineAsked n (now table) (now rows) (now marks) (now sheet) i ⌝ }
+    ensures { λ r. ⌜ judgedOf r ≡ judging.judge (rulesOf n (now (table .entry)) (now (marks .entry))) (openIn n (now (marks .entry))) (now (sheet .entry)) i ⌝ }
+{
+    match Sheet::record(sheet, i) {
+        Record::Line(line) => judge_line(n, table, rows, marks, sheet, i, line),
+        Record::Case(_) => Judged::Refused(refusal::KIND, i),
+        Record::Other => Judged::Refused(refusal::KIND, i),
+    }
+}
+
+// One line from an index, which the record `last` has: judged and, if it is accepted, marked.
+pub fn mark_line(
+    n: u16,
+    table: &[u32],
+    rows: &[u32],
+    marks: &mut [u8],
+    sheet: &[u16],
+    last: u16,
+    index: u16,
+    high: u16,
+) -> Turned
+    requires { ⌜ Tried n (now table) (now rows) (now marks) (now sheet) ⌝ }
+    ensures { λ r. ⌜ TurnedAs n (now (table .entry)) (now (marks .entry)) (now (sheet .entry)) last index high r (now (marks .exit)) ⌝ }
+{
+    if index == 0 {
+        return Turned::Over;
+    }
+    if sheet.len() / Sheet::RECORD_SIZE < index as usize {
+        return Turned::Refused(refusal::INDEX_ABOVE, last);
+    }
+    if index <= high {
+        return Turned::Refused(refusal::INDEX_NOT_ABOVE, last);
+    }
+    match judge(n, table, rows, marks, sheet, index) {
+        Judged::Strikes { a, b, next, high } => {
+            strike(n, marks, a, b);
+            Turned::Struck {
+                next: next,
+                high: high,
+            }
+        }
+        Judged::Refused(number, at) => Turned::Refused(number, at),
+    }
+}
+
+// Marks the edge ab struck. Nothing else in the program writes a mark that is not fresh.
+fn strike(n: u16, marks: &mut [u8], a: u16, b: u16)
+    requires { ⌜ mark.Marked n (now marks) a b ⌝ }
+    ensures { λ _. ⌜ now (marks .exit) ≡ strikeIn n (now (marks .entry)) a b ⌝ }
+{
+    let at = edge::place(n, a, b);
+    marks[at] = 0;
+}
+
+// The lines of a sheet from record 1 on.
+pub fn mark_lines(n: u16, table: &[u32], rows: &[u32], marks: &mut [u8], sheet: &[u16]) -> Marked
+    requires { ⌜ Tried n (now table) (now rows) (now marks) (now sheet) ⌝ }
+    ensures { λ r. ⌜ resultOf r (now (marks .exit)) ≡ lines.sheet (markingOf n (now (table .entry))) (now (sheet .entry)) (now (marks .entry)) ⌝ }
+{
+    let mut lines: u16 = 0;
+    let mut last: u16 = 0;
+    let mut index: u16 = 1;
+    let mut high: u16 = 0;
+    loop {
+        match mark_line(n, table, rows, marks, sheet, last, index, high) {
+            Turned::Over => return Marked {
+                verdict: Verdict::Accepted,
+                lines: lines,
+            },
+            Turned::Refused(number, at) => return Marked {
+                verdict: Verdict::Refused {
+                    refusal: number,
+                    record: at,
+                },
+                lines: lines,
+            },
+            Turned::Struck {
+                next,
+                high: reached,
+            } => {
+                lines += 1;
+                last = index;
+                index = next;
+                high = reached;
+            }
+        }
+    }
+}

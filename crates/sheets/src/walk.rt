@@ -1,0 +1,213 @@
+// The walk through an argument's records: a split's chain, and the closing of a case.
+use crate::sheet::Case;
+use crate::sheet::Closing;
+use crate::sheet::Record;
+use crate::sheet::Sheet;
+use lengths::refusal;
+use rules::closing::Crossed;
+use rules::closing::crossing;
+use rules::edge_set::EdgeSet;
+use rules::near::neighbours;
+use rules::nearby;
+use rules::nearby::list_nearby;
+use rules::pairs::NextPair;
+use rules::pairs::next_pair;
+use rules::split::prepare;
+use rules::ways::ways_beyond;
+ghost use mathlib.Core.Path.{_≡_};
+ghost use Prim.Native.Nat.{suc, _*_};
+ghost use lib.ListN.{length};
+ghost use Rattle.rules.specs.Stored.{edgeList};
+ghost use Rattle.argument.specs.Record.{records, isPoint, howFits, fits};
+ghost use Rattle.argument.specs.Walk.{readCase, opening, close, walk};
+ghost use Rattle.argument.specs.Walk as walking;
+ghost use Rattle.sheets.specs.Sheets.{howOf, recordOf};
+ghost use Rattle.sheets.specs.Rules.{rulesOf};
+ghost use Rattle.sheets.specs.Walks.{walkedOf, lookedOf, pointsOnly, spotOf, ChainAsked, CaseAsked};
+
+// Where a walk ends: all is closed, with the highest record entered, or it is refused with the number and the record.
+pub enum Walked {
+    Closed(u16),
+    Refused(u8, u16),
+}
+
+// What a chain does at its next index: it ends, it takes a case whose pair is the next feasible one, or it is refused.
+pub enum Looked {
+    Ends,
+    Takes(Case),
+    Refused(u8, u16),
+}
+
+// Is a one of the points 1 to n?
+pub fn is_point(n: u16, a: u16) -> bool
+    ensures { λ r. ⌜ r ≡ isPoint n a ⌝ }
+{
+    if a < 1 {
+        return false;
+    }
+    a <= n
+}
+
+// Are the points of a closing among 1 to n?
+fn closing_fits(n: u16, closing: Closing) -> bool
+    ensures { λ r. ⌜ r ≡ howFits n (howOf closing) ⌝ }
+{
+    match closing {
+        Closing::Split { point, first: _ } => is_point(n, point),
+        Closing::Crossing { p, q, r, s } => {
+            if !is_point(n, p) {
+                return false;
+            }
+            if !is_point(n, q) {
+                return false;
+            }
+            if !is_point(n, r) {
+                return false;
+            }
+            is_point(n, s)
+        }
+    }
+}
+
+// Are the points of a case, or of a line read as a case, among 1 to n, and is a not b?
+pub fn points_fit(n: u16, a: u16, b: u16, closing: Closing) -> bool
+    ensures { λ r. ⌜ r ≡ fits n a b (howOf closing) ⌝ }
+{
+    if !is_point(n, a) {
+        return false;
+    }
+    if !is_point(n, b) {
+        return false;
+    }
+    if a == b {
+        return false;
+    }
+    closing_fits(n, closing)
+}
+
+// A case that was read: its points are tested, and its pair is compared with the next feasible one.
+fn look_at_case(n: u16, case: Case, last: u16, index: u16, high: u16, next: NextPair) -> Looked
+    ensures { λ r. ⌜ lookedOf r ≡ readCase (pointsOnly n) (spotOf next last index high) (recordOf (Record.Case case)) ⌝ }
+{
+    let closing = case.closing;
+    if !points_fit(n, case.a, case.b, closing) {
+        return Looked::Refused(refusal::POINT, index);
+    }
+    let NextPair::Pair(x, y) = next else {
+        return Looked::Refused(refusal::PAIR, index);
+    };
+    if x != case.a {
+        return Looked::Refused(refusal::PAIR, index);
+    }
+    if y != case.b {
+        return Looked::Refused(refusal::PAIR, index);
+    }
+    Looked::Takes(case)
+}
+
+// What a chain does at its index, which the record `last` has; `high` is the highest record entered.
+fn look(n: u16, sheet: &[u16], next: NextPair, last: u16, index: u16, high: u16) -> Looked
+    requires { ⌜ length (now sheet) ≡ 8 * records (now sheet) ⌝ }
+    ensures { λ r. ⌜ lookedOf r ≡ walking.look (pointsOnly n) (now (sheet .entry)) (spotOf next last index high) ⌝ }
+{
+    if index == 0 {
+        return match next {
+            NextPair::End => Looked::Ends,
+            NextPair::Pair(_, _) => Looked::Refused(refusal::PAIR, last),
+        };
+    }
+    if sheet.len() / Sheet::RECORD_SIZE < index as usize {
+        return Looked::Refused(refusal::INDEX_ABOVE, last);
+    }
+    if index <= high {
+        return Looked::Refused(refusal::INDEX_NOT_ABOVE, last);
+    }
+    match Sheet::record(sheet, index) {
+        Record::Case(case) => look_at_case(n, case, last, index, high, next),
+        Record::Line(_) => Looked::Refused(refusal::KIND, index),
+        Record::Other => Looked::Refused(refusal::KIND, index),
+    }
+}
+
+// The chain of the split at c that record i holds, under k, from the index `first` on; `left` more splits may lie inside a case.
+// The rows are those of the table.
+pub fn chain(
+    n: u16,
+    table: &[u32],
+    rows: &[u32],
+    marks: &[u8],
+    sheet: &[u16],
+    k: EdgeSet,
+    left: u16,
+    i: u16,
+    c: u16,
+    first: u16,
+) -> Walked
+    requires { ⌜ ChainAsked n (now table) (now rows) (now marks) (now sheet) k left c ⌝ }
+    ensures { λ r. ⌜ walkedOf r ≡ walk (rulesOf n (now (table .entry)) (now (marks .entry))) (now (sheet .entry))
+        (opening (rulesOf n (now (table .entry)) (now (marks .entry))) (suc left) (edgeList k) i c first) ⌝ }
+{
+    let split = prepare(n, table, rows, marks, k, c);
+    let legs = split.legs;
+    let bound = split.bound;
+    let ways = ways_beyond(k, c);
+    let centre = neighbours(k, c);
+    let mut near = [0u16; nearby::PLACES];
+    let mut rank = [0u16; nearby::PLACES];
+    list_nearby(n, &legs, &mut near, &mut rank);
+    let mut x: u16 = 1;
+    let mut y: u16 = 1;
+    let mut last = i;
+    let mut index = first;
+    let mut high = i;
+    loop {
+        let next = next_pair(n, table, &legs, &near, &rank, bound, &ways, centre, k, x, y);
+        match look(n, sheet, next, last, index, high) {
+            Looked::Ends => return Walked::Closed(high),
+            Looked::Refused(number, at) => return Walked::Refused(number, at),
+            Looked::Takes(case) => {
+                let closing = case.closing;
+                let inner = k.with_pair(c, case.a, case.b);
+                match close_case(n, table, rows, marks, sheet, inner, left, index, closing) {
+                    Walked::Refused(number, at) => return Walked::Refused(number, at),
+                    Walked::Closed(reached) => high = reached,
+                }
+                x = case.a;
+                y = case.b;
+                last = index;
+                index = case.next;
+            }
+        }
+    }
+}
+
+// The closing that record i holds, under k with the case's pair.
+fn close_case(
+    n: u16,
+    table: &[u32],
+    rows: &[u32],
+    marks: &[u8],
+    sheet: &[u16],
+    k: EdgeSet,
+    left: u16,
+    i: u16,
+    closing: Closing,
+) -> Walked
+    requires { ⌜ CaseAsked n (now table) (now rows) (now marks) (now sheet) k left closing ⌝ }
+    ensures { λ r. ⌜ walkedOf r ≡ close (rulesOf n (now (table .entry)) (now (marks .entry)))
+        (walk (rulesOf n (now (table .entry)) (now (marks .entry))) (now (sheet .entry))) left (edgeList k) i (howOf closing) ⌝ }
+{
+    match closing {
+        Closing::Split { point, first } => {
+            if left == 0 {
+                return Walked::Refused(refusal::SEVENTH_SPLIT, i);
+            }
+            chain(n, table, rows, marks, sheet, k, left - 1, i, point, first)
+        }
+        Closing::Crossing { p, q, r, s } => match crossing(n, table, k, p, q, r, s) {
+            Crossed::Settled => Walked::Closed(i),
+            Crossed::NoCrossing => Walked::Refused(refusal::CROSSING, i),
+            Crossed::NoSaving => Walked::Refused(refusal::SAVING, i),
+        },
+    }
+}
