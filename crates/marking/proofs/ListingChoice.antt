@@ -1,4 +1,4 @@
--- The pairs that `find_pairs` finds are the feasible ones of K = {ab}, by either search: beside K's edge every pair that passes the comparison is
+-- The pairs that `find_pairs` finds are the feasible ones of K = {ab}, by either search: at a point apart from K's edge every pair that passes the comparison is
 -- feasible but ab itself, which the row of its lower point bars. Assumes nothing.
 use Prim.Native.Nat.{ℕ, _≤_, _<_}
 use mathlib.Core.Path.{_≡_, refl, sym, _∙_, ap, ap₂, subst}
@@ -25,16 +25,16 @@ use Rattle.marking.specs.Listing.{pairsAt, numbersOf, stands?, barredIn,
 
 -- c is a point of ab: the search pair by pair
 
-pub beside-asked : {n : ℕ} {table marks : List ℕ} {a b c : ℕ} {found : List ℕ} {k : EdgeSet} → FindAsked n table marks a b c found → Single a b k → SearchAsked n table marks k c found
-beside-asked {n} g s = record { split = record { legs = g .legs; held = s .held n (g .first) (g .second); one = s .one }; room = g .room }
+pub end-asked : {n : ℕ} {table marks : List ℕ} {a b c : ℕ} {found : List ℕ} {k : EdgeSet} → FindAsked n table marks a b c found → Single a b k → SearchAsked n table marks k c found
+end-asked {n} g s = record { split = record { legs = g .legs; held = s .held n (g .first) (g .second); one = s .one }; room = g .room }
 
 same-found : {ps qs : List Edge} {count : ℕ} {found : List ℕ} → ps ≡ qs → Found ps count found → Found qs count found
 same-found e f = record { counted = f .counted ∙ ap length e; front = f .front ∙ ap numbersOf e; few = f .few; room = f .room }
 
-pub beside-found : {n : ℕ} {table marks : List ℕ} {a b c : ℕ} {found₀ : List ℕ} {k : EdgeSet} {count : ℕ} {found : List ℕ} → FindAsked n table marks a b c found₀ → Single a b k
+pub end-found : {n : ℕ} {table marks : List ℕ} {a b c : ℕ} {found₀ : List ℕ} {k : EdgeSet} {count : ℕ} {found : List ℕ} → FindAsked n table marks a b c found₀ → Single a b k
     → Found (feasiblePairs n (lengthOf n table) (openIn n marks) (edgeList k) c) count found → Found (pairsAt n table marks a b c) count found
 unfolding pairsAt
-beside-found {n} {table} {marks} {c = c} g s f = same-found (ap (λ (K : List Edge). feasiblePairs n (lengthOf n table) (openIn n marks) K c) (s .edges)) f
+end-found {n} {table} {marks} {c = c} g s f = same-found (ap (λ (K : List Edge). feasiblePairs n (lengthOf n table) (openIn n marks) K c) (s .edges)) f
 
 -- c is not: the search row by row
 

@@ -1,4 +1,4 @@
--- The loops of `find_beside` and `copy`. The numbers written so far and those of the pairs still to come make up the numbers of all pairs,
+-- The loops of `find_at_end` and `copy`. The numbers written so far and those of the pairs still to come make up the numbers of all pairs,
 -- which are at most as many as n points have edges. Assumes nothing.
 use Prim.Native.Nat.{ℕ, suc, _+_, _*_, _≤_, _<_}
 use mathlib.Core.Path.{_≡_, refl, sym, _∙_, ap, ap₂}
@@ -14,11 +14,11 @@ use Rattle.lengths.proofs.Edges.{length-edges, edgeCount-tri, tri-mono}
 use Rattle.rules.specs.Mark.{openIn}
 use Rattle.rules.specs.Near.{neighbours}
 use Rattle.rules.specs.Nearby.{NearbyOf}
-use Rattle.rules.specs.Ways.{Ways}
+use Rattle.rules.specs.Ways.{Scouted, Ways}
 use Rattle.rules.specs.NextPair.{Searchable, Next, firstOf}
 use Rattle.rules.specs.PairTest.{feasible?}
 use Rattle.rules.specs.Pairs.{keep, feasiblePairs, feasibleAfter}
-use Rattle.rules.specs.Split.{SplitOf}
+use Rattle.rules.specs.Split.{Bounded, Prepared, SplitOf}
 use Rattle.rules.specs.Stored.{edgeList}
 use Rattle.rules.specs.declared.edge_set.EdgeSet.{EdgeSet}
 use Rattle.rules.specs.declared.near.Near.{Near}
@@ -56,7 +56,7 @@ few-pairs : (n : ℕ) (l : ℕ → ℕ → ℕ) (open? : ℕ → ℕ → Bool) (
 unfolding feasiblePairs
 few-pairs n l open? K c some = omega (arith, keep-fewer (feasible? n l open? K c) (edges n), length-edges n some)
 
--- the loop of `find_beside`
+-- the loop of `find_at_end`
 
 -- the search is at xy, and so many pairs stand at the front of `found`
 pub record Finding (n : ℕ) (l : ℕ → ℕ → ℕ) (open? : ℕ → ℕ → Bool) (K : List Edge) (c : ℕ) (found₀ found : List ℕ) (x y count : ℕ) : Type 0 where
@@ -69,7 +69,7 @@ pub record Finding (n : ℕ) (l : ℕ → ℕ → ℕ) (open? : ℕ → ℕ → 
   pub counted : count + length (feasibleAfter n l open? K c x y) ≡ length (feasiblePairs n l open? K c)
   pub written : take (2 * count) found ++ numbersOf (feasibleAfter n l open? K c x y) ≡ numbersOf (feasiblePairs n l open? K c)
 
-pub finding-start : {n : ℕ} {table marks : List ℕ} {k : EdgeSet} {c : ℕ} {found : List ℕ} → SearchAsked n table marks k c found
+finding-start : {n : ℕ} {table marks : List ℕ} {k : EdgeSet} {c : ℕ} {found : List ℕ} → SearchAsked n table marks k c found
     → Finding n (lengthOf n table) (openIn n marks) (edgeList k) c found found 1 1 0
 finding-start {n} {table} {marks} {k} {c} {found} g =
     let some : 1 ≤ n = omega (arith, g .split .legs .centre) in
@@ -86,21 +86,6 @@ finding-start {n} {table} {marks} {k} {c} {found} g =
       written = ap numbersOf e;
     }
 
--- what `next_pair` answers is the first of the pairs left
-pub next-of : {n : ℕ} {table marks : List ℕ} {k : EdgeSet} {c x y : ℕ} {s : Split} {ways : List ℕ} {centre : Near} {r p : NextPair} → SplitOf n table marks k c s
-    → Ways (edgeList k) c ways → centre ≡ neighbours (edgeList k) c → Next n table (s .legs) (s .bound) ways centre k x y r → r ≡ p
-    → firstOf (feasibleAfter n (lengthOf n table) (openIn n marks) (edgeList k) c x y) ≡ p
-next-of {n} {marks = marks} {c = c} sp each own next e = sym (next .first (openIn n marks) c (sp .prepared) (record { each = each; own = own })) ∙ e
-
-pub searchable : {n : ℕ} {table marks : List ℕ} {k : EdgeSet} {c : ℕ} {s : Split} {ways : List ℕ} {centre : Near} {l : ℕ → ℕ → ℕ} {open? : ℕ → ℕ → Bool} {K : List Edge}
-    {found₀ found near rank : List ℕ} {x y count : ℕ} → SearchAsked n table marks k c found₀ → SplitOf n table marks k c s → Ways (edgeList k) c ways → centre ≡ neighbours (edgeList k) c
-    → NearbyOf n (s .legs) near rank → Finding n l open? K c found₀ found x y count → Searchable n table (s .legs) near rank (s .bound) ways centre k x y
-searchable g sp each own listed f = record {
-  row = record { lengths = g .split .legs .lengths; bounded = sp .bounded; listed = listed; low = f .low; up = f .up; high = f .high };
-  fit = fit-of (record { each = each; own = own });
-  stored = g .split .held .stored;
-}
-
 -- two numbers more at the front
 pub two-more : (xs : List ℕ) (at a b : ℕ) → suc at < length xs → take (suc (suc at)) (set (set xs at a) (suc at) b) ≡ take at xs ++ (a ∷ b ∷ [])
 two-more xs at a b h =
@@ -113,13 +98,13 @@ module _ {n : ℕ} {l : ℕ → ℕ → ℕ} {open? : ℕ → ℕ → Bool} {K :
     next : IsEdgeUp n a b × (feasible? n l open? K c a b ≡ true) × (feasibleAfter n l open? K c x y ≡ edge a b ∷ feasibleAfter n l open? K c a b)
     next = next-is-pair n l open? K c x y (f .low) (f .up) (f .high) e
 
-    pub fewer-left : length (feasibleAfter n l open? K c a b) < length (feasibleAfter n l open? K c x y)
+    fewer-left : length (feasibleAfter n l open? K c a b) < length (feasibleAfter n l open? K c x y)
     fewer-left = omega (arith, ap length (next .2))
 
-    pub space : (count < 16110) × (2 * count + 1 < length found)
+    space : (count < 16110) × (2 * count + 1 < length found)
     space = (omega (arith, f .counted, f .few, ap length (next .2)), omega (arith, f .counted, f .room, ap length (next .2)))
 
-    pub finding-on : Finding n l open? K c found₀ (set (set found (2 * count) a) (2 * count + 1) b) a b (count + 1)
+    finding-on : Finding n l open? K c found₀ (set (set found (2 * count) a) (2 * count + 1) b) a b (count + 1)
     unfolding numbersOf
     finding-on =
         let two : 2 * (count + 1) ≡ suc (suc (2 * count)) = omega arith in
@@ -139,7 +124,7 @@ module _ {n : ℕ} {l : ℕ → ℕ → ℕ} {open? : ℕ → ℕ → Bool} {K :
               ∙ f .written;
         }
 
-  pub all-found : firstOf (feasibleAfter n l open? K c x y) ≡ End → Found (feasiblePairs n l open? K c) count found
+  all-found : firstOf (feasibleAfter n l open? K c x y) ≡ End → Found (feasiblePairs n l open? K c) count found
   unfolding numbersOf
   all-found e =
       let none = next-is-end n l open? K c x y e in
@@ -152,6 +137,61 @@ module _ {n : ℕ} {l : ℕ → ℕ → ℕ} {open? : ℕ → ℕ → Bool} {K :
             ∙ f .written;
         few = omega (arith, f .few);
         room = omega (arith, f .room);
+      }
+
+-- the same, with what the search looks up
+pub record Searching (n : ℕ) (table marks : List ℕ) (k : EdgeSet) (c : ℕ) (found₀ legs : List ℕ) (bound : ℕ) (ways : List ℕ) (centre : Near) (near rank found : List ℕ) (x y count : ℕ) : Type 0 where
+  pub asked : SearchAsked n table marks k c found₀
+  pub bounded : Bounded legs bound
+  pub prepared : Prepared n (lengthOf n table) (openIn n marks) (edgeList k) c legs bound
+  pub scouted : Scouted (edgeList k) c ways centre
+  pub listed : NearbyOf n legs near rank
+  pub at : Finding n (lengthOf n table) (openIn n marks) (edgeList k) c found₀ found x y count
+
+pub search-start : {n : ℕ} {table marks : List ℕ} {k : EdgeSet} {c : ℕ} {found : List ℕ} {s : Split} {ways : List ℕ} {centre : Near} {near rank : List ℕ} → SearchAsked n table marks k c found
+    → SplitOf n table marks k c s → Ways (edgeList k) c ways → centre ≡ neighbours (edgeList k) c → NearbyOf n (s .legs) near rank
+    → Searching n table marks k c found (s .legs) (s .bound) ways centre near rank found 1 1 0
+search-start g sp each own listed = record {
+  asked = g;
+  bounded = sp .bounded;
+  prepared = sp .prepared;
+  scouted = record { each = each; own = own };
+  listed = listed;
+  at = finding-start g;
+}
+
+module _ {n : ℕ} {table marks : List ℕ} {k : EdgeSet} {c : ℕ} {found₀ legs : List ℕ} {bound : ℕ} {ways : List ℕ} {centre : Near} {near rank found : List ℕ} {x y count : ℕ}
+    (f : Searching n table marks k c found₀ legs bound ways centre near rank found x y count) where
+  pub search-asks : Searchable n table legs near rank bound ways centre k x y
+  search-asks = record {
+    row = record { lengths = f .asked .split .legs .lengths; bounded = f .bounded; listed = f .listed; low = f .at .low; up = f .at .up; high = f .at .high };
+    fit = fit-of (f .scouted);
+    stored = f .asked .split .held .stored;
+  }
+
+  module _ {r : NextPair} (next : Next n table legs bound ways centre k x y r) where
+    -- what `next_pair` answers is the first of the pairs left
+    first : {p : NextPair} → r ≡ p → firstOf (feasibleAfter n (lengthOf n table) (openIn n marks) (edgeList k) c x y) ≡ p
+    first e = sym (next .first (openIn n marks) c (f .prepared) (f .scouted)) ∙ e
+
+    pub search-done : r ≡ End → Found (feasiblePairs n (lengthOf n table) (openIn n marks) (edgeList k) c) count found
+    search-done e = all-found (f .at) (first e)
+
+    module _ {a b : ℕ} (e : r ≡ Pair a b) where
+      pub search-less : length (feasibleAfter n (lengthOf n table) (openIn n marks) (edgeList k) c a b) < length (feasibleAfter n (lengthOf n table) (openIn n marks) (edgeList k) c x y)
+      search-less = fewer-left (f .at) (first e)
+
+      pub search-room : (count < 16110) × (2 * count + 1 < length found)
+      search-room = space (f .at) (first e)
+
+      pub search-on : Searching n table marks k c found₀ legs bound ways centre near rank (set (set found (2 * count) a) (2 * count + 1) b) a b (count + 1)
+      search-on = record {
+        asked = f .asked;
+        bounded = f .bounded;
+        prepared = f .prepared;
+        scouted = f .scouted;
+        listed = f .listed;
+        at = finding-on (f .at) (first e);
       }
 
 -- the loop of `copy`

@@ -88,7 +88,7 @@ fn barred_in(low: u16, high: u16, x: u16) -> u16
     0
 }
 
-// Writes the feasible pairs at a point beside K's edge, whose points are low and high, row by row, and answers how many there are.
+// Writes the feasible pairs at a point apart from K's edge, whose ends are low and high, row by row, and answers how many there are.
 fn find_apart(
     n: u16,
     table: &[u32],
@@ -119,8 +119,8 @@ fn find_apart(
     count
 }
 
-// Writes the feasible pairs of k at c, x then y for each, and answers how many there are: for a point c of k's edge.
-fn find_beside(n: u16, table: &[u32], marks: &[u8], k: EdgeSet, c: u16, found: &mut [u16]) -> u16
+// Writes the feasible pairs of k at c, x then y for each, and answers how many there are: for an end c of k's edge.
+fn find_at_end(n: u16, table: &[u32], marks: &[u8], k: EdgeSet, c: u16, found: &mut [u16]) -> u16
     requires { ⌜ SearchAsked n (now table) (now marks) k c (now found) ⌝ }
     ensures { λ r. ⌜ Found (feasiblePairs n (lengthOf n (now (table .entry))) (openIn n (now (marks .entry))) (edgeList k) c) r (now (found .exit)) ⌝ }
 {
@@ -156,10 +156,10 @@ fn find_pairs(n: u16, table: &[u32], marks: &[u8], a: u16, b: u16, c: u16, found
 {
     let k = EdgeSet::single(a, b);
     if c == a {
-        return find_beside(n, table, marks, k, c, found);
+        return find_at_end(n, table, marks, k, c, found);
     }
     if c == b {
-        return find_beside(n, table, marks, k, c, found);
+        return find_at_end(n, table, marks, k, c, found);
     }
     let split = prepare_single(n, table, marks, k, c);
     let legs = split.legs;

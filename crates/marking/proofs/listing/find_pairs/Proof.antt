@@ -1,32 +1,32 @@
 -- `marking::listing::find_pairs` meets its contract: each search has its lemma in `ListingChoice`. Assumes nothing.
 use borrow.Author.Needs.{needs}
-use Rattle.marking.proofs.ListingChoice.{beside-asked, beside-found, prepared-single, apart-up, apart-down}
+use Rattle.marking.proofs.ListingChoice.{end-asked, end-found, prepared-single, apart-up, apart-down}
 use Rattle.marking.proofs.listing.find_pairs.Statement.{statement}
 use Rattle.marking.proofs.listing.find_pairs.Tie as tie
 
 single-requires : tie.Need-single-requires
 single-requires c κs = search needs
 
-find-beside-requires : tie.Need-find-beside-requires
-find-beside-requires c κs = beside-asked (c .before .before .before .before .before .before .pre) (c .before .before .single .ensures)
+find-at-end-requires : tie.Need-find-at-end-requires
+find-at-end-requires c κs = end-asked (c .before .before .before .before .before .before .pre) (c .before .before .single .ensures)
 
 same-length : tie.Need-same-length
 same-length c = search needs
 
 returns : tie.Need-returns
-returns c = beside-found (c .before .before .before .before .before .before .before .before .before .pre) (c .before .before .before .before .before .single .ensures) (c .before .before .find-beside .ensures)
+returns c = end-found (c .before .before .before .before .before .before .before .before .before .pre) (c .before .before .before .before .before .single .ensures) (c .before .before .find-at-end .ensures)
 
-find-beside-requires-2 : tie.Need-find-beside-requires-2
-find-beside-requires-2 c κs = beside-asked (c .before .before .before .before .before .before .before .pre) (c .before .before .before .single .ensures)
+find-at-end-requires-2 : tie.Need-find-at-end-requires-2
+find-at-end-requires-2 c κs = end-asked (c .before .before .before .before .before .before .before .pre) (c .before .before .before .single .ensures)
 
 same-length-2 : tie.Need-same-length-2
 same-length-2 c = search needs
 
 returns-2 : tie.Need-returns-2
-returns-2 c = beside-found (c .before .before .before .before .before .before .before .before .before .before .pre) (c .before .before .before .before .before .before .single .ensures) (c .before .before .find-beside2 .ensures)
+returns-2 c = end-found (c .before .before .before .before .before .before .before .before .before .before .pre) (c .before .before .before .before .before .before .single .ensures) (c .before .before .find-at-end2 .ensures)
 
 prepare-single-requires : tie.Need-prepare-single-requires
-prepare-single-requires c κs = beside-asked (c .before .before .before .before .before .before .pre) (c .before .before .single .ensures) .split
+prepare-single-requires c κs = end-asked (c .before .before .before .before .before .before .pre) (c .before .before .single .ensures) .split
 
 find-apart-requires : tie.Need-find-apart-requires
 find-apart-requires c κs = search needs
@@ -51,10 +51,10 @@ find-pairs-spec =
     tie.close
     (tie.spec
     single-requires
-    find-beside-requires
+    find-at-end-requires
     same-length
     returns
-    find-beside-requires-2
+    find-at-end-requires-2
     same-length-2
     returns-2
     prepare-single-requires
