@@ -1,110 +1,133 @@
--- The numbers of refusals: those of 01's tests, 8 to 14, and those of the closing, and never 0. So the fuel never runs out, and a verdict
--- of 0 is an acceptance.
+-- What a refusal of the walk tells: a number from 8 to 16, and a record of the sheet. So the fuel never runs out, and a verdict of 0 is an
+-- acceptance. The record is the one entered, or the one that has the index, which was entered before.
 use Prim.Native.Nat.{ℕ, zero, suc, _+_, _≤_, _<_}
-use mathlib.Core.Path.{_≡_, refl, sym, _∙_, subst}
+use mathlib.Core.Path.{_≡_, refl, sym, _∙_, ap, subst}
 use mathlib.Core.Logic.{_⊎_, inl, inr, ⊎-elim}
 use mathlib.Core.Bool.{Bool, true, false}
 use mathlib.Core.List.{List, [], _∷_}
 use native.Mathlib.Omega.{arith}
 use lib.Dec.{eqb}
-use borrow.Author.Tests.{eqb-true, eqb-false}
+use borrow.Author.Tests.{eqb-true, eqb-false, leb-true, ltb-true}
 use Rattle.lengths.specs.Edge.{Edge, edge}
 use Rattle.argument.specs.Verdict.{Verdict, accepted, refused, andThen}
-use Rattle.argument.specs.Record.{How, splits, crosses, Record, line, case, other, records, recordAt}
-use Rattle.argument.specs.Rules.{Rules}
+use Rattle.argument.specs.Record.{How, splits, crosses, Record, line, case, other, records, Readable, recordAt}
+use Rattle.argument.specs.Rules.{Rules, Lawful}
 use Rattle.argument.specs.Argument.{splitLimit}
+use Rattle.argument.specs.Layout.{Enters}
 use Rattle.argument.specs.Walk.{Spot, Step, ends, takes, entering, readCase, look, opening, behind, close, act, follow, walkBy, walk}
-use Rattle.argument.specs.Line.{strikes, judgeRecord, judge}
-use Rattle.argument.specs.Sheet.{Marking, Place, Turn, over, onward, struck, turn, answer, proceed, linesBy, linesFrom, start, sheet}
-use Rattle.argument.proofs.Verdicts.{refused-accepted, number-is, guard-refused, unless-refused, andThen-refused}
+use Rattle.argument.specs.Line.{Struck, strikes, judgeRecord, judge}
+use Rattle.argument.specs.Sheet.{Marking, Place, struck, start, Result, CompleteLines, Stops, ended, above, not-above, incomplete, Marks, RefusedAt}
+use Rattle.argument.proofs.Verdicts.{refused-accepted, refused-inj, guard-refused, unless-refused, andThen-refused}
 use Rattle.argument.proofs.Steps.{Looked, looked, look-end, look-on}
 use Rattle.argument.proofs.Fuel.{close-rises, walk-rises}
-use Rattle.argument.proofs.Sheet.{turn-over, turn-on, turn-rises}
 
--- a number that the tests or the closing refuse by, whatever P says of them
-pub record Refusals (R : Rules) (P : ℕ → Type 0) : Type 0 where
-  pub tests : (m : ℕ) → 8 ≤ m → m ≤ 14 → P m
-  pub closings : (K : List Edge) (p q r s : ℕ) → 1 ≤ R .closing K p q r s → P (R .closing K p q r s)
+module _ (s : List ℕ) where
+  -- a test of 8 to 14 that names the record i
+  tested : (k i m r : ℕ) → 8 ≤ k → k ≤ 16 → Readable s i → (k ≡ m) × (i ≡ r) → RefusedAt s m r
+  tested k i m r l h named e = record { low = omega (arith, e .0); high = omega (arith, e .0); named = subst (Readable s) (e .1) named }
 
-module _ (R : Rules) (s : List ℕ) (P : ℕ → Type 0) (all : Refusals R P) where
-  test : (n m : ℕ) → 8 ≤ n → n ≤ 14 → n ≡ m → P m
-  test n m l h e = subst P e (all .tests n l h)
+  entered : {high i : ℕ} → Enters s high i → Readable s i
+  entered h = record { low = omega (arith, h); high = h .inside }
 
-  entering-number : {A : Type 0} (last high i : ℕ) (k : Unit {0} → Verdict A) (m r : ℕ) → (k tt ≡ refused m r → P m) → entering s last high i k ≡ refused m r → P m
+  entering-told : {A : Type 0} (last high i : ℕ) (k : Unit {0} → Verdict A) (m r : ℕ) → Readable s last → (Readable s i → k tt ≡ refused m r → RefusedAt s m r) →
+      entering s last high i k ≡ refused m r → RefusedAt s m r
   unfolding entering
-  entering-number last high i k m r f e =
-      ⊎-elim (test 8 m (omega arith) (omega arith)) (λ z. ⊎-elim (test 9 m (omega arith) (omega arith)) f (guard-refused _ _ _ _ m r z)) (guard-refused _ _ _ _ m r e)
+  entering-told last high i k m r named f e =
+      ⊎-elim (tested 8 last m r (omega arith) (omega arith) named)
+      (λ z. ⊎-elim (tested 9 last m r (omega arith) (omega arith) named)
+      (λ y. f (record { low = omega (arith, ltb-true high i (y .0)); high = leb-true i (records s) (z .0) }) (y .1)) (guard-refused _ _ _ _ m r (z .1)))
+      (guard-refused _ _ _ _ m r e)
 
-  read-number : (q : Spot) (x : Record) (m r : ℕ) → readCase R q x ≡ refused m r → P m
-  unfolding readCase
-  read-number q (line a b c first next) m r e = test 10 m (omega arith) (omega arith) (number-is e)
-  read-number q (case a b how next) m r e =
-      ⊎-elim (test 11 m (omega arith) (omega arith)) (λ z. ⊎-elim (test 14 m (omega arith) (omega arith)) (λ y. absurd (refused-accepted (sym y))) (guard-refused _ _ _ _ m r z)) (guard-refused _ _ _ _ m r e)
-  read-number q other m r e = test 10 m (omega arith) (omega arith) (number-is e)
+  module _ (R : Rules) (law : Lawful R) where
+    read-told : (q : Spot) (x : Record) (m r : ℕ) → Readable s (q .index) → readCase R q x ≡ refused m r → RefusedAt s m r
+    unfolding readCase
+    read-told q (line a b c first next) m r named e = tested 10 _ m r (omega arith) (omega arith) named (refused-inj e)
+    read-told q (case a b how next) m r named e =
+        ⊎-elim (tested 11 _ m r (omega arith) (omega arith) named)
+        (λ z. ⊎-elim (tested 14 _ m r (omega arith) (omega arith) named) (λ y. absurd (refused-accepted (sym (y .1)))) (guard-refused _ _ _ _ m r (z .1)))
+        (guard-refused _ _ _ _ m r e)
+    read-told q other m r named e = tested 10 _ m r (omega arith) (omega arith) named (refused-inj e)
 
-  pub look-number : (q : Spot) (m r : ℕ) → look R s q ≡ refused m r → P m
-  look-number q m r e = by (eqb (q .index) 0) refl
+    look-told : (q : Spot) (m r : ℕ) → Readable s (q .last) → look R s q ≡ refused m r → RefusedAt s m r
+    look-told q m r named e = by (eqb (q .index) 0) refl
+      where
+        by : (b : Bool) → eqb (q .index) 0 ≡ b → RefusedAt s m r
+        by true z =
+            ⊎-elim (tested 14 _ m r (omega arith) (omega arith) named) (λ y. absurd (refused-accepted (sym (y .1))))
+            (guard-refused _ _ _ _ m r (sym (look-end R s q (eqb-true (q .index) 0 z)) ∙ e))
+        by false z = entering-told _ _ _ _ m r named (read-told q _ m r) (sym (look-on R s q (eqb-false (q .index) 0 z)) ∙ e)
+
+    close-told : (go : Spot → Verdict ℕ) (left : ℕ) (K : List Edge) (i : ℕ) (how : How) (m r : ℕ) → Readable s i →
+        ((q : Spot) → i ≤ q .high → Readable s (q .last) → go q ≡ refused m r → RefusedAt s m r) → close R go left K i how ≡ refused m r → RefusedAt s m r
+    unfolding close opening
+    close-told go left K i (splits c first) m r named f e =
+        ⊎-elim (tested 13 i m r (omega arith) (omega arith) named) (λ z. f (opening R left K i c first) (omega arith) named (z .1)) (guard-refused _ _ _ _ m r e)
+    close-told go left K i (crosses p q u v) m r named f e =
+        let z = unless-refused _ _ _ m r e in
+        let k = law .closing-number K p q u v (omega (arith, z .0, z .2)) in
+        tested (R .closing K p q u v) i m r (omega (arith, k .0)) (k .1) named (z .0, z .1)
+
+    walkBy-told : (fuel : ℕ) (q : Spot) (m r : ℕ) → 1 ≤ fuel → records s < fuel + q .high → Readable s (q .last) → walkBy R s fuel q ≡ refused m r → RefusedAt s m r
+    unfolding walkBy follow act behind
+    walkBy-told zero q m r h l named e = absurd (omega arith)
+    walkBy-told (suc fuel) q m r h l named e =
+        ⊎-elim (look-told q m r named) (λ v. by (v .0) (looked R s q (v .0) (v .1)) (v .2) (λ q′ h′ l′. walkBy-told fuel q′ m r h′ l′)) (andThen-refused _ _ m r e)
+      where
+        by : (step : Step) → Looked R s q step → act R (walkBy R s fuel) q step ≡ refused m r →
+            ((q′ : Spot) → 1 ≤ fuel → records s < fuel + q′ .high → Readable s (q′ .last) → walkBy R s fuel q′ ≡ refused m r → RefusedAt s m r) → RefusedAt s m r
+        by ends k z ih = absurd (refused-accepted (sym z))
+        by (takes a b how next) k z ih =
+            let in-chain : (q′ : Spot) → q .index ≤ q′ .high → Readable s (q′ .last) → walkBy R s fuel q′ ≡ refused m r → RefusedAt s m r =
+            λ q′ le. ih q′ (omega (arith, k .entered)) (omega (arith, k .entered)) in
+            ⊎-elim (close-told (walkBy R s fuel) _ _ _ how m r (entered (k .entered)) in-chain)
+            (λ v. in-chain (behind q next (v .0)) (close-rises R s (walkBy R s fuel) (walk-rises R s fuel) _ _ _ how (v .0) (v .1)) (entered (k .entered)) (v .2))
+            (andThen-refused _ _ m r z)
+
+    walk-told : (q : Spot) (m r : ℕ) → Readable s (q .last) → walk R s q ≡ refused m r → RefusedAt s m r
+    unfolding walk
+    walk-told q m r named e = walkBy-told (suc (records s)) q m r (omega arith) (omega arith) named e
+
+    record-told : (open? : ℕ → ℕ → Bool) (i : ℕ) (x : Record) (m r : ℕ) → Readable s i → judgeRecord R open? s i x ≡ refused m r → RefusedAt s m r
+    unfolding judgeRecord
+    record-told open? i (line a b c first next) m r named e =
+        ⊎-elim (tested 11 i m r (omega arith) (omega arith) named)
+        (λ z. ⊎-elim (tested 12 i m r (omega arith) (omega arith) named) (λ y. inside (y .1)) (guard-refused _ _ _ _ m r (z .1)))
+        (guard-refused _ _ _ _ m r e)
+      where
+        inside : andThen (close R (walk R s) splitLimit (edge a b ∷ []) i (splits c first)) (λ high. accepted (strikes a b next high)) ≡ refused m r → RefusedAt s m r
+        inside z =
+            ⊎-elim (close-told (walk R s) splitLimit (edge a b ∷ []) i (splits c first) m r named (λ q le. walk-told q m r))
+            (λ v. absurd (refused-accepted (sym (v .2)))) (andThen-refused _ _ m r z)
+    record-told open? i (case a b how next) m r named e = tested 10 i m r (omega arith) (omega arith) named (refused-inj e)
+    record-told open? i other m r named e = tested 10 i m r (omega arith) (omega arith) named (refused-inj e)
+
+    judge-told : (open? : ℕ → ℕ → Bool) (i m r : ℕ) → Readable s i → judge R open? s i ≡ refused m r → RefusedAt s m r
+    unfolding judge
+    judge-told open? i m r named e = record-told open? i (recordAt s i) m r named e
+
+module _ {M : Type 0} (𝓜 : Marking M) (law : (m : M) → Lawful (𝓜 .rules m)) (s : List ℕ) where
+  -- where a sheet stands between two lines: behind a line, or before the first
+  abbrev Behind : Place M → Type 0
+  Behind p = Readable s (p .last) ⊎ ((p .index ≡ 1) × (p .high ≡ 0))
+
+  behind-lines : (xs : List Struck) (p q : Place M) → Behind p → CompleteLines 𝓜 s p xs q → Behind q
+  unfolding CompleteLines struck
+  behind-lines [] p q b e = subst Behind e b
+  behind-lines (x ∷ xs) p q b h = behind-lines xs (struck 𝓜 p x) q (inl (subst (Readable s) (last x) (entered s (h .0)))) (h .2)
     where
-      by : (b : Bool) → eqb (q .index) 0 ≡ b → P m
-      by true z = ⊎-elim (test 14 m (omega arith) (omega arith)) (λ y. absurd (refused-accepted (sym y))) (guard-refused _ _ _ _ m r (sym (look-end R s q (eqb-true (q .index) 0 z)) ∙ e))
-      by false z = entering-number _ _ _ _ m r (read-number q _ m r) (sym (look-on R s q (eqb-false (q .index) 0 z)) ∙ e)
+      last : (x : Struck) → p .index ≡ struck 𝓜 p x .last
+      last (strikes a c next high) = refl
 
-  close-number : (go : Spot → Verdict ℕ) (left : ℕ) (K : List Edge) (i : ℕ) (how : How) (m r : ℕ) → ((q : Spot) → i ≤ q .high → go q ≡ refused m r → P m) → close R go left K i how ≡ refused m r → P m
-  unfolding close opening
-  close-number go left K i (splits c first) m r f e = ⊎-elim (test 13 m (omega arith) (omega arith)) (f (opening R left K i c first) (omega arith)) (guard-refused _ _ _ _ m r e)
-  close-number go left K i (crosses p q u v) m r f e = let z = unless-refused _ _ _ m r e in subst P (z .0) (all .closings K p q u v (omega (arith, z .0, z .1)))
+  stops-told : (q : Place M) (v : Verdict (Unit {0})) → 1 ≤ records s → Behind q → Stops 𝓜 s q v → (m r : ℕ) → v ≡ refused m r → RefusedAt s m r
+  stops-told q v some b (ended z) m r e = absurd (refused-accepted (sym e))
+  stops-told q v some b (above h) m r e = ⊎-elim (λ named. tested s 8 (q .last) m r (omega arith) (omega arith) named (refused-inj e)) (λ z. absurd (omega (arith, z .0))) b
+  stops-told q v some b (not-above z h l) m r e = ⊎-elim (λ named. tested s 9 (q .last) m r (omega arith) (omega arith) named (refused-inj e)) (λ y. absurd (omega (arith, y .1, z))) b
+  stops-told q v some b (incomplete {number} {rec} h l j) m r e =
+      let t = judge-told s (𝓜 .rules (q .marks)) (law (q .marks)) (𝓜 .open? (q .marks)) (q .index) number rec (entered s h) j in
+      let z = refused-inj e in
+      tested s number rec m r (t .low) (t .high) (t .named) z
 
-  walkBy-number : (fuel : ℕ) (q : Spot) (m r : ℕ) → 1 ≤ fuel → records s < fuel + q .high → walkBy R s fuel q ≡ refused m r → P m
-  unfolding walkBy follow act behind
-  walkBy-number zero q m r h l e = absurd (omega arith)
-  walkBy-number (suc fuel) q m r h l e =
-      ⊎-elim (look-number q m r) (λ v. by (v .0) (looked R s q (v .0) (v .1)) (v .2) (λ q′ h′ l′. walkBy-number fuel q′ m r h′ l′)) (andThen-refused _ _ m r e)
-    where
-      by : (step : Step) → Looked R s q step → act R (walkBy R s fuel) q step ≡ refused m r → ((q′ : Spot) → 1 ≤ fuel → records s < fuel + q′ .high → walkBy R s fuel q′ ≡ refused m r → P m) → P m
-      by ends k z ih = absurd (refused-accepted (sym z))
-      by (takes a b how next) k z ih =
-          let in-chain : (q′ : Spot) → q .index ≤ q′ .high → walkBy R s fuel q′ ≡ refused m r → P m = λ q′ le. ih q′ (omega (arith, k .entered)) (omega (arith, k .entered)) in
-          ⊎-elim (close-number (walkBy R s fuel) _ _ _ how m r in-chain) (λ v. in-chain (behind q next (v .0)) (close-rises R s (walkBy R s fuel) (walk-rises R s fuel) _ _ _ how (v .0) (v .1)) (v .2)) (andThen-refused _ _ m r z)
-
-  pub walk-number : (q : Spot) (m r : ℕ) → walk R s q ≡ refused m r → P m
-  unfolding walk
-  walk-number q m r e = walkBy-number (suc (records s)) q m r (omega arith) (omega arith) e
-
-  record-number : (open? : ℕ → ℕ → Bool) (i : ℕ) (x : Record) (m r : ℕ) → judgeRecord R open? s i x ≡ refused m r → P m
-  unfolding judgeRecord
-  record-number open? i (line a b c first next) m r e =
-      ⊎-elim (test 11 m (omega arith) (omega arith)) (λ z. ⊎-elim (test 12 m (omega arith) (omega arith)) inside (guard-refused _ _ _ _ m r z)) (guard-refused _ _ _ _ m r e)
-    where
-      inside : andThen (close R (walk R s) splitLimit (edge a b ∷ []) i (splits c first)) (λ high. accepted (strikes a b next high)) ≡ refused m r → P m
-      inside z = ⊎-elim (close-number (walk R s) splitLimit (edge a b ∷ []) i (splits c first) m r (λ q le. walk-number q m r)) (λ v. absurd (refused-accepted (sym (v .2)))) (andThen-refused _ _ m r z)
-  record-number open? i (case a b how next) m r e = test 10 m (omega arith) (omega arith) (number-is e)
-  record-number open? i other m r e = test 10 m (omega arith) (omega arith) (number-is e)
-
-  pub judge-number : (open? : ℕ → ℕ → Bool) (i m r : ℕ) → judge R open? s i ≡ refused m r → P m
-  unfolding judge
-  judge-number open? i m r e = record-number open? i (recordAt s i) m r e
-
-module _ {M : Type 0} (𝓜 : Marking M) (s : List ℕ) (P : ℕ → Type 0) (all : (m : M) → Refusals (𝓜 .rules m) P) where
-  pub turn-number : (p : Place M) (m r : ℕ) → turn 𝓜 s p ≡ refused m r → P m
-  turn-number p m r e = by (eqb (p .index) 0) refl
-    where
-      by : (b : Bool) → eqb (p .index) 0 ≡ b → P m
-      by true z = absurd (refused-accepted (sym e ∙ turn-over 𝓜 s p (eqb-true (p .index) 0 z)))
-      by false z =
-          entering-number (𝓜 .rules (p .marks)) s P (all (p .marks)) _ _ _ _ m r
-          (λ y. ⊎-elim (judge-number (𝓜 .rules (p .marks)) s P (all (p .marks)) (𝓜 .open? (p .marks)) (p .index) m r) (λ v. absurd (refused-accepted (sym (v .2)))) (andThen-refused _ _ m r y))
-          (sym (turn-on 𝓜 s p (eqb-false (p .index) 0 z)) ∙ e)
-
-  lines-number : (fuel : ℕ) (p : Place M) (m r : ℕ) → 1 ≤ fuel → records s < fuel + p .high → linesBy 𝓜 s fuel p .verdict ≡ refused m r → P m
-  unfolding linesBy proceed answer
-  lines-number zero p m r h l e = absurd (omega arith)
-  lines-number (suc fuel) p m r h l e = by (turn 𝓜 s p) refl e (λ p′ h′ l′. lines-number fuel p′ m r h′ l′)
-    where
-      by : (v : Verdict (Turn M)) → turn 𝓜 s p ≡ v → proceed (linesBy 𝓜 s fuel) p v .verdict ≡ refused m r → ((p′ : Place M) → 1 ≤ fuel → records s < fuel + p′ .high → linesBy 𝓜 s fuel p′ .verdict ≡ refused m r → P m) → P m
-      by (accepted over) z y ih = absurd (refused-accepted (sym y))
-      by (accepted (onward p′)) z y ih = let t = turn-rises 𝓜 s p p′ z in ih p′ (omega (arith, t .0)) (omega (arith, t .0)) y
-      by (refused n i) z y ih = subst P (number-is y) (turn-number p n i z)
-
-  pub sheet-number : (m₀ : M) (m r : ℕ) → sheet 𝓜 s m₀ .verdict ≡ refused m r → P m
-  unfolding sheet linesFrom start
-  sheet-number m₀ m r e = lines-number (suc (records s)) (start m₀) m r (omega arith) (omega arith) e
+  -- a sheet of at least one record that is refused among its lines tells a number from 8 to 16 and a record
+  pub marks-told : (m₀ : M) (a : Result M) → 1 ≤ records s → Marks 𝓜 s (start m₀) a → (m r : ℕ) → a .verdict ≡ refused m r → RefusedAt s m r
+  unfolding start
+  marks-told m₀ a some t = stops-told (t .place) (a .verdict) some (behind-lines (t .lines) (start m₀) (t .place) (inr (refl, refl)) (t .chain)) (t .stops)

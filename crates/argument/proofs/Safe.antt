@@ -9,7 +9,7 @@ use Rattle.rules.specs.Pair.{withPair}
 use Rattle.rules.specs.Rising.{Among}
 use Rattle.argument.specs.Verdict.{accepted}
 use Rattle.argument.specs.Rules.{Rules, Lawful}
-use Rattle.argument.specs.Argument.{Cases, none, pair, Closing, split, crossing, names, Closed, AllClosed, ArgumentFor}
+use Rattle.argument.specs.Argument.{Cases, none, pair, Closing, split, crossing, names, Complete, AllComplete, CompleteArgument}
 use Rattle.argument.specs.Line.{Struck, strikes, judge}
 use Rattle.argument.specs.Sheet.{Marking, Place, onward, struck, turn, Result, answer, start, sheet, run}
 use Rattle.argument.specs.Safety.{Upheld, Guarded}
@@ -17,20 +17,20 @@ use Rattle.argument.proofs.Exact.{line-sound}
 use Rattle.argument.proofs.Sheet.{Turned, turned, sheet-stop}
 
 module _ (R : Rules) (Good : List Edge → Type 0) (up : Upheld R Good) where
-  -- A closed closing rules out K. Take the case of the tour's own pair, which stands and so is named, and go down: the tour uses that
+  -- A complete closing rules out K. Take the case of the tour's own pair, which is feasible and so is named, and go down: the tour uses that
   -- case's K too. The tree ends in crossings and in splits with no case, and neither leaves room for the tour.
   mutual
-    unfolding Closed names
+    unfolding Complete names
 
-    pub closed-safe : (t : Closing) (K : List Edge) → Closed R K t → Good K → ⊥
-    closed-safe (split c cs) K cl g =
+    pub complete-safe : (t : Closing) (K : List Edge) → Complete R K t → Good K → ⊥
+    complete-safe (split c cs) K cl g =
         let k = up .keeps K c g (cl .0) in
-        cases-safe cs K c (cl .2) (k .0) (k .1) (subst (λ (es : List Edge). Among es (k .0) (k .1)) (sym (cl .1)) (k .2)) (k .3)
-    closed-safe (crossing p q r s) K cl g = up .unsettled K p q r s g cl
+        cases-safe cs K c (cl .2) (k .0) (k .1) (cl .1 .exactly (k .0) (k .1) .1 (k .2)) (k .3)
+    complete-safe (crossing p q r s) K cl g = up .unsettled K p q r s g cl
 
-    cases-safe : (cs : Cases) (K : List Edge) (c : ℕ) → AllClosed R K c cs → (x y : ℕ) → Among (names cs) x y → Good (withPair K c x y) → ⊥
+    cases-safe : (cs : Cases) (K : List Edge) (c : ℕ) → AllComplete R K c cs → (x y : ℕ) → Among (names cs) x y → Good (withPair K c x y) → ⊥
     cases-safe none K c cl x y m g = List·Memᴰ·not-nil m
-    cases-safe (pair a b t more) K c cl x y m g = ⊎-elim (λ e. closed-safe t (withPair K c a b) (cl .0) (same-pair a b x y K c e g)) (λ n. cases-safe more K c (cl .1) x y n g) (List·Memᴰ·cases-cons m)
+    cases-safe (pair a b t more) K c cl x y m g = ⊎-elim (λ e. complete-safe t (withPair K c a b) (cl .0) (same-pair a b x y K c e g)) (λ n. cases-safe more K c (cl .1) x y n g) (List·Memᴰ·cases-cons m)
       where
         same-pair : (a b x y : ℕ) (K : List Edge) (c : ℕ) → edge x y ≡ edge a b → Good (withPair K c x y) → Good (withPair K c a b)
         same-pair a b x y K c e g =
@@ -38,8 +38,8 @@ module _ (R : Rules) (Good : List Edge → Type 0) (up : Upheld R Good) where
             let eb : b ≡ y = cc in
             rw (ea, eb) g
 
-  pub argument-safe : (a b c : ℕ) (cs : Cases) → ArgumentFor R a b c cs → Good (edge a b ∷ []) → ⊥
-  argument-safe a b c cs arg g = closed-safe (split c cs) (edge a b ∷ []) (arg .closed) g
+  pub argument-safe : (a b c : ℕ) (cs : Cases) → CompleteArgument R a b c cs → Good (edge a b ∷ []) → ⊥
+  argument-safe a b c cs arg g = complete-safe (split c cs) (edge a b ∷ []) (arg .complete) g
 
   -- no line that strikes an edge of the tour is accepted
   pub line-safe : Lawful R → (open? : ℕ → ℕ → Bool) (s : List ℕ) (i a b next h : ℕ) → Good (edge a b ∷ []) → judge R open? s i ≡ accepted (strikes a b next h) → ⊥

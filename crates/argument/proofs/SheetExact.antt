@@ -1,90 +1,98 @@
--- What a sheet accepts: exactly the lines that are proved, each under the marks it finds, up to the first that is not.
+-- What a sheet answers: exactly what a chain of complete lines, each under the marks it finds, and the place where it stops come to.
 use Prim.Native.Nat.{ℕ, zero, suc, _+_, _≤_, _<_}
-use mathlib.Core.Path.{_≡_, refl, sym, _∙_, ap, subst}
+use mathlib.Core.Path.{_≡_, refl, sym, _∙_, ap, ap₂, subst}
 use mathlib.Core.Logic.{_↔_}
 use mathlib.Core.Bool.{Bool}
 use mathlib.Core.List.{List, [], _∷_}
+use native.Mathlib.Decide.{decLe}
 use native.Mathlib.Omega.{arith}
 use Rattle.argument.specs.Verdict.{Verdict, accepted, refused}
 use Rattle.argument.specs.Record.{records}
 use Rattle.argument.specs.Rules.{Rules, Lawful}
 use Rattle.argument.specs.Layout.{Enters}
-use Rattle.argument.specs.Line.{Struck, strikes, judge, Proved}
-use Rattle.argument.specs.Sheet.{Marking, Place, Turn, over, onward, struck, turn, Result, answer, linesFrom, start, sheet, ProvedLines}
-use Rattle.argument.proofs.Verdicts.{refused-accepted}
+use Rattle.argument.specs.Line.{Struck, strikes, judge, CompleteAt}
+use Rattle.argument.specs.Sheet.{Marking, Place, Turn, over, onward, struck, turn, Result, answer, linesFrom, start, sheet, CompleteLines, Stops, ended, above, not-above, incomplete, Marks}
+use Rattle.argument.proofs.Verdicts.{refused-accepted, refused-as}
 use Rattle.argument.proofs.Exact.{line-sound, line-complete}
-use Rattle.argument.proofs.Sheet.{Marked, turned, turn-over, turn-strikes, turn-rises, lines-over, lines-stop, lines-go-on}
+use Rattle.argument.proofs.Sheet.{Marked, turned, turn-over, turn-8, turn-9, turn-stops, turn-strikes, turn-rises, lines-over, lines-stop, lines-go-on}
 
 module _ (R : Rules) (law : Lawful R) (open? : ℕ → ℕ → Bool) (s : List ℕ) (i : ℕ) where
-  pub judge-proved : (x : Struck) → judge R open? s i ≡ accepted x → Proved R open? s i x
-  judge-proved (strikes a b next high) e = line-sound R law s open? i a b next high e
+  pub judge-complete : (x : Struck) → judge R open? s i ≡ accepted x → CompleteAt R open? s i x
+  judge-complete (strikes a b next high) e = line-sound R law s open? i a b next high e
 
-  pub proved-judge : (x : Struck) → Proved R open? s i x → judge R open? s i ≡ accepted x
-  proved-judge (strikes a b next high) l = line-complete R law s open? i a b next high l
-
--- how a sheet comes to its verdict at the place where it stops
-abbrev pub Ends : {M : Type 0} → Marking M → List ℕ → Place M → Verdict (Unit {0}) → Type 0
-Ends 𝓜 s q (accepted _) = q .index ≡ 0
-Ends 𝓜 s q (refused m r) = turn 𝓜 s q ≡ refused m r
-
--- the chain of proved lines behind a sheet's answer
-pub record Through {M : Type 0} (𝓜 : Marking M) (s : List ℕ) (p : Place M) (r : Result M) : Type 0 where
-  pub lines : List Struck
-  pub place : Place M
-  pub verdict : Verdict (Unit {0})
-  pub proved : ProvedLines 𝓜 s p lines place
-  pub ends : Ends 𝓜 s place verdict
-  pub answers : r ≡ answer place verdict
+  pub complete-judge : (x : Struck) → CompleteAt R open? s i x → judge R open? s i ≡ accepted x
+  complete-judge (strikes a b next high) l = line-complete R law s open? i a b next high l
 
 module _ {M : Type 0} (𝓜 : Marking M) (law : (m : M) → Lawful (𝓜 .rules m)) (s : List ℕ) where
-  -- a chain of proved lines is gone through
-  pub lines-along : (xs : List Struck) (p q : Place M) → ProvedLines 𝓜 s p xs q → linesFrom 𝓜 s p ≡ linesFrom 𝓜 s q
-  unfolding ProvedLines
+  -- a refused turn stops for one of the reasons: 8, 9, or a line that is not complete, since a complete one would be accepted
+  refused-stops : (q : Place M) (m r : ℕ) → turn 𝓜 s q ≡ refused m r → Stops 𝓜 s q (refused m r)
+  refused-stops q m r e =
+      elim (decLe (q .index) (records s)) [
+        | no h ↦ told (sym (turn-8 𝓜 s q (omega arith)) ∙ e) (above (omega arith))
+        | yes h ↦ elim (decLe (q .index) (q .high)) [
+          | yes l ↦ told (sym (turn-9 𝓜 s q some h l) ∙ e) (not-above some h l)
+          | no l ↦ judged (record { above = omega arith; inside = h }) (judge (𝓜 .rules (q .marks)) (𝓜 .open? (q .marks)) s (q .index)) refl
+        ]
+      ]
+    where
+      some : q .index ≡ 0 → ⊥
+      some z = refused-accepted (sym e ∙ turn-over 𝓜 s q z)
+
+      told : {k i : ℕ} → _≡_ {A = Verdict (Turn M)} (refused k i) (refused m r) → Stops 𝓜 s q (refused k i) → Stops 𝓜 s q (refused m r)
+      told z st = subst (Stops 𝓜 s q) (refused-as z) st
+
+      judged : Enters s (q .high) (q .index) → (v : Verdict Struck) → judge (𝓜 .rules (q .marks)) (𝓜 .open? (q .marks)) s (q .index) ≡ v → Stops 𝓜 s q (refused m r)
+      judged h (accepted x) j = absurd (refused-accepted (sym e ∙ turn-strikes 𝓜 s q h x j))
+      judged h (refused k i) j =
+          told (sym (turn-stops 𝓜 s q h k i j) ∙ e)
+          (incomplete h (λ x l. refused-accepted (sym j ∙ complete-judge _ (law (q .marks)) _ s (q .index) x l)) j)
+
+  -- a chain of complete lines is gone through, to the place where it stops
+  lines-along : (xs : List Struck) (p q : Place M) → CompleteLines 𝓜 s p xs q → linesFrom 𝓜 s p ≡ linesFrom 𝓜 s q
+  unfolding CompleteLines
   lines-along [] p q e = ap (linesFrom 𝓜 s) e
   lines-along (x ∷ xs) p q h =
-      lines-go-on 𝓜 s p (struck 𝓜 p x) (turn-strikes 𝓜 s p (h .0) x (proved-judge _ (law (p .marks)) _ s (p .index) x (h .1))) ∙ lines-along xs (struck 𝓜 p x) q (h .2)
+      lines-go-on 𝓜 s p (struck 𝓜 p x) (turn-strikes 𝓜 s p (h .0) x (complete-judge _ (law (p .marks)) _ s (p .index) x (h .1))) ∙ lines-along xs (struck 𝓜 p x) q (h .2)
+
+  stopped : (q : Place M) (v : Verdict (Unit {0})) → Stops 𝓜 s q v → linesFrom 𝓜 s q ≡ answer q v
+  stopped q v (ended z) = lines-over 𝓜 s q (turn-over 𝓜 s q z)
+  stopped q v (above h) = lines-stop 𝓜 s q 8 (q .last) (turn-8 𝓜 s q h)
+  stopped q v (not-above z h l) = lines-stop 𝓜 s q 9 (q .last) (turn-9 𝓜 s q z h l)
+  stopped q v (incomplete {number} {rec} h l j) = lines-stop 𝓜 s q number rec (turn-stops 𝓜 s q h number rec j)
 
   -- and every answer comes of one: as many steps as there are records left above the highest entered, and one, are enough
-  lines-through : (fuel : ℕ) (p : Place M) → 1 ≤ fuel → records s < fuel + p .high → Through 𝓜 s p (linesFrom 𝓜 s p)
-  unfolding ProvedLines
-  lines-through zero p h l = absurd (omega arith)
-  lines-through (suc fuel) p h l = by (turn 𝓜 s p) refl (λ p′ e. let r = turn-rises 𝓜 s p p′ e in lines-through fuel p′ (omega (arith, r .0)) (omega (arith, r .0)))
+  lines-marks : (fuel : ℕ) (p : Place M) → 1 ≤ fuel → records s < fuel + p .high → Marks 𝓜 s p (linesFrom 𝓜 s p)
+  unfolding CompleteLines answer
+  lines-marks zero p h l = absurd (omega arith)
+  lines-marks (suc fuel) p h l = by (turn 𝓜 s p) refl (λ p′ e. let r = turn-rises 𝓜 s p p′ e in lines-marks fuel p′ (omega (arith, r .0)) (omega (arith, r .0)))
     where
-      step : (p′ : Place M) → turn 𝓜 s p ≡ accepted (onward p′) → Marked 𝓜 s p p′ → Through 𝓜 s p′ (linesFrom 𝓜 s p′) → Through 𝓜 s p (linesFrom 𝓜 s p)
+      here : (v : Verdict (Unit {0})) → Stops 𝓜 s p v → Marks 𝓜 s p (linesFrom 𝓜 s p)
+      here v st = subst (Marks 𝓜 s p) (sym (stopped p v st)) (record { lines = []; place = p; chain = refl; stops = st; marks-left = refl; counted = refl })
+
+      step : (p′ : Place M) → turn 𝓜 s p ≡ accepted (onward p′) → Marked 𝓜 s p p′ → Marks 𝓜 s p′ (linesFrom 𝓜 s p′) → Marks 𝓜 s p (linesFrom 𝓜 s p)
       step p′ e m t =
-          record {
+          subst (Marks 𝓜 s p) (sym (lines-go-on 𝓜 s p p′ e))
+          (record {
             lines = m .x ∷ t .lines;
             place = t .place;
-            verdict = t .verdict;
-            proved = (m .entered, judge-proved _ (law (p .marks)) _ s (p .index) (m .x) (m .judged), subst (λ (z : Place M). ProvedLines 𝓜 s z (t .lines) (t .place)) (m .place) (t .proved));
-            ends = t .ends;
-            answers = lines-go-on 𝓜 s p p′ e ∙ t .answers;
-          }
+            chain = (m .entered, judge-complete _ (law (p .marks)) _ s (p .index) (m .x) (m .judged), subst (λ (z : Place M). CompleteLines 𝓜 s z (t .lines) (t .place)) (m .place) (t .chain));
+            stops = t .stops;
+            marks-left = t .marks-left;
+            counted = t .counted;
+          })
 
-      by : (v : Verdict (Turn M)) → turn 𝓜 s p ≡ v → ((p′ : Place M) → turn 𝓜 s p ≡ accepted (onward p′) → Through 𝓜 s p′ (linesFrom 𝓜 s p′)) → Through 𝓜 s p (linesFrom 𝓜 s p)
-      by (accepted over) e ih = record { lines = []; place = p; verdict = accepted tt; proved = refl; ends = turned 𝓜 s p over e; answers = lines-over 𝓜 s p e }
+      by : (v : Verdict (Turn M)) → turn 𝓜 s p ≡ v → ((p′ : Place M) → turn 𝓜 s p ≡ accepted (onward p′) → Marks 𝓜 s p′ (linesFrom 𝓜 s p′)) → Marks 𝓜 s p (linesFrom 𝓜 s p)
+      by (accepted over) e ih = here (accepted tt) (ended (turned 𝓜 s p over e))
       by (accepted (onward p′)) e ih = step p′ e (turned 𝓜 s p (onward p′) e) (ih p′ e)
-      by (refused m r) e ih = record { lines = []; place = p; verdict = refused m r; proved = refl; ends = e; answers = lines-stop 𝓜 s p m r e }
+      by (refused m r) e ih = here (refused m r) (refused-stops p m r e)
 
-  -- whatever a sheet answers, its accepted lines are proved, and it stops at index 0 or at a line that its turn refuses
-  pub sheet-through : (m : M) → Through 𝓜 s (start m) (sheet 𝓜 s m)
-  unfolding sheet start
-  sheet-through m = lines-through (suc (records s)) (start m) (omega arith) (omega arith)
-
-  -- the line that it stops at is not proved
-  pub stop-unproved : (q : Place M) (m r : ℕ) → turn 𝓜 s q ≡ refused m r → Enters s (q .high) (q .index) → (x : Struck) → Proved (𝓜 .rules (q .marks)) (𝓜 .open? (q .marks)) s (q .index) x → ⊥
-  stop-unproved q m r e h x l = refused-accepted (sym e ∙ turn-strikes 𝓜 s q h x (proved-judge _ (law (q .marks)) _ s (q .index) x l))
-
-  -- DEMAND 2 for a sheet: it is accepted whole, and leaves the marks and the number of lines of q, exactly when its records are a chain of
-  -- proved lines that ends at q by index 0. Forward is `sheet-through`; backward, the chain is gone through line by line.
-  pub sheet-exact : (m : M) (r : Result M) → ((sheet 𝓜 s m ≡ r) × (r .verdict ≡ accepted tt)) ↔ ((xs : List Struck) × (q : Place M) × ProvedLines 𝓜 s (start m) xs q × (q .index ≡ 0) × (r ≡ answer q (accepted tt)))
-  unfolding sheet answer
-  sheet-exact m r = (λ h. there (h .0) (h .1) (sheet-through m), λ h. back (h .0) (h .1) (h .2) (h .3) (h .4))
+  -- A sheet answers r exactly when a chain of complete lines from record 1 on leads to a place where it stops with r's verdict, marks and
+  -- number of lines. From left to right, line by line: an accepted line is complete, and a refused turn has its reason. From right to left,
+  -- every line of the chain is accepted, since it is complete, and the reason gives the verdict.
+  pub sheet-exact : (m : M) (r : Result M) → (sheet 𝓜 s m ≡ r) ↔ Marks 𝓜 s (start m) r
+  unfolding sheet start answer
+  sheet-exact m r = (λ e. subst (Marks 𝓜 s (start m)) e (lines-marks (suc (records s)) (start m) (omega arith) (omega arith)), back)
     where
-      there : sheet 𝓜 s m ≡ r → r .verdict ≡ accepted tt → Through 𝓜 s (start m) (sheet 𝓜 s m) → (xs : List Struck) × (q : Place M) × ProvedLines 𝓜 s (start m) xs q × (q .index ≡ 0) × (r ≡ answer q (accepted tt))
-      there e v t =
-          let w : t .verdict ≡ accepted tt = sym (ap (λ (z : Result M). z .verdict) (sym e ∙ t .answers)) ∙ v in
-          (t .lines, t .place, t .proved, subst (Ends 𝓜 s (t .place)) w (t .ends), sym e ∙ t .answers ∙ ap (answer (t .place)) w)
-
-      back : (xs : List Struck) (q : Place M) → ProvedLines 𝓜 s (start m) xs q → q .index ≡ 0 → r ≡ answer q (accepted tt) → (sheet 𝓜 s m ≡ r) × (r .verdict ≡ accepted tt)
-      back xs q l z e = (lines-along xs (start m) q l ∙ lines-over 𝓜 s q (turn-over 𝓜 s q z) ∙ sym e, ap (λ (y : Result M). y .verdict) e)
+      back : Marks 𝓜 s (start m) r → sheet 𝓜 s m ≡ r
+      back t = lines-along (t .lines) (start m) (t .place) (t .chain) ∙ stopped (t .place) (r .verdict) (t .stops)
+          ∙ ap₂ (λ (marks : M) (lines : ℕ). record { marks = marks; lines = lines; verdict = r .verdict }) (sym (t .marks-left)) (sym (t .counted))

@@ -1,71 +1,98 @@
 -- Soundness of the walk: what it accepts, some argument closes, and the records entered set that argument down.
--- Each step of an accepted chain hands over one case; the fuel is what the induction runs on.
+-- Each step of an accepted chain hands over one case; the fuel is what the induction runs on. On the way K stays one that an argument comes
+-- to, so the list that the walk goes by has exactly the feasible pairs.
 use Prim.Native.Nat.{ℕ, zero, suc, _≤_}
-use mathlib.Core.Path.{_≡_, refl, sym, _∙_, ap}
-use mathlib.Core.List.{List, _∷_}
+use mathlib.Core.Path.{_≡_, refl, sym, _∙_, ap, subst}
+use mathlib.Core.List.{List, _∷_, List·Memᴰ·head, List·Memᴰ·tail}
 use native.Mathlib.Omega.{arith}
 use borrow.Author.Tests.{ltb-true}
-use Rattle.lengths.specs.Edge.{Edge, edge}
+use Rattle.lengths.specs.Edge.{Edge, edge, Point}
+use Rattle.rules.specs.Pair.{withPair}
+use Rattle.rules.specs.Rising.{Among}
 use Rattle.argument.specs.Verdict.{Verdict, accepted}
 use Rattle.argument.specs.Record.{How, splits, crosses, records}
-use Rattle.argument.specs.Rules.{Rules, Lawful}
-use Rattle.argument.specs.Argument.{Cases, none, pair, Closing, split, crossing, names, depth, depths, Closed, AllClosed}
+use Rattle.argument.specs.Rules.{Rules, NamesFeasible, Reached, grown, Lawful}
+use Rattle.argument.specs.Argument.{Cases, none, pair, Closing, split, crossing, names, depth, depths, Complete, AllComplete}
 use Rattle.argument.specs.Layout.{Laid, Holds}
-use Rattle.argument.specs.Walk.{Spot, Step, ends, takes, opening, behind, close, act, follow, walkBy, walk}
+use Rattle.argument.specs.Walk.{Spot, Step, ends, takes, rest, opening, behind, close, act, follow, walkBy, walk}
 use Rattle.argument.proofs.Verdicts.{refused-accepted, accepted-inj, guard-passed, unless-passed, andThen-passed}
 use Rattle.argument.proofs.Tests.{HowFits}
 use Rattle.argument.proofs.Steps.{Looked, looked}
 
--- a chain of cases that names the pairs left at q, closed, laid out from q's index on up to record h
+-- a walk stands rightly at q: its K is one that an argument comes to, its point is one of 1 to n, and the pairs left are feasible
+pub record Standing (R : Rules) (q : Spot) : Type 0 where
+  pub reached : Reached R (q .known)
+  pub centre : Point (R .n) (q .point)
+  pub feasible : (x y : ℕ) → Among (q .pairs) x y → R .Feasible (q .known) (q .point) x y
+
+-- a chain of cases that names the pairs left at q, complete, laid out from q's index on up to record h
 pub record ChainAt (R : Rules) (s : List ℕ) (q : Spot) (cs : Cases) (h : ℕ) : Type 0 where
   pub laid : Laid s (q .high) (q .index) cs h
   pub named : names cs ≡ q .pairs
-  pub closed : AllClosed R (q .known) (q .point) cs
+  pub complete : AllComplete R (q .known) (q .point) cs
   pub shallow : depths cs ≤ q .left
 
--- a closing, closed under K, at most `left` splits deep, held by record i and laid out up to record h
+-- a closing, complete under K, at most `left` splits deep, held by record i and laid out up to record h
 pub record ClosingAt (R : Rules) (s : List ℕ) (left : ℕ) (K : List Edge) (i : ℕ) (how : How) (t : Closing) (h : ℕ) : Type 0 where
   pub holds : Holds s i how t h
-  pub closed : Closed R K t
+  pub complete : Complete R K t
   pub shallow : depth t ≤ left
 
 abbrev SoundChains : Rules → List ℕ → (Spot → Verdict ℕ) → Type 0
-SoundChains R s go = (q : Spot) (h : ℕ) → go q ≡ accepted h → (cs : Cases) × ChainAt R s q cs h
+SoundChains R s go = (q : Spot) (h : ℕ) → Standing R q → go q ≡ accepted h → (cs : Cases) × ChainAt R s q cs h
+
+-- a chain stands rightly at its beginning, and behind a case; the case's K is reached
+module _ (R : Rules) (law : Lawful R) where
+  pub standing-opening : (left : ℕ) (K : List Edge) (i c first : ℕ) → Reached R K → Point (R .n) c → Standing R (opening R left K i c first)
+  unfolding opening
+  standing-opening left K i c first reached centre = record { reached = reached; centre = centre; feasible = λ x y m. law .listed K c reached .exactly x y .0 m }
+
+  module _ (q : Spot) (st : Standing R q) (a b : ℕ) (named : q .pairs ≡ edge a b ∷ rest (q .pairs)) where
+    pub standing-pair : R .Feasible (q .known) (q .point) a b
+    standing-pair = st .feasible a b (subst (λ (es : List Edge). Among es a b) (sym named) (List·Memᴰ·head refl))
+
+    pub reached-case : Reached R (withPair (q .known) (q .point) a b)
+    reached-case = grown (st .reached) (st .centre) standing-pair
+
+    pub standing-behind : (next high : ℕ) → Standing R (behind q next high)
+    unfolding behind
+    standing-behind next high =
+        record { reached = st .reached; centre = st .centre; feasible = λ x y m. st .feasible x y (subst (λ (es : List Edge). Among es x y) (sym named) (List·Memᴰ·tail m)) }
 
 module _ (R : Rules) (law : Lawful R) (s : List ℕ) where
-  pub close-sound : (go : Spot → Verdict ℕ) → SoundChains R s go → (left : ℕ) (K : List Edge) (i : ℕ) (how : How) (h : ℕ) → HowFits (R .n) how → close R go left K i how ≡ accepted h → (t : Closing) × ClosingAt R s left K i how t h
-  unfolding close opening Holds Closed depth
-  close-sound go sound left K i (splits c first) h fit e =
+  pub close-sound : (go : Spot → Verdict ℕ) → SoundChains R s go → (left : ℕ) (K : List Edge) (i : ℕ) (how : How) (h : ℕ) → Reached R K → HowFits (R .n) how → close R go left K i how ≡ accepted h → (t : Closing) × ClosingAt R s left K i how t h
+  unfolding close opening Holds Complete depth
+  close-sound go sound left K i (splits c first) h reached fit e =
       let g = guard-passed _ _ _ _ h e in
-      let f = sound _ h (g .1) in
+      let f = sound _ h (standing-opening R law left K i c first reached fit) (g .1) in
       let ch = f .1 in
       let pos = ltb-true 0 left (g .0) in
-      (split c (f .0), record { holds = (first, refl, ch .laid); closed = (fit, ch .named, ch .closed); shallow = omega (arith, ch .shallow) })
-  close-sound go sound left K i (crosses p q r u) h fit e =
+      (split c (f .0), record { holds = (first, refl, ch .laid); complete = (fit, subst (NamesFeasible R K c) (sym (ch .named)) (law .listed K c reached), ch .complete); shallow = omega (arith, ch .shallow) })
+  close-sound go sound left K i (crosses p q r u) h reached fit e =
       let g = unless-passed _ _ _ h e in
-      (crossing p q r u, record { holds = (refl, sym (g .1)); closed = law .settled K p q r u (g .0); shallow = omega arith })
+      (crossing p q r u, record { holds = (refl, sym (g .1)); complete = law .settled K p q r u (g .0); shallow = omega arith })
 
   follow-sound : (go : Spot → Verdict ℕ) → SoundChains R s go → SoundChains R s (follow R s go)
-  unfolding follow act behind Laid AllClosed names depth
-  follow-sound go sound q h e =
+  unfolding follow act behind Laid AllComplete names depth
+  follow-sound go sound q h st e =
       let v = andThen-passed _ _ h e in
       by (v .0) (looked R s q (v .0) (v .1)) (v .2)
     where
       by : (step : Step) → Looked R s q step → act R go q step ≡ accepted h → (cs : Cases) × ChainAt R s q cs h
-      by ends l z = (none, record { laid = (l .0, sym (accepted-inj z)); named = sym (l .1); closed = tt; shallow = omega arith })
+      by ends l z = (none, record { laid = (l .0, sym (accepted-inj z)); named = sym (l .1); complete = tt; shallow = omega arith })
       by (takes a b how next) l z =
           let v = andThen-passed _ _ h z in
-          let t = close-sound go sound _ _ _ how _ (l .fit .how-fits) (v .1) in
-          let f = sound _ h (v .2) in
+          let t = close-sound go sound _ _ _ how _ (reached-case R law q st a b (l .named)) (l .fit .how-fits) (v .1) in
+          let f = sound _ h (standing-behind R law q st a b (l .named) next (v .0)) (v .2) in
           let T = t .1 in
           let F = f .1 in
-          (pair a b (t .0) (f .0), record { laid = (how, next, v .0, l .entered, l .reads, T .holds, F .laid); named = ap (λ (es : List Edge). edge a b ∷ es) (F .named) ∙ sym (l .named); closed = (T .closed, F .closed); shallow = omega (arith, T .shallow, F .shallow) })
+          (pair a b (t .0) (f .0), record { laid = (how, next, v .0, l .entered, l .reads, T .holds, F .laid); named = ap (λ (es : List Edge). edge a b ∷ es) (F .named) ∙ sym (l .named); complete = (T .complete, F .complete); shallow = omega (arith, T .shallow, F .shallow) })
 
   walkBy-sound : (fuel : ℕ) → SoundChains R s (walkBy R s fuel)
   unfolding walkBy
-  walkBy-sound zero q h e = absurd (refused-accepted e)
-  walkBy-sound (suc fuel) q h e = follow-sound (walkBy R s fuel) (walkBy-sound fuel) q h e
+  walkBy-sound zero q h st e = absurd (refused-accepted e)
+  walkBy-sound (suc fuel) q h st e = follow-sound (walkBy R s fuel) (walkBy-sound fuel) q h st e
 
-  pub walk-sound : (q : Spot) (h : ℕ) → walk R s q ≡ accepted h → (cs : Cases) × ChainAt R s q cs h
+  pub walk-sound : (q : Spot) (h : ℕ) → Standing R q → walk R s q ≡ accepted h → (cs : Cases) × ChainAt R s q cs h
   unfolding walk
-  walk-sound q h e = walkBy-sound (suc (records s)) q h e
+  walk-sound q h st e = walkBy-sound (suc (records s)) q h st e

@@ -3,7 +3,7 @@
 -- the centres 3 and 4.
 use Prim.Native.Nat.{ℕ, zero, suc, _≤_, _<_}
 use mathlib.Core.Path.{_≡_, refl, sym}
-use mathlib.Core.Logic.{⊎-elim}
+use mathlib.Core.Logic.{inl, ⊎-elim}
 use mathlib.Core.Bool.{Bool, true, false, not, _&&_, _||_}
 use mathlib.Core.List.{List, [], _∷_, List·Memᴰ·not-nil, List·Memᴰ·cases-cons, List·Memᴰ·eq-of-singleton}
 use native.Mathlib.Omega.{arith}
@@ -11,7 +11,7 @@ use lib.Dec.{eqb}
 use lib.ListN.{length}
 use borrow.Author.Tests.{eqb-true}
 use Rattle.lengths.specs.Edge.{Edge, edge, Point}
-use Rattle.rules.specs.Rising.{Among}
+use Rattle.rules.specs.Rising.{Among, Rising}
 use Rattle.argument.specs.Verdict.{Verdict, accepted, refused, guard, unless, andThen}
 use Rattle.argument.specs.Record.{records, field, bare, content, recordAt, isPoint, howFits, fits}
 use Rattle.argument.specs.Rules.{Rules, Lawful}
@@ -35,7 +35,7 @@ toyClosing true r = 0
 toyClosing false r = elim (eqb r 3) [ true ↦ 16 | false ↦ 15 ]
 
 abbrev toyRules : Rules
-toyRules = record { n = 4; pairs = λ K c. toyPairs c; closing = λ K p q r s. toyClosing (toySettles p q r s) r; Settles = λ K p q r s. toySettles p q r s ≡ true }
+toyRules = record { n = 4; Feasible = λ K c x y. Among (toyPairs c) x y; pairs = λ K c. toyPairs c; closing = λ K p q r s. toyClosing (toySettles p q r s) r; Settles = λ K p q r s. toySettles p q r s ≡ true }
 
 unfoldable pub toyOpen : List Edge → ℕ → ℕ → Bool
 toyOpen [] a b = true
@@ -142,13 +142,31 @@ toy-crossing p q r s e =
     let l = both (eqb r 3) (eqb s 4) (k .1) in
     (tested p 1 (omega arith) (omega arith) (h .0), tested q 2 (omega arith) (omega arith) (k .0), tested r 3 (omega arith) (omega arith) (l .0), tested s 4 (omega arith) (omega arith) (l .1))
 
+toy-rising : (t : Bool) → Rising (toyPairsIf t)
+toy-rising false = tt
+toy-rising true = (λ c d m. inl (above c d (List·Memᴰ·eq-of-singleton m)), ((λ c d m. absurd (List·Memᴰ·not-nil m)), tt))
+  where
+    above : (c d : ℕ) → edge c d ≡ edge 2 4 → 1 < c
+    above c d e = let z : c ≡ 2 = cc in omega arith
+
+toy-number : (t : Bool) (r : ℕ) → 1 ≤ toyClosing t r → (15 ≤ toyClosing t r) × (toyClosing t r ≤ 16)
+unfolding toyClosing
+toy-number true r h = absurd (omega arith)
+toy-number false r h = by (eqb r 3)
+  where
+    by : (t : Bool) → _≤_ 15 (elim t [ true ↦ 16 | false ↦ 15 ]) × _≤_ (elim t [ true ↦ 16 | false ↦ 15 ]) 16
+    by true = (omega arith, omega arith)
+    by false = (omega arith, omega arith)
+
 -- the theorems' hypothesis can be met: the toy is lawful
 pub toy-lawful : Lawful toyRules
 unfolding toyPairs
 toy-lawful =
     record {
+      listed = λ K c reached. record { rising = toy-rising (eqb c 3); exactly = λ x y. (λ m. m, λ m. m) };
       settled = λ K p q r s e. closing-zero _ r e;
       settles = λ K p q r s e. zero-closing _ r e;
       pair-points = λ K c x y m. toy-points (eqb c 3) x y m;
-      crossing-points = λ K p q r s w e. toy-crossing p q r s e;
+      crossing-points = λ K p q r s reached e. toy-crossing p q r s e;
+      closing-number = λ K p q r s h. toy-number _ r h;
     }

@@ -53,19 +53,23 @@ unfolding andThen
 andThen-agree (accepted a) k k′ h = h a refl
 andThen-agree (refused m r) k k′ h = refl
 
-pub number-is : {A : Type 0} {m r m′ r′ : ℕ} → _≡_ {A = Verdict A} (refused m r) (refused m′ r′) → m ≡ m′
-number-is e = cc
+pub refused-inj : {A : Type 0} {m r m′ r′ : ℕ} → _≡_ {A = Verdict A} (refused m r) (refused m′ r′) → (m ≡ m′) × (r ≡ r′)
+refused-inj e = (cc, cc)
+
+-- a refusal is the same whatever would have been answered in its place
+pub refused-as : {A B : Type 0} {m r m′ r′ : ℕ} → _≡_ {A = Verdict A} (refused m r) (refused m′ r′) → _≡_ {A = Verdict B} (refused m r) (refused m′ r′)
+refused-as e = cc
 
 -- where a refusal comes from
-pub guard-refused : {A : Type 0} (b : Bool) (m r : ℕ) (k : Unit {0} → Verdict A) (m′ r′ : ℕ) → guard b m r k ≡ refused m′ r′ → (m ≡ m′) ⊎ (k tt ≡ refused m′ r′)
+pub guard-refused : {A : Type 0} (b : Bool) (m r : ℕ) (k : Unit {0} → Verdict A) (m′ r′ : ℕ) → guard b m r k ≡ refused m′ r′ → ((m ≡ m′) × (r ≡ r′)) ⊎ ((b ≡ true) × (k tt ≡ refused m′ r′))
 unfolding guard
-guard-refused true m r k m′ r′ e = inr e
-guard-refused false m r k m′ r′ e = inl (number-is e)
+guard-refused true m r k m′ r′ e = inr (refl, e)
+guard-refused false m r k m′ r′ e = inl (refused-inj e)
 
-pub unless-refused : {A : Type 0} (m r : ℕ) (a : A) (m′ r′ : ℕ) → unless m r a ≡ refused m′ r′ → (m ≡ m′) × (1 ≤ m′)
+pub unless-refused : {A : Type 0} (m r : ℕ) (a : A) (m′ r′ : ℕ) → unless m r a ≡ refused m′ r′ → (m ≡ m′) × (r ≡ r′) × (1 ≤ m′)
 unfolding unless
 unless-refused zero r a m′ r′ e = absurd (refused-accepted (sym e))
-unless-refused (suc m) r a m′ r′ e = let z = number-is e in (z, omega arith)
+unless-refused (suc m) r a m′ r′ e = let z = refused-inj e in (z .0, z .1, omega (arith, z .0))
 
 pub andThen-refused : {A B : Type 0} (v : Verdict A) (k : A → Verdict B) (m r : ℕ) → andThen v k ≡ refused m r → (v ≡ refused m r) ⊎ ((a : A) × (v ≡ accepted a) × (k a ≡ refused m r))
 unfolding andThen

@@ -1,11 +1,10 @@
 -- Arguments (01, "Arguments"), with no sheet in sight: a tree of splits and crossings, and when it is closed.
 -- A further form of closing is one more constructor of `Closing`.
 use Prim.Native.Nat.{ℕ, suc, _≤_, max}
-use mathlib.Core.Path.{_≡_}
 use mathlib.Core.List.{List, [], _∷_}
 use Rattle.lengths.specs.Edge.{Edge, edge, Point}
 use Rattle.rules.specs.Pair.{withPair}
-use Rattle.argument.specs.Rules.{Rules}
+use Rattle.argument.specs.Rules.{Rules, NamesFeasible}
 
 -- a chain of cases, each a pair with its closing; "a case record carries one of two closings, a split or a crossing"
 mutual
@@ -36,18 +35,19 @@ unfoldable mutual
 abbrev pub splitLimit : ℕ
 splitLimit = 6
 
--- a split at a point is closed under K if its chain "names exactly the standing pairs, in rising order", and every case is
--- closed under K with its pair: "a case adds its pair's two edges to K". A crossing is closed under K if it settles K.
+-- A closing is complete under K (01: "closed"): a split at a point if its chain "names exactly the standing pairs, in rising order", and
+-- every case is complete under K with its pair: "a case adds its pair's two edges to K"; a crossing if it settles K.
+-- No walk, list of pairs or test that computes takes part.
 unfoldable mutual
-  pub Closed : Rules → List Edge → Closing → Type 0
-  Closed R K (split c cs) = Point (R .n) c × (names cs ≡ R .pairs K c) × AllClosed R K c cs
-  Closed R K (crossing p q r s) = R .Settles K p q r s
+  pub Complete : Rules → List Edge → Closing → Type 0
+  Complete R K (split c cs) = Point (R .n) c × NamesFeasible R K c (names cs) × AllComplete R K c cs
+  Complete R K (crossing p q r s) = R .Settles K p q r s
 
-  pub AllClosed : Rules → List Edge → ℕ → Cases → Type 0
-  AllClosed R K c none = Unit {0}
-  AllClosed R K c (pair x y t rest) = Closed R (withPair K c x y) t × AllClosed R K c rest
+  pub AllComplete : Rules → List Edge → ℕ → Cases → Type 0
+  AllComplete R K c none = Unit {0}
+  AllComplete R K c (pair x y t rest) = Complete R (withPair K c x y) t × AllComplete R K c rest
 
--- "An argument for edge ab begins with K = {ab} and a split"
-pub record ArgumentFor (R : Rules) (a b c : ℕ) (cs : Cases) : Type 0 where
-  pub closed : Closed R (edge a b ∷ []) (split c cs)
+-- "An argument for edge ab begins with K = {ab} and a split"; "at most six splits lie one inside another, the first counted"
+pub record CompleteArgument (R : Rules) (a b c : ℕ) (cs : Cases) : Type 0 where
+  pub complete : Complete R (edge a b ∷ []) (split c cs)
   pub shallow : depth (split c cs) ≤ splitLimit

@@ -1,4 +1,4 @@
--- One line, judged under given rules and a given open test (01, "Mark a sheet"), and what it is for a line to be proved.
+-- One line, judged under given rules and a given open test (01, "Mark a sheet"), and what it is for a line to be complete.
 -- Judging changes no mark: an accepted line says which edge it strikes.
 use Prim.Native.Nat.{ℕ}
 use mathlib.Core.Bool.{Bool, true}
@@ -8,7 +8,7 @@ use Rattle.lengths.specs.Edge.{edge, Point}
 use Rattle.argument.specs.Verdict.{Verdict, accepted, refused, guard, andThen}
 use Rattle.argument.specs.Record.{splits, Record, line, case, other, recordAt, fits}
 use Rattle.argument.specs.Rules.{Rules}
-use Rattle.argument.specs.Argument.{splitLimit, Cases, ArgumentFor}
+use Rattle.argument.specs.Argument.{splitLimit, Cases, CompleteArgument}
 use Rattle.argument.specs.Layout.{Laid}
 use Rattle.argument.specs.Walk.{close, walk}
 
@@ -37,14 +37,14 @@ pub record LineAt (R : Rules) (open? : ℕ → ℕ → Bool) (s : List ℕ) (i a
   pub is-open : open? a b ≡ true
 
 -- record i is a line that strikes the open edge ab, and an argument for ab is laid out behind it, up to record `high`
-pub record ProvedLine (R : Rules) (open? : ℕ → ℕ → Bool) (s : List ℕ) (i a b next high : ℕ) : Type 0 where
+pub record CompleteLine (R : Rules) (open? : ℕ → ℕ → Bool) (s : List ℕ) (i a b next high : ℕ) : Type 0 where
   pub c : ℕ
   pub first : ℕ
   pub cases : Cases
   pub at-line : LineAt R open? s i a b c first next
-  pub argument : ArgumentFor R a b c cases
+  pub argument : CompleteArgument R a b c cases
   pub laid : Laid s i first cases high
 
--- the same of what an accepted line answers
-abbrev pub Proved : Rules → (open? : ℕ → ℕ → Bool) (s : List ℕ) (i : ℕ) → Struck → Type 0
-Proved R open? s i (strikes a b next high) = ProvedLine R open? s i a b next high
+-- the same of what an accepted line answers, which stands for a complete line where its edge and indexes are not at issue
+abbrev pub CompleteAt : Rules → (open? : ℕ → ℕ → Bool) (s : List ℕ) (i : ℕ) → Struck → Type 0
+CompleteAt R open? s i (strikes a b next high) = CompleteLine R open? s i a b next high

@@ -1,6 +1,6 @@
 -- The records of a sheet (01, "The sheet"): `recordAt` says by one equation what a record is.
 -- A further form of closing is one more constructor of `How`, with its kind in `content` and its points in `howFits`.
-use Prim.Native.Nat.{ℕ, _+_, _-_, _*_, _/_}
+use Prim.Native.Nat.{ℕ, _+_, _-_, _*_, _/_, _≤_}
 use mathlib.Core.Bool.{Bool, true, false, not, _&&_}
 use mathlib.Core.List.{List}
 use lib.Dec.{leb, eqb}
@@ -9,6 +9,11 @@ use lib.ListN.{length, getD}
 -- "A sheet has .. records numbered from 1, each of eight 16-bit numbers"
 unfoldable pub records : List ℕ → ℕ
 records s = length s / 8
+
+-- i is the number of a record
+pub record Readable (s : List ℕ) (i : ℕ) : Type 0 where
+  pub low : 1 ≤ i
+  pub high : i ≤ records s
 
 -- number f of the record i: "kind, a, b, u, v, c, d, next", the kind being number 0
 unfoldable pub field : List ℕ → ℕ → ℕ → ℕ

@@ -1,30 +1,42 @@
--- All that arguments know of the rules: which pairs stand, and which crossings settle a case.
+-- All that arguments know of the rules: which pairs are feasible, and which crossings settle a case; and what the walk computes for the two.
 -- Lengths, marks and cycles are not seen here; `Lawful` is what the rules have to prove of themselves.
-use Prim.Native.Nat.{ℕ, _<_}
+use Prim.Native.Nat.{ℕ, _≤_, _<_}
 use mathlib.Core.Path.{_≡_}
-use mathlib.Core.List.{List}
-use Rattle.lengths.specs.Edge.{Edge, Point}
-use Rattle.rules.specs.EdgeSet.{Has}
-use Rattle.rules.specs.Rising.{Among}
+use mathlib.Core.Logic.{_↔_}
+use mathlib.Core.List.{List, [], _∷_}
+use Rattle.lengths.specs.Edge.{Edge, edge, Point}
+use Rattle.rules.specs.Pair.{withPair}
+use Rattle.rules.specs.Rising.{Among, Rising}
 
 pub record Rules : Type 1 where
   -- how many points there are
   pub n : ℕ
-  -- the pairs x < y that stand at c under K, in the order in which a chain names them
-  pub pairs : (K : List Edge) (c : ℕ) → List Edge
-  -- 0 if the crossing of pq with the centres r and s settles K, and else the number of its refusal
-  pub closing : (K : List Edge) (p q r s : ℕ) → ℕ
-  -- the crossing settles K: it keeps 01's conditions, and some labelling saves
+  -- the pair x, y stands at c under K
+  pub Feasible : (K : List Edge) (c x y : ℕ) → Type 0
+  -- the crossing of pq with the centres r and s settles K: it keeps 01's conditions, and some labelling saves
   pub Settles : (K : List Edge) (p q r s : ℕ) → Type 0
+  -- what the walk goes by: the list of the feasible pairs
+  pub pairs : (K : List Edge) (c : ℕ) → List Edge
+  -- and 0 if the crossing settles K, else the number of its refusal
+  pub closing : (K : List Edge) (p q r s : ℕ) → ℕ
 
--- every edge of K joins two of the points 1 to n
-abbrev pub Within : ℕ → List Edge → Type 0
-Within n K = (u v : ℕ) → Has K u v → Point n u × Point n v
+-- "exactly the standing pairs, in rising order"
+pub record NamesFeasible (R : Rules) (K : List Edge) (c : ℕ) (named : List Edge) : Type 0 where
+  pub rising : Rising named
+  pub exactly : (x y : ℕ) → Among named x y ↔ R .Feasible K c x y
+
+-- the sets K that an argument comes to: an edge of two different points, and such a set with a pair that is feasible there
+pub data Reached (R : Rules) : List Edge → Type 0 where
+  single : {a b : ℕ} → Point (R .n) a → Point (R .n) b → (a ≡ b → ⊥) → Reached R (edge a b ∷ [])
+  grown : {K : List Edge} {c x y : ℕ} → Reached R K → Point (R .n) c → R .Feasible K c x y → Reached R (withPair K c x y)
 
 pub record Lawful (R : Rules) : Type 0 where
+  pub listed : (K : List Edge) (c : ℕ) → Reached R K → NamesFeasible R K c (R .pairs K c)
   pub settled : (K : List Edge) (p q r s : ℕ) → R .closing K p q r s ≡ 0 → R .Settles K p q r s
   pub settles : (K : List Edge) (p q r s : ℕ) → R .Settles K p q r s → R .closing K p q r s ≡ 0
-  -- a pair that stands is two points, the lower first
-  pub pair-points : (K : List Edge) (c x y : ℕ) → Among (R .pairs K c) x y → Point (R .n) x × Point (R .n) y × (x < y)
-  -- a crossing that settles K names points of K only
-  pub crossing-points : (K : List Edge) (p q r s : ℕ) → Within (R .n) K → R .Settles K p q r s → Point (R .n) p × Point (R .n) q × Point (R .n) r × Point (R .n) s
+  -- a feasible pair is two points, the lower first
+  pub pair-points : (K : List Edge) (c x y : ℕ) → R .Feasible K c x y → Point (R .n) x × Point (R .n) y × (x < y)
+  -- a crossing that settles K names points
+  pub crossing-points : (K : List Edge) (p q r s : ℕ) → Reached R K → R .Settles K p q r s → Point (R .n) p × Point (R .n) q × Point (R .n) r × Point (R .n) s
+  -- a crossing is refused by 15 or 16
+  pub closing-number : (K : List Edge) (p q r s : ℕ) → 1 ≤ R .closing K p q r s → (15 ≤ R .closing K p q r s) × (R .closing K p q r s ≤ 16)

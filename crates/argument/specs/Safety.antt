@@ -6,13 +6,12 @@ use mathlib.Core.Bool.{true}
 use mathlib.Core.List.{List, [], _∷_}
 use Rattle.lengths.specs.Edge.{Edge, edge, Point}
 use Rattle.rules.specs.Pair.{withPair}
-use Rattle.rules.specs.Rising.{Among}
 use Rattle.argument.specs.Rules.{Rules, Lawful}
 use Rattle.argument.specs.Sheet.{Marking}
 
 pub record Upheld (R : Rules) (Good : List Edge → Type 0) : Type 0 where
-  -- the tour's own pair at a point stands, and the tour uses K with it
-  pub keeps : (K : List Edge) (c : ℕ) → Good K → Point (R .n) c → (x : ℕ) × (y : ℕ) × Among (R .pairs K c) x y × Good (withPair K c x y)
+  -- the tour's own pair at a point is feasible, and the tour uses K with it
+  pub keeps : (K : List Edge) (c : ℕ) → Good K → Point (R .n) c → (x : ℕ) × (y : ℕ) × R .Feasible K c x y × Good (withPair K c x y)
   -- no crossing settles a set that the tour uses
   pub unsettled : (K : List Edge) (p q r s : ℕ) → Good K → R .Settles K p q r s → ⊥
 

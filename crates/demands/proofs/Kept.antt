@@ -15,16 +15,10 @@ use Rattle.lengths.proofs.Edges.{place-injective}
 use Rattle.lengths.proofs.Tables.{length-symmetric}
 use Rattle.rules.specs.EdgeSet.{Has, closedEdges}
 use Rattle.rules.specs.Mark.{openIn}
-use Rattle.rules.specs.Pair.{withPair}
-use Rattle.rules.specs.Rising.{Among}
-use Rattle.rules.specs.Shape.{Shape}
-use Rattle.rules.proofs.Exact.{shape-exact}
-use Rattle.rules.proofs.PairTests.{feasiblePairs-iff}
+use Rattle.rules.specs.Pair.{withPair, FeasiblePair}
 use Rattle.tours.specs.Tour.{Uses, ThreeOptimal, Symmetric}
 use Rattle.tours.proofs.Edges.{inside-cons, has-sym}
-use Rattle.tours.proofs.Count.{tour-once}
-use Rattle.tours.proofs.Neighbours.{at-most-two, tour-no-loop, uses-point}
-use Rattle.tours.proofs.ShortCycle.{no-short-cycle}
+use Rattle.tours.proofs.Neighbours.{tour-no-loop, uses-point}
 use Rattle.tours.proofs.Optimal.{OwnPair, optimal-feasible, optimal-not-closed}
 use Rattle.argument.specs.Safety.{Upheld, Guarded}
 use Rattle.sheets.specs.Rules.{rulesOf, strikeIn, markingOf}
@@ -43,14 +37,6 @@ module _ {n : ℕ} (table : List ℕ) {t : List ℕ} (some : 4 ≤ n) (best : Th
   symmetric : Symmetric (lengthOf n table)
   symmetric = length-symmetric n table
 
-  -- what the tour uses has the shape that the tests of conditions 2 and 3 go by
-  shaped : (K : List Edge) → InTour t K → Shape n K
-  shaped K uses = record {
-    two = at-most-two K t (tour-once (best .tour)) uses;
-    long = no-short-cycle (best .tour) K uses;
-    plain = λ v h. tour-no-loop (best .tour) (omega arith) v (uses v v h);
-  }
-
   -- an edge of the tour is an edge of the instance
   pub used-edge : (a b : ℕ) → Uses t a b → IsEdge n a b
   used-edge a b u =
@@ -58,17 +44,12 @@ module _ {n : ℕ} (table : List ℕ) {t : List ℕ} (some : 4 ≤ n) (best : Th
       record { first = p .0; second = p .1; apart = λ e. tour-no-loop (best .tour) (omega arith) b (subst (λ (v : ℕ). Uses t v b) e u) }
 
   module _ (marks : List ℕ) (kept : Kept n t marks) where
-    -- the tour's two neighbours of c are one of the feasible pairs
+    -- the tour's two neighbours of c are a feasible pair
     own : (K : List Edge) (c : ℕ) → InTour t K → OwnPair n (lengthOf n table) (openIn n marks) K t c
-        → (x : ℕ) × (y : ℕ) × Among (rulesOf n table marks .pairs K c) x y × InTour t (withPair K c x y)
+        → (x : ℕ) × (y : ℕ) × FeasiblePair n (lengthOf n table) (openIn n marks) K c x y × InTour t (withPair K c x y)
     unfolding withPair
-    own K c uses S = (
-      S .x,
-      S .y,
-      feasiblePairs-iff (lengthOf n table) symmetric n (openIn n marks) K c (S .x) (S .y)
-          (λ xc yc e. shape-exact n K c (S .x) (S .y) (shaped K uses) (record { x-y = λ q. omega (arith, e .up); x-c = xc; y-c = yc })) .1 (S .feasible),
-      inside-cons (edge c (S .y) ∷ K) (closedEdges t) c (S .x) (S .uses-x) (inside-cons K (closedEdges t) c (S .y) (S .uses-y) uses),
-    )
+    own K c uses S =
+        (S .x, S .y, S .feasible, inside-cons (edge c (S .y) ∷ K) (closedEdges t) c (S .x) (S .uses-x) (inside-cons K (closedEdges t) c (S .y) (S .uses-y) uses))
 
     upheld : Upheld (rulesOf n table marks) (InTour t)
     upheld =

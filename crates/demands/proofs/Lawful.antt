@@ -1,38 +1,82 @@
--- The rules of an instance are lawful, whatever the marks and lengths: what `argument` asks of rules. Assumes nothing.
-use Prim.Native.Nat.{ℕ, _<_}
+-- The rules of an instance are lawful, whatever the marks and lengths: what `argument` asks of rules. The tests that compute agree with the
+-- rules on every set that an argument comes to, since {ab} has the shape that they go by and a feasible pair keeps it. Assumes nothing.
+use Prim.Native.Nat.{ℕ, _≤_, _<_}
 use mathlib.Core.Path.{_≡_, refl, _∙_, ap}
-use mathlib.Core.List.{List}
+use mathlib.Core.Logic.{⊎-elim}
+use mathlib.Core.List.{List, [], _∷_}
 use native.Mathlib.Omega.{arith}
-use Rattle.lengths.specs.Edge.{Point, IsEdgeUp}
+use Rattle.lengths.specs.Edge.{Edge, edge, Point}
 use Rattle.lengths.specs.Table.{lengthOf}
+use Rattle.lengths.proofs.Tables.{length-symmetric}
 use Rattle.rules.specs.ClosingTest.{crossedBy, refusalOf}
+use Rattle.rules.specs.EdgeSet.{Has}
 use Rattle.rules.specs.Mark.{openIn}
+use Rattle.rules.specs.Pair.{withPair}
+use Rattle.rules.specs.Pairs.{feasiblePairs}
+use Rattle.rules.specs.Shape.{Shape}
 use Rattle.rules.specs.declared.closing.Crossed.{Crossed}
 use Rattle.rules.specs.declared.closing.Crossed.the-variants.{Settled, NoCrossing, NoSaving}
 use Rattle.rules.proofs.ClosingExact.{settled-exact}
-use Rattle.rules.proofs.PairLists.{in-feasiblePairs}
-use Rattle.argument.specs.Rules.{Lawful}
+use Rattle.rules.proofs.Exact.{shape-exact, kept-shape, single-shape}
+use Rattle.rules.proofs.PairLists.{feasiblePairs-rising}
+use Rattle.rules.proofs.PairTests.{feasiblePairs-iff}
+use Rattle.argument.specs.Rules.{NamesFeasible, Reached, single, grown, Lawful}
 use Rattle.sheets.specs.Rules.{rulesOf}
 
-module _ (n : ℕ) (table marks : List ℕ) where
-  zero-settled : (c : Crossed) → refusalOf c ≡ 0 → c ≡ Settled
-  unfolding refusalOf
-  zero-settled Settled h = refl
-  zero-settled NoCrossing h = absurd (omega arith)
-  zero-settled NoSaving h = absurd (omega arith)
+zero-settled : (c : Crossed) → refusalOf c ≡ 0 → c ≡ Settled
+unfolding refusalOf
+zero-settled Settled h = refl
+zero-settled NoCrossing h = absurd (omega arith)
+zero-settled NoSaving h = absurd (omega arith)
 
-  settled-zero : refusalOf Settled ≡ 0
-  unfolding refusalOf
-  settled-zero = refl
+settled-zero : refusalOf Settled ≡ 0
+unfolding refusalOf
+settled-zero = refl
+
+refused-number : (c : Crossed) → 1 ≤ refusalOf c → (15 ≤ refusalOf c) × (refusalOf c ≤ 16)
+unfolding refusalOf
+refused-number Settled h = absurd (omega arith)
+refused-number NoCrossing h = (omega arith, omega arith)
+refused-number NoSaving h = (omega arith, omega arith)
+
+-- every edge of K joins two of the points 1 to n
+abbrev Within : ℕ → List Edge → Type 0
+Within n K = (u v : ℕ) → Has K u v → Point n u × Point n v
+
+within-edge : {n a b : ℕ} (K : List Edge) → Point n a → Point n b → Within n K → Within n (edge a b ∷ K)
+within-edge K p q w u v h = ⊎-elim (⊎-elim (λ e. (rw (e .0) at p, rw (e .1) at q)) (λ e. (rw (e .1) at q, rw (e .0) at p))) (w u v) h
+
+module _ (n : ℕ) (table marks : List ℕ) where
+  reached-shape : {K : List Edge} → Reached (rulesOf n table marks) K → Shape n K
+  reached-shape (single {a} {b} pa pb ne) = single-shape n a b ne
+  reached-shape (grown {K} {c} {x} {y} r pc f) =
+      kept-shape n K c x y (reached-shape r) (record { x-y = λ e. omega (arith, f .rising); x-c = f .apart-x; y-c = f .apart-y }) (f .two) (f .three)
+
+  reached-within : {K : List Edge} → Reached (rulesOf n table marks) K → Within n K
+  unfolding withPair
+  reached-within (single {a} {b} pa pb ne) = within-edge [] pa pb (λ u v h. absurd h)
+  reached-within (grown {K} {c} {x} {y} r pc f) = within-edge (edge c y ∷ K) pc (f .point-x) (within-edge K pc (f .point-y) (reached-within r))
+
+  -- the list that the search finds has exactly the feasible pairs
+  names-feasible : (K : List Edge) (c : ℕ) → Reached (rulesOf n table marks) K → NamesFeasible (rulesOf n table marks) K c (feasiblePairs n (lengthOf n table) (openIn n marks) K c)
+  names-feasible K c r =
+      record {
+        rising = feasiblePairs-rising n (lengthOf n table) (openIn n marks) K c;
+        exactly = λ x y.
+            feasiblePairs-iff (lengthOf n table) (length-symmetric n table) n (openIn n marks) K c x y
+            (λ xc yc e. shape-exact n K c x y (reached-shape r) (record { x-y = λ q. omega (arith, e .up); x-c = xc; y-c = yc }));
+      }
 
   pub lawful : Lawful (rulesOf n table marks)
   lawful =
       record {
+        listed = names-feasible;
         settled = λ K p q r s h. settled-exact (lengthOf n table) K p q r s .0 (zero-settled (crossedBy (lengthOf n table) K p q r s) h);
         settles = λ K p q r s c. ap refusalOf (settled-exact (lengthOf n table) K p q r s .1 c) ∙ settled-zero;
-        pair-points = λ K c x y m. points (in-feasiblePairs n (lengthOf n table) (openIn n marks) K c x y .0 m .0);
-        crossing-points = λ K p q r s w c. let x = c .crossing in (w p q (x .edge-of-K) .0, w p q (x .edge-of-K) .1, w r (c .x) (x .ends-r .has-x) .0, w s (c .z) (x .ends-s .has-x) .0);
+        pair-points = λ K c x y f. (f .point-x, f .point-y, f .rising);
+        crossing-points = λ K p q r s reached c.
+            let w = reached-within reached in
+            let x = c .crossing in
+            (w p q (x .edge-of-K) .0, w p q (x .edge-of-K) .1, w r (c .x) (x .ends-r .has-x) .0, w s (c .z) (x .ends-s .has-x) .0);
+        closing-number = λ K p q r s. refused-number (crossedBy (lengthOf n table) K p q r s);
       }
-    where
-      points : {x y : ℕ} → IsEdgeUp n x y → Point n x × Point n y × (x < y)
-      points {x} {y} e = (record { low = e .low; high = omega (arith, e) }, record { low = omega (arith, e); high = e .high }, e .up)

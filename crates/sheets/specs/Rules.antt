@@ -7,6 +7,7 @@ use Rattle.lengths.specs.Table.{lengthOf}
 use Rattle.rules.specs.Closing.{Closes}
 use Rattle.rules.specs.ClosingTest.{crossedBy, refusalOf}
 use Rattle.rules.specs.Mark.{openIn}
+use Rattle.rules.specs.Pair.{FeasiblePair}
 use Rattle.rules.specs.Pairs.{feasiblePairs}
 use Rattle.argument.specs.Rules.{Rules}
 use Rattle.argument.specs.Sheet.{Marking}
@@ -16,9 +17,10 @@ abbrev pub rulesOf : ℕ → List ℕ → List ℕ → Rules
 rulesOf n table marks =
     record {
       n = n;
+      Feasible = FeasiblePair n (lengthOf n table) (openIn n marks);
+      Settles = Closes (lengthOf n table);
       pairs = feasiblePairs n (lengthOf n table) (openIn n marks);
       closing = λ K p q r s. refusalOf (crossedBy (lengthOf n table) K p q r s);
-      Settles = Closes (lengthOf n table);
     }
 
 -- the marks with the edge ab struck

@@ -34,7 +34,7 @@ lookedOf (looked.Refused number rec) = refused number rec
 
 -- rules of which only the number of points is asked
 abbrev pub pointsOnly : ℕ → Rules
-pointsOnly n = record { n = n; pairs = λ K c. []; closing = λ K p q r s. 0; Settles = λ K p q r s. ⊥ }
+pointsOnly n = record { n = n; Feasible = λ K c x y. ⊥; Settles = λ K p q r s. ⊥; pairs = λ K c. []; closing = λ K p q r s. 0 }
 
 -- a spot of which only the next pair, the index and the two records are asked
 abbrev pub pairsOf : NextPair → List Edge
