@@ -6,6 +6,7 @@ use mathlib.Core.Bool.{Bool}
 use mathlib.Core.List.{List, [], _∷_}
 use native.Mathlib.Decide.{decLe}
 use native.Mathlib.Omega.{arith}
+use lib.ListN.{length}
 use Rattle.argument.specs.Verdict.{Verdict, accepted, refused}
 use Rattle.argument.specs.Record.{records}
 use Rattle.argument.specs.Rules.{Rules, Lawful}
@@ -22,6 +23,16 @@ module _ (R : Rules) (law : Lawful R) (open? : ℕ → ℕ → Bool) (s : List �
 
   pub complete-judge : (x : Struck) → CompleteAt R open? s i x → judge R open? s i ≡ accepted x
   complete-judge (strikes a b next high) l = line-complete R law s open? i a b next high l
+
+module _ {M : Type 0} (𝓜 : Marking M) (s : List ℕ) where
+  -- the place behind a chain has counted its lines
+  pub chain-length : (xs : List Struck) (p q : Place M) → CompleteLines 𝓜 s p xs q → length xs + p .lines ≡ q .lines
+  unfolding CompleteLines struck
+  chain-length [] p q e = omega (arith, ap (λ (z : Place M). z .lines) e)
+  chain-length (x ∷ xs) p q h = omega (arith, chain-length xs (struck 𝓜 p x) q (h .2), struck-lines x)
+    where
+      struck-lines : (x : Struck) → struck 𝓜 p x .lines ≡ suc (p .lines)
+      struck-lines (strikes a b next high) = refl
 
 module _ {M : Type 0} (𝓜 : Marking M) (law : (m : M) → Lawful (𝓜 .rules m)) (s : List ℕ) where
   -- a refused turn stops for one of the reasons: 8, 9, or a line that is not complete, since a complete one would be accepted

@@ -1,14 +1,31 @@
--- DEMAND 2 for one line. A line that is entered with its edge open is accepted exactly when a complete case argument for its edge, by 01's
--- rules alone, is laid out behind it. Assumes nothing.
-use Prim.Native.Nat.{ℕ}
-use mathlib.Core.Path.{_≡_}
+-- DEMAND 2 for lines and sheets: what *mark a sheet* accepts, answers and changes, by 01's rules alone. Assumes nothing.
+use Prim.Native.Nat.{ℕ, _≤_}
+use mathlib.Core.Path.{_≡_, refl, sym, _∙_, ap, subst}
+use mathlib.Core.Bool.{Bool, true, false}
 use mathlib.Core.Logic.{_↔_}
-use mathlib.Core.List.{List}
+use mathlib.Core.List.{List, []}
+use native.Mathlib.Omega.{arith}
+use lib.ListN.{length}
+use Rattle.lengths.specs.Edge.{Edge}
+use Rattle.lengths.specs.Test.{unless}
 use Rattle.rules.specs.Mark.{openIn}
-use Rattle.argument.specs.Line.{strikes, judge, CompleteLine}
-use Rattle.argument.specs.Verdict.{accepted}
+use Rattle.argument.specs.Line.{Struck, strikes, judge, CompleteLine}
+use Rattle.argument.specs.Record.{records}
+use Rattle.argument.specs.Sheet.{Place, Result, start, sheet, CompleteLines, ended, Marks, RefusedAt}
+use Rattle.argument.specs.Verdict.{accepted, refused}
 use Rattle.argument.proofs.Exact.{line-sound, line-complete}
-use Rattle.sheets.specs.Rules.{rulesOf}
+use Rattle.argument.proofs.Numbers.{marks-told}
+use Rattle.argument.proofs.SheetExact.{chain-length, sheet-exact}
+use Rattle.sheets.proofs.Records.{sheet-records}
+use Rattle.sheets.specs.Rules.{rulesOf, markingOf}
+use Rattle.sheets.specs.Sheets.{wholeSheet}
+use Rattle.marking.proofs.Tested.{passed}
+use Rattle.marking.specs.Marking.{markSheet, markTested, turnedDown}
+use Rattle.marking.specs.Tests.{tested}
+use Rattle.marking.specs.declared.tests.Tested.{Tested}
+use Rattle.marking.specs.declared.tests.Tested.the-variants.{Points, Refused}
+use Rattle.demands.specs.Marked.{Passes, struckEdges, Changes}
+use Rattle.demands.proofs.Changed.{chain-changes, no-changes}
 use Rattle.demands.proofs.Lawful.{lawful}
 
 -- DEMAND 2: a line, entered as record i, is accepted exactly when it is a complete line: it names two different points, their edge is
@@ -20,3 +37,66 @@ pub demand-2 :
     (judge (rulesOf n table marks) (openIn n marks) sheet i ≡ accepted (strikes a b next high)) ↔ CompleteLine (rulesOf n table marks) (openIn n marks) sheet i a b next high
 demand-2 n table marks sheet i a b next high =
     (line-sound (rulesOf n table marks) (lawful n table marks) sheet (openIn n marks) i a b next high, line-complete (rulesOf n table marks) (lawful n table marks) sheet (openIn n marks) i a b next high)
+
+-- a call that passes tests 1 to 7 has its lines marked
+lines-marked : (n : ℕ) (table marks s : List ℕ) → Passes n table marks s → markSheet n table marks s ≡ sheet (markingOf n table) s marks
+unfolding markSheet
+lines-marked n table marks s p = rw (markSheet, p .points, p .whole)
+
+-- DEMAND 2 for a sheet: a call that passes tests 1 to 7 answers r exactly when a chain of complete lines from record 1 on, each complete under
+-- the marks that the lines before it leave, leads to a place where it stops (`Stops`: index 0, an index refused by 8 or 9, or a line that is
+-- not complete) with r's verdict, marks and number of lines. Each line is judged as `demand-2` says, one after the other (`sheet-exact`).
+pub demand-2-sheet :
+    (n : ℕ) (table marks s : List ℕ) → Passes n table marks s → (r : Result (List ℕ)) →
+    (markSheet n table marks s ≡ r) ↔ Marks (markingOf n table) s (start marks) r
+demand-2-sheet n table marks s p r =
+    let e = sheet-exact (markingOf n table) (lawful n table) s marks r in
+    (λ h. e .0 (sym (lines-marked n table marks s p) ∙ h), λ m. lines-marked n table marks s p ∙ e .1 m)
+
+-- every chain of complete lines that ends at index 0 is accepted whole, with its marks and its number of lines
+pub demand-2-whole :
+    (n : ℕ) (table marks s : List ℕ) → Passes n table marks s → (lines : List Struck) (q : Place (List ℕ)) →
+    CompleteLines (markingOf n table) s (start marks) lines q → q .index ≡ 0 →
+    markSheet n table marks s ≡ record { marks = q .marks; lines = length lines; verdict = accepted tt }
+unfolding start
+demand-2-whole n table marks s p lines q chain z =
+    demand-2-sheet n table marks s p (record { marks = q .marks; lines = length lines; verdict = accepted tt }) .1
+    (record {
+      lines = lines;
+      place = q;
+      chain = chain;
+      stops = ended z;
+      marks-left = refl;
+      counted = let c = chain-length (markingOf n table) s lines (start marks) q chain in omega (arith, c);
+    })
+
+-- a refusal after test 7 has a number from 8 to 16 and names one of the sheet's records
+pub demand-2-refusal :
+    (n : ℕ) (table marks s : List ℕ) → Passes n table marks s → (number rec : ℕ) →
+    markSheet n table marks s .verdict ≡ refused number rec → RefusedAt s number rec
+demand-2-refusal n table marks s p number rec e =
+    marks-told (markingOf n table) (lawful n table) s marks (markSheet n table marks s) (sheet-records s (p .whole) .some) (demand-2-sheet n table marks s p _ .0 refl) number rec e
+
+-- the marks that a call changes are those of the edges that its accepted lines strike, as many as the lines that it answers, each open before
+pub demand-2-struck :
+    (n : ℕ) (table marks s : List ℕ) → Passes n table marks s → (r : Result (List ℕ)) (m : Marks (markingOf n table) s (start marks) r) →
+    Changes n marks (r .marks) (struckEdges (m .lines)) (r .lines)
+demand-2-struck n table marks s p r m = chain-changes n table s marks (passed (p .points) .marked) r m
+
+-- and so for every call: one that fails a test of 1 to 7 accepts no line and changes nothing
+pub demand-2-changes : (n : ℕ) (table marks s : List ℕ) → (struck : List Edge) × Changes n marks (markSheet n table marks s .marks) struck (markSheet n table marks s .lines)
+unfolding markSheet
+demand-2-changes n table marks s = by (tested n table marks) refl
+  where
+    Found : Result (List ℕ) → Type 0
+    Found r = (struck : List Edge) × Changes n marks (r .marks) struck (r .lines)
+
+    whole : tested n table marks ≡ Points n → (b : Bool) → wholeSheet (length s) ≡ b → Found (unless b (turnedDown 7 marks) (sheet (markingOf n table) s marks))
+    whole e true w =
+        let m = sheet-exact (markingOf n table) (lawful n table) s marks (sheet (markingOf n table) s marks) .0 refl in
+        (struckEdges (m .lines), chain-changes n table s marks (passed e .marked) (sheet (markingOf n table) s marks) m)
+    whole e false w = ([], no-changes n marks)
+
+    by : (t : Tested) → tested n table marks ≡ t → Found (markTested t table marks s)
+    by (Refused number) e = ([], no-changes n marks)
+    by (Points m) e = let same : m ≡ n = passed e .same in subst (λ (k : ℕ). Found (markTested (Points k) table marks s)) (sym same) (whole (e ∙ ap Points same) (wholeSheet (length s)) refl)

@@ -6,7 +6,7 @@ use mathlib.Core.Bool.{Bool, true, false}
 use mathlib.Core.Logic.{⊎-elim}
 use mathlib.Core.List.{List, [], _∷_, map}
 use native.Mathlib.Omega.{arith}
-use lib.ListN.{length, length-replicate, getD-replicate}
+use lib.ListN.{length, replicate, length-replicate, getD-replicate}
 use lib.Dec.{eqb}
 use borrow.Author.Tests.{le-leb, eq-eqb}
 use Rattle.lengths.specs.Edge.{edgeCount, place}
@@ -113,11 +113,14 @@ unfolding run decoded
 run-decoded table [] marks = refl
 run-decoded table (call ∷ calls) marks = run-decoded table calls _
 
--- the same for runs of the function for C: `table` and the sheets are bytes, and the lengths are those that the table's bytes are
+-- the same for runs of the function for C, from n(n - 1)/2 bytes of 1, which a C program writes: `table` and the sheets are bytes, and the
+-- lengths are those that the table's bytes are
 pub demand-3-in-C :
-    (n : ℕ) → 4 ≤ n → n ≤ 180 → (table : List ℕ) → length (whole32 table) ≡ edgeCount n → (before : List ℕ) → length before ≡ edgeCount n →
+    (n : ℕ) → 4 ≤ n → n ≤ 180 → (table : List ℕ) → length (whole32 table) ≡ edgeCount n →
     (calls : List Call) (t : List ℕ) → Shortest n (lengthOf n (whole32 table)) t → (a b : ℕ) → Uses t a b →
-    openIn n (runInC table calls (freshLeft (freshAnswer n (length before)) n before)) a b ≡ true
-demand-3-in-C n some most table whole before sized calls t best a b u =
-    ap (λ (m : List ℕ). openIn n m a b) (run-decoded table calls (freshLeft (freshAnswer n (length before)) n before))
-    ∙ demand-3 n some most (whole32 table) whole before sized (map decoded calls) t best a b u
+    openIn n (runInC table calls (replicate (edgeCount n) 1)) a b ≡ true
+unfolding freshMarks
+demand-3-in-C n some most table whole calls t best a b u =
+    let optimal = shortest-optimal best in
+    let kept = run-kept (whole32 table) some whole optimal (map decoded calls) (freshMarks n) (fresh-kept (whole32 table) some whole optimal) in
+    ap (λ (m : List ℕ). openIn n m a b) (run-decoded table calls (freshMarks n)) ∙ kept .all-open a b u

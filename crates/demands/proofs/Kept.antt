@@ -1,19 +1,16 @@
 -- A 3-optimal tour whose edges are open keeps them open, whatever sheets are marked: the tour meets what `argument` asks of a tour in
 -- question (`Guarded`), so no accepted line strikes one of its edges, and nothing else changes a mark. Assumes nothing.
 use Prim.Native.Nat.{ℕ, _≤_}
-use mathlib.Core.Path.{_≡_, _∙_, ap, subst, subst₂}
+use mathlib.Core.Path.{_≡_, _∙_, subst}
 use mathlib.Core.Bool.{true}
-use mathlib.Core.Logic.{⊎-elim}
+use mathlib.Core.Logic.{inl, inr}
 use mathlib.Core.List.{List, [], _∷_}
 use native.Mathlib.Omega.{arith}
-use lib.ListN.{length, length-set}
-use lib.Seq.{getD-set-other}
-use lib.Dec.{eqb}
-use Rattle.lengths.specs.Edge.{Edge, edge, IsEdge, edgeCount, place}
+use lib.ListN.{length}
+use Rattle.lengths.specs.Edge.{Edge, edge, IsEdge, edgeCount}
 use Rattle.lengths.specs.Table.{lengthOf}
-use Rattle.lengths.proofs.Edges.{place-injective}
 use Rattle.lengths.proofs.Tables.{length-symmetric}
-use Rattle.rules.specs.EdgeSet.{Has, closedEdges}
+use Rattle.rules.specs.EdgeSet.{Joins, Has, closedEdges}
 use Rattle.rules.specs.Mark.{openIn}
 use Rattle.rules.specs.Pair.{withPair, FeasiblePair}
 use Rattle.tours.specs.Tour.{Uses, ThreeOptimal, Symmetric}
@@ -23,6 +20,7 @@ use Rattle.tours.proofs.Optimal.{OwnPair, optimal-feasible, optimal-not-closed}
 use Rattle.argument.specs.Safety.{Upheld, Guarded}
 use Rattle.sheets.specs.Rules.{rulesOf, strikeIn, markingOf}
 use Rattle.demands.proofs.Lawful.{lawful}
+use Rattle.demands.proofs.Strikes.{length-struck, struck-other}
 
 -- the tour uses every edge of K
 abbrev pub InTour : List ℕ → List Edge → Type 0
@@ -60,20 +58,15 @@ module _ {n : ℕ} (table : List ℕ) {t : List ℕ} (some : 4 ≤ n) (best : Th
 
     -- striking an edge that the tour does not use leaves the tour's edges open
     spared : (a b : ℕ) → IsEdge n a b → (InTour t (edge a b ∷ []) → ⊥) → Kept n t (strikeIn n marks a b)
-    unfolding strikeIn openIn
     spared a b e unused =
         record {
-          whole = length-set marks (place n a b) 0 ∙ kept .whole;
-          all-open = λ c d u. ap (λ (m : ℕ). eqb m 1) (getD-set-other marks (place n a b) (place n c d) 0 0 (apart c d u)) ∙ kept .all-open c d u;
+          whole = length-struck n marks a b ∙ kept .whole;
+          all-open = λ c d u. struck-other marks (kept .whole) e (used-edge c d u) (λ j. unused (inside-cons [] (closedEdges t) a b (used c d u j) (λ x y k. absurd k))) ∙ kept .all-open c d u;
         }
       where
-        apart : (c d : ℕ) → Uses t c d → place n c d ≡ place n a b → ⊥
-        apart c d u h =
-            unused
-            (⊎-elim
-            (λ s. inside-cons [] (closedEdges t) a b (subst₂ (λ (x y : ℕ). Uses t x y) (s .0) (s .1) u) (λ x y k. absurd k))
-            (λ s. inside-cons [] (closedEdges t) a b (has-sym (closedEdges t) b a (subst₂ (λ (x y : ℕ). Uses t x y) (s .0) (s .1) u)) (λ x y k. absurd k))
-            (place-injective (used-edge c d u) e h))
+        used : (c d : ℕ) → Uses t c d → Joins (edge a b) c d → Uses t a b
+        used c d u (inl s) = rw (s .0, s .1) u
+        used c d u (inr s) = has-sym (closedEdges t) b a (rw (s .0, s .1) u)
 
   pub guarded : Guarded (markingOf n table) (InTour t) (Kept n t)
   guarded =

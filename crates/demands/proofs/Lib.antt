@@ -1,4 +1,10 @@
-pub mod Kept
+pub mod Answers
 pub mod Lawful
-pub mod Demand3
+pub mod Strikes
+pub mod Changed
+pub mod Listed
+pub mod Measured
+pub mod Exists
+pub mod Kept
 pub mod Demand2
+pub mod Demand3

@@ -1,1 +1,4 @@
+pub mod Listed
+pub mod Marked
+pub mod Measured
 pub mod Run

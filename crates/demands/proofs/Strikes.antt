@@ -1,0 +1,65 @@
+-- What striking one edge does to the marks. Assumes nothing.
+use Prim.Native.Nat.{ℕ, zero, suc, _<_}
+use mathlib.Core.Path.{_≡_, refl, sym, _∙_, ap, subst}
+use mathlib.Core.Bool.{Bool, true, false}
+use mathlib.Core.Logic.{⊎-elim, inl, inr}
+use mathlib.Core.List.{List, [], _∷_}
+use native.Mathlib.Omega.{arith}
+use lib.Dec.{eqb}
+use lib.ListN.{length, getD, set, length-set}
+use lib.Seq.{getD-set-same, getD-set-other}
+use borrow.Author.Tests.{eq-eqb, ne-eqb}
+use Rattle.lengths.specs.Edge.{edge, IsEdge, edgeCount, place}
+use Rattle.lengths.proofs.Edges.{place-below, place-injective, place-symmetric}
+use Rattle.rules.specs.EdgeSet.{Joins}
+use Rattle.rules.specs.Mark.{openIn}
+use Rattle.sheets.specs.Rules.{strikeIn}
+use Rattle.demands.specs.Marked.{differences}
+
+-- nothing differs from itself
+pub differences-none : (xs : List ℕ) → differences xs xs ≡ 0
+unfolding differences
+differences-none [] = refl
+differences-none (x ∷ xs) = rw (eq-eqb x x refl, differences) (differences-none xs)
+
+-- a new number at a place where the lists were the same is one more difference
+pub differences-set : (xs ys : List ℕ) (i v : ℕ) → length ys ≡ length xs → i < length ys → getD ys i 0 ≡ getD xs i 0 → (getD xs i 0 ≡ v → ⊥) →
+    differences xs (set ys i v) ≡ suc (differences xs ys)
+unfolding differences
+differences-set [] ys i v e h s n = absurd (omega arith)
+differences-set (x ∷ xs) [] i v e h s n = absurd (omega arith)
+differences-set (x ∷ xs) (y ∷ ys) zero v e h s n = rw (ne-eqb x v n, eq-eqb x y (sym s), differences)
+differences-set (x ∷ xs) (y ∷ ys) (suc i) v e h s n = by (eqb x y) (differences-set xs ys i v (omega arith) (omega arith) s n)
+  where
+    by : (t : Bool) → differences xs (set ys i v) ≡ suc (differences xs ys) →
+        _≡_ {A = ℕ} (elim t [ true ↦ differences xs (set ys i v) | false ↦ suc (differences xs (set ys i v)) ]) (suc (elim t [ true ↦ differences xs ys | false ↦ suc (differences xs ys) ]))
+    by true z = z
+    by false z = ap suc z
+
+-- an edge has one place and one mark, in either order of its points
+place-joined : (n a b c d : ℕ) → Joins (edge a b) c d → place n c d ≡ place n a b
+place-joined n a b c d (inl e) = rw (sym (e .0), sym (e .1))
+place-joined n a b c d (inr e) = rw (sym (e .0), sym (e .1)) (place-symmetric n b a)
+
+pub open-joined : (n : ℕ) (marks : List ℕ) (a b c d : ℕ) → Joins (edge a b) c d → openIn n marks c d ≡ openIn n marks a b
+unfolding openIn
+open-joined n marks a b c d j = ap (λ (i : ℕ). eqb (getD marks i 0) 1) (place-joined n a b c d j)
+
+pub length-struck : (n : ℕ) (marks : List ℕ) (a b : ℕ) → length (strikeIn n marks a b) ≡ length marks
+unfolding strikeIn
+length-struck n marks a b = length-set marks (place n a b) 0
+
+module _ {n : ℕ} (marks : List ℕ) (whole : length marks ≡ edgeCount n) {a b : ℕ} (ab : IsEdge n a b) where
+  -- the struck edge is not open, in either order of its points
+  pub struck-same : (c d : ℕ) → Joins (edge a b) c d → openIn n (strikeIn n marks a b) c d ≡ false
+  unfolding openIn strikeIn
+  struck-same c d j =
+      ap (λ (m : ℕ). eqb m 1)
+      (ap (λ (i : ℕ). getD (set marks (place n a b) 0) i 0) (place-joined n a b c d j) ∙ getD-set-same marks (place n a b) 0 0 (omega (arith, place-below ab)))
+
+  -- any other edge keeps its mark
+  pub struck-other : {c d : ℕ} → IsEdge n c d → (Joins (edge a b) c d → ⊥) → openIn n (strikeIn n marks a b) c d ≡ openIn n marks c d
+  unfolding openIn strikeIn
+  struck-other {c} {d} cd other =
+      ap (λ (m : ℕ). eqb m 1)
+      (getD-set-other marks (place n a b) (place n c d) 0 0 (λ e. other (⊎-elim (λ s. inl (sym (s .0), sym (s .1))) (λ s. inr (sym (s .1), sym (s .0))) (place-injective cd ab e))))
