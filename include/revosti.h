@@ -11,10 +11,11 @@
  *   sheet   16 bytes a record, 1 to REVOSTI_MOST_RECORDS records, numbered from 1: eight 16-bit numbers kind, a, b, u, v, c, d, next.
  *   tour    2 bytes a point, n points.
  *
- * Both functions accept any buffers of any lengths and any n: faulty input gets a refusal number, the first that applies in the order of
- * the numbers listed at each function. They touch no byte outside the lengths given, allocate nothing, keep no state and always return.
+ * Both functions accept any buffers of any lengths and any n: faulty input gets a refusal number, the first that applies in the order
+ * given at each function. They touch no byte outside the lengths given, allocate nothing, keep no state and always return.
  * They use some 300 KB of stack. Buffers must not overlap `marks` while revosti_mark_sheet runs.
  *
+ * docs/RULES.md has the rules that they keep to, and what the words here mean (standing pair, split, crossing, labelling).
  * What is proved of them: demands 1 to 3 of README.md. In particular, no edge of a shortest tour is ever struck, whatever sheets are
  * marked from fresh marks over one table, provided that nobody else writes the table or the marks meanwhile.
  */
@@ -65,7 +66,8 @@ enum {
 
 /*
  * Marks a sheet: strikes each line's edge whose argument is complete, one line after the other, and stops at the first refusal.
- * Refusals in this order: 1, 2, 5, 6, 7; then, record by record, 8 to 16.
+ * Refusals in this order: 1, 2, 5, 6, 7; then 8 and 9 on each index followed; 10 and 11 on each record entered, then 12 on a line, and 14,
+ * 13, 15, 16 on a case (14 before 13). A chain that ends with standing pairs left gets 14 at its last record, or at the split's owner.
  * Answer: refusal number + 256 * record + 16,777,216 * lines accepted; take it apart with the functions below. The record is 0 where no
  * record is at fault. A call that is refused by 1 to 7 changes no mark; one that stops at a record keeps the strikes of the lines accepted
  * before it.
