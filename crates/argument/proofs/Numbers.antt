@@ -16,7 +16,7 @@ use Rattle.argument.specs.Argument.{splitLimit}
 use Rattle.argument.specs.Layout.{Enters}
 use Rattle.argument.specs.Walk.{Spot, Step, ends, takes, entering, readCase, look, opening, behind, close, act, follow, walkBy, walk}
 use Rattle.argument.specs.Line.{Struck, strikes, judgeRecord, judge}
-use Rattle.argument.specs.Sheet.{Marking, Place, struck, start, Result, CompleteLines, Stops, ended, above, not-above, incomplete, Marks, RefusedAt}
+use Rattle.argument.specs.Sheet.{Marking, Place, struck, start, Result, CompleteLines, Stops, ended, above, not-above, incomplete, Answers, RefusedAt}
 use Rattle.argument.proofs.Verdicts.{refused-accepted, refused-inj, guard-refused, unless-refused, andThen-refused}
 use Rattle.argument.proofs.Steps.{Looked, looked, look-end, look-on}
 use Rattle.argument.proofs.Fuel.{close-rises, walk-rises}
@@ -128,6 +128,6 @@ module _ {M : Type 0} (𝓜 : Marking M) (law : (m : M) → Lawful (𝓜 .rules 
       tested s number rec m r (t .low) (t .high) (t .named) z
 
   -- a sheet of at least one record that is refused among its lines tells a number from 8 to 16 and a record
-  pub marks-told : (m₀ : M) (a : Result M) → 1 ≤ records s → Marks 𝓜 s (start m₀) a → (m r : ℕ) → a .verdict ≡ refused m r → RefusedAt s m r
+  pub refusal-told : (m₀ : M) (a : Result M) → 1 ≤ records s → Answers 𝓜 s (start m₀) a → (m r : ℕ) → a .verdict ≡ refused m r → RefusedAt s m r
   unfolding start
-  marks-told m₀ a some t = stops-told (t .place) (a .verdict) some (behind-lines (t .lines) (start m₀) (t .place) (inr (refl, refl)) (t .chain)) (t .stops)
+  refusal-told m₀ a some t = stops-told (t .place) (a .verdict) some (behind-lines (t .lines) (start m₀) (t .place) (inr (refl, refl)) (t .chain)) (t .stops)

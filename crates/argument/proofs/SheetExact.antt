@@ -12,7 +12,7 @@ use Rattle.argument.specs.Record.{records}
 use Rattle.argument.specs.Rules.{Rules, Lawful}
 use Rattle.argument.specs.Layout.{Enters}
 use Rattle.argument.specs.Line.{Struck, strikes, judge, CompleteAt}
-use Rattle.argument.specs.Sheet.{Marking, Place, Turn, over, onward, struck, turn, Result, answer, linesFrom, start, sheet, CompleteLines, Stops, ended, above, not-above, incomplete, Marks}
+use Rattle.argument.specs.Sheet.{Marking, Place, Turn, over, onward, struck, turn, Result, answer, linesFrom, start, sheet, CompleteLines, Stops, ended, above, not-above, incomplete, Answers}
 use Rattle.argument.proofs.Verdicts.{refused-accepted, refused-as}
 use Rattle.argument.proofs.Exact.{line-sound, line-complete}
 use Rattle.argument.proofs.Sheet.{Marked, turned, turn-over, turn-8, turn-9, turn-stops, turn-strikes, turn-rises, lines-over, lines-stop, lines-go-on}
@@ -72,17 +72,17 @@ module _ {M : Type 0} (𝓜 : Marking M) (law : (m : M) → Lawful (𝓜 .rules 
   stopped q v (incomplete {number} {rec} h l j) = lines-stop 𝓜 s q number rec (turn-stops 𝓜 s q h number rec j)
 
   -- and every answer comes of one: as many steps as there are records left above the highest entered, and one, are enough
-  lines-marks : (fuel : ℕ) (p : Place M) → 1 ≤ fuel → records s < fuel + p .high → Marks 𝓜 s p (linesFrom 𝓜 s p)
+  lines-answer : (fuel : ℕ) (p : Place M) → 1 ≤ fuel → records s < fuel + p .high → Answers 𝓜 s p (linesFrom 𝓜 s p)
   unfolding CompleteLines answer
-  lines-marks zero p h l = absurd (omega arith)
-  lines-marks (suc fuel) p h l = by (turn 𝓜 s p) refl (λ p′ e. let r = turn-rises 𝓜 s p p′ e in lines-marks fuel p′ (omega (arith, r .0)) (omega (arith, r .0)))
+  lines-answer zero p h l = absurd (omega arith)
+  lines-answer (suc fuel) p h l = by (turn 𝓜 s p) refl (λ p′ e. let r = turn-rises 𝓜 s p p′ e in lines-answer fuel p′ (omega (arith, r .0)) (omega (arith, r .0)))
     where
-      here : (v : Verdict (Unit {0})) → Stops 𝓜 s p v → Marks 𝓜 s p (linesFrom 𝓜 s p)
-      here v st = subst (Marks 𝓜 s p) (sym (stopped p v st)) (record { lines = []; place = p; chain = refl; stops = st; marks-left = refl; counted = refl })
+      here : (v : Verdict (Unit {0})) → Stops 𝓜 s p v → Answers 𝓜 s p (linesFrom 𝓜 s p)
+      here v st = subst (Answers 𝓜 s p) (sym (stopped p v st)) (record { lines = []; place = p; chain = refl; stops = st; marks-left = refl; counted = refl })
 
-      step : (p′ : Place M) → turn 𝓜 s p ≡ accepted (onward p′) → Marked 𝓜 s p p′ → Marks 𝓜 s p′ (linesFrom 𝓜 s p′) → Marks 𝓜 s p (linesFrom 𝓜 s p)
+      step : (p′ : Place M) → turn 𝓜 s p ≡ accepted (onward p′) → Marked 𝓜 s p p′ → Answers 𝓜 s p′ (linesFrom 𝓜 s p′) → Answers 𝓜 s p (linesFrom 𝓜 s p)
       step p′ e m t =
-          subst (Marks 𝓜 s p) (sym (lines-go-on 𝓜 s p p′ e))
+          subst (Answers 𝓜 s p) (sym (lines-go-on 𝓜 s p p′ e))
           (record {
             lines = m .x ∷ t .lines;
             place = t .place;
@@ -92,7 +92,7 @@ module _ {M : Type 0} (𝓜 : Marking M) (law : (m : M) → Lawful (𝓜 .rules 
             counted = t .counted;
           })
 
-      by : (v : Verdict (Turn M)) → turn 𝓜 s p ≡ v → ((p′ : Place M) → turn 𝓜 s p ≡ accepted (onward p′) → Marks 𝓜 s p′ (linesFrom 𝓜 s p′)) → Marks 𝓜 s p (linesFrom 𝓜 s p)
+      by : (v : Verdict (Turn M)) → turn 𝓜 s p ≡ v → ((p′ : Place M) → turn 𝓜 s p ≡ accepted (onward p′) → Answers 𝓜 s p′ (linesFrom 𝓜 s p′)) → Answers 𝓜 s p (linesFrom 𝓜 s p)
       by (accepted over) e ih = here (accepted tt) (ended (turned 𝓜 s p over e))
       by (accepted (onward p′)) e ih = step p′ e (turned 𝓜 s p (onward p′) e) (ih p′ e)
       by (refused m r) e ih = here (refused m r) (refused-stops p m r e)
@@ -100,10 +100,10 @@ module _ {M : Type 0} (𝓜 : Marking M) (law : (m : M) → Lawful (𝓜 .rules 
   -- A sheet answers r exactly when a chain of complete lines from record 1 on leads to a place where it stops with r's verdict, marks and
   -- number of lines. From left to right, line by line: an accepted line is complete, and a refused turn has its reason. From right to left,
   -- every line of the chain is accepted, since it is complete, and the reason gives the verdict.
-  pub sheet-exact : (m : M) (r : Result M) → (sheet 𝓜 s m ≡ r) ↔ Marks 𝓜 s (start m) r
+  pub sheet-exact : (m : M) (r : Result M) → (sheet 𝓜 s m ≡ r) ↔ Answers 𝓜 s (start m) r
   unfolding sheet start answer
-  sheet-exact m r = (λ e. subst (Marks 𝓜 s (start m)) e (lines-marks (suc (records s)) (start m) (omega arith) (omega arith)), back)
+  sheet-exact m r = (λ e. subst (Answers 𝓜 s (start m)) e (lines-answer (suc (records s)) (start m) (omega arith) (omega arith)), back)
     where
-      back : Marks 𝓜 s (start m) r → sheet 𝓜 s m ≡ r
+      back : Answers 𝓜 s (start m) r → sheet 𝓜 s m ≡ r
       back t = lines-along (t .lines) (start m) (t .place) (t .chain) ∙ stopped (t .place) (r .verdict) (t .stops)
           ∙ ap₂ (λ (marks : M) (lines : ℕ). record { marks = marks; lines = lines; verdict = r .verdict }) (sym (t .marks-left)) (sym (t .counted))

@@ -95,7 +95,7 @@ pub data Stops {M : Type 0} (𝓜 : Marking M) (s : List ℕ) (q : Place M) : Ve
 
 -- the answer r of a sheet from the place p on, without the marker's walk: a chain of complete lines leads to a place where it stops, and r has
 -- the marks and the number of lines of that place
-pub record Marks {M : Type 0} (𝓜 : Marking M) (s : List ℕ) (p : Place M) (r : Result M) : Type 0 where
+pub record Answers {M : Type 0} (𝓜 : Marking M) (s : List ℕ) (p : Place M) (r : Result M) : Type 0 where
   pub lines : List Struck
   pub place : Place M
   pub chain : CompleteLines 𝓜 s p lines place

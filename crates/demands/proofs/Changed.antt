@@ -17,7 +17,7 @@ use Rattle.rules.specs.EdgeSet.{Joins, Has}
 use Rattle.rules.specs.Mark.{openIn}
 use Rattle.tours.proofs.Edges.{joins?}
 use Rattle.argument.specs.Line.{Struck, strikes, CompleteAt, CompleteLine}
-use Rattle.argument.specs.Sheet.{Place, Result, struck, start, CompleteLines, Marks}
+use Rattle.argument.specs.Sheet.{Place, Result, struck, start, CompleteLines, Answers}
 use Rattle.sheets.specs.Rules.{rulesOf, strikeIn, markingOf}
 use Rattle.demands.specs.Marked.{struckEdges, differences, Changes}
 use Rattle.demands.proofs.Strikes.{differences-none, differences-set, open-joined, length-struck, struck-same, struck-other}
@@ -112,7 +112,7 @@ module _ (n : ℕ) (table sheet : List ℕ) where
         (stays-struck xs p′ q whole′ (l .2)) (lines-exactly xs p′ q whole′ (l .2))
 
   -- a call that passes the tests: the edges are those of its lines
-  pub chain-changes : (marks : List ℕ) → length marks ≡ edgeCount n → (r : Result (List ℕ)) (m : Marks (markingOf n table) sheet (start marks) r) →
+  pub chain-changes : (marks : List ℕ) → length marks ≡ edgeCount n → (r : Result (List ℕ)) (m : Answers (markingOf n table) sheet (start marks) r) →
       Changes n marks (r .marks) (struckEdges (m .lines)) (r .lines)
   unfolding start
   chain-changes marks whole r m =

@@ -11,10 +11,10 @@ use Rattle.lengths.specs.Test.{unless}
 use Rattle.rules.specs.Mark.{openIn}
 use Rattle.argument.specs.Line.{Struck, strikes, judge, CompleteLine}
 use Rattle.argument.specs.Record.{records}
-use Rattle.argument.specs.Sheet.{Place, Result, start, sheet, CompleteLines, ended, Marks, RefusedAt}
+use Rattle.argument.specs.Sheet.{Place, Result, start, sheet, CompleteLines, ended, Answers, RefusedAt}
 use Rattle.argument.specs.Verdict.{accepted, refused}
 use Rattle.argument.proofs.Exact.{line-sound, line-complete}
-use Rattle.argument.proofs.Numbers.{marks-told}
+use Rattle.argument.proofs.Numbers.{refusal-told}
 use Rattle.argument.proofs.SheetExact.{chain-length, sheet-exact}
 use Rattle.sheets.proofs.Records.{sheet-records}
 use Rattle.sheets.specs.Rules.{rulesOf, markingOf}
@@ -48,7 +48,7 @@ lines-marked n table marks s p = rw (markSheet, p .points, p .whole)
 -- not complete) with r's verdict, marks and number of lines. Each line is judged as `demand-2` says, one after the other (`sheet-exact`).
 pub demand-2-sheet :
     (n : ℕ) (table marks s : List ℕ) → Passes n table marks s → (r : Result (List ℕ)) →
-    (markSheet n table marks s ≡ r) ↔ Marks (markingOf n table) s (start marks) r
+    (markSheet n table marks s ≡ r) ↔ Answers (markingOf n table) s (start marks) r
 demand-2-sheet n table marks s p r =
     let e = sheet-exact (markingOf n table) (lawful n table) s marks r in
     (λ h. e .0 (sym (lines-marked n table marks s p) ∙ h), λ m. lines-marked n table marks s p ∙ e .1 m)
@@ -75,11 +75,11 @@ pub demand-2-refusal :
     (n : ℕ) (table marks s : List ℕ) → Passes n table marks s → (number rec : ℕ) →
     markSheet n table marks s .verdict ≡ refused number rec → RefusedAt s number rec
 demand-2-refusal n table marks s p number rec e =
-    marks-told (markingOf n table) (lawful n table) s marks (markSheet n table marks s) (sheet-records s (p .whole) .some) (demand-2-sheet n table marks s p _ .0 refl) number rec e
+    refusal-told (markingOf n table) (lawful n table) s marks (markSheet n table marks s) (sheet-records s (p .whole) .some) (demand-2-sheet n table marks s p _ .0 refl) number rec e
 
 -- the marks that a call changes are those of the edges that its accepted lines strike, as many as the lines that it answers, each open before
 pub demand-2-struck :
-    (n : ℕ) (table marks s : List ℕ) → Passes n table marks s → (r : Result (List ℕ)) (m : Marks (markingOf n table) s (start marks) r) →
+    (n : ℕ) (table marks s : List ℕ) → Passes n table marks s → (r : Result (List ℕ)) (m : Answers (markingOf n table) s (start marks) r) →
     Changes n marks (r .marks) (struckEdges (m .lines)) (r .lines)
 demand-2-struck n table marks s p r m = chain-changes n table s marks (passed (p .points) .marked) r m
 

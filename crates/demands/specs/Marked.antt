@@ -1,5 +1,5 @@
 -- What a call of *mark a sheet* changes (01, "Each operation and its refusals": "the number of lines accepted in this call"; "An accepted line
--- marks its edge struck"). Which lines it accepts, and where it stops, is `Marks` (argument/specs/Sheet.antt).
+-- marks its edge struck"). Which lines it accepts, and where it stops, is `Answers` (argument/specs/Sheet.antt).
 use Prim.Native.Nat.{ℕ, suc}
 use mathlib.Core.Path.{_≡_}
 use mathlib.Core.Bool.{true, false}
