@@ -1,9 +1,9 @@
 -- What the functions of `report` ask of each other, and the whole text from a header's. Assumes nothing.
 use Prim.Native.Nat.{ℕ, _*_, _≤_}
-use mathlib.Core.Path.{_≡_, sym, _∙_, ap}
-use mathlib.Core.List.{List}
+use mathlib.Core.Path.{_≡_, sym, _∙_, ap, ap₂}
+use mathlib.Core.List.{List, _++_}
 use native.Mathlib.Omega.{arith}
-use lib.ListN.{length, take, length-take}
+use lib.ListN.{length, take, length-take, take-append-drop}
 use lib.Seq.{length-take-le}
 use Rattle.lengths.specs.Edge.{edgeCount}
 use Rattle.lengths.proofs.Instances.{in-range}
@@ -57,13 +57,13 @@ places {n} {e} cs table marks p h a b c = record {
 }
 
 -- the whole text
-pub reported : (file : List ℕ) {h : Header} {out left : List ℕ} {r : ℕ} → headerOf file ≡ h → Wrote out 0 (textFor h file) r left → Reported file r left
+pub reported : (file : List ℕ) {h : Header} {out left : List ℕ} {r : ℕ} → headerOf file ≡ h → Wrote out 0 (textFor h file) r left → Reported file out r left
 unfolding outputOf
 reported file {h} {out} {left} {r} e w =
     let is : textFor h file ≡ outputOf file = sym (ap (λ (g : Header). textFor g file) e) in
     let size : r ≡ length (outputOf file) = w .next ∙ omega (arith, ap length is) in
     record {
-      text = w .front ∙ is;
+      whole = sym (take-append-drop r left) ∙ ap₂ _++_ (w .front ∙ is) (w .rest);
       size = size;
       room = omega (arith, length-take r left, ap length (w .front ∙ is), size);
       part = size ∙ sym (ap length (w .front ∙ is));

@@ -12,7 +12,7 @@ use Rattle.lengths.specs.Edge.{Edge, edge, edges, edgeCount, tri, placeUp, IsEd
 use Rattle.lengths.proofs.Edges.{length-edges, edges-at, next-in-row, next-row}
 use Rattle.report.specs.Text.{Room, Wrote}
 use Rattle.report.specs.Lines.{struckLine, markLine, markLines, struckLines, StrikesAsked}
-use Rattle.report.proofs.Writing.{wrote-none}
+use Rattle.report.proofs.Writing.{wrote-none, rest-on}
 
 -- the line of a mark
 struck-line : (a b : ℕ) {mark : ℕ} → mark ≡ 0 → markLine mark a b ≡ struckLine a b
@@ -36,6 +36,7 @@ pub record Striking (n : ℕ) (marks out₀ : List ℕ) (at : ℕ) (out : List �
   pub here : i < edgeCount n → IsEdgeUp n a b × (placeUp n a b ≡ i)
   pub kept : length out ≡ length out₀
   pub within : next ≤ length out
+  pub rest : drop next out ≡ drop next out₀
   pub whole : take next out ++ markLines (drop i (edges n)) (drop i marks) ≡ take at out₀ ++ struckLines n marks
 
 pub first-edge : {n at : ℕ} {marks out : List ℕ} → StrikesAsked n marks out at → Striking n marks out at out 1 2 0 at
@@ -44,6 +45,7 @@ first-edge {n} {at} {marks} {out} p = record {
   here = λ _. (record { low = omega arith; up = omega arith; high = p .some }, start);
   kept = refl;
   within = omega (arith, p .room .room);
+  rest = refl;
   whole = refl;
 }
   where
@@ -108,6 +110,7 @@ module _ {n at : ℕ} {marks out₀ out : List ℕ} {a b i next : ℕ} (p : Stri
       here = λ _. next-in-row (at-edge .0) (at-edge .1) g;
       kept = w .kept ∙ s .kept;
       within = omega (arith, w .next, w .kept, mark-room .room);
+      rest = rest-on out₀ (s .rest) w;
       whole = text-on;
     }
 
@@ -116,6 +119,7 @@ module _ {n at : ℕ} {marks out₀ out : List ℕ} {a b i next : ℕ} (p : Stri
       here = λ k. next-row (at-edge .0) (at-edge .1) g k;
       kept = w .kept ∙ s .kept;
       within = omega (arith, w .next, w .kept, mark-room .room);
+      rest = rest-on out₀ (s .rest) w;
       whole = text-on;
     }
 
@@ -128,5 +132,6 @@ all-struck {n} {at} {marks} {out₀} {out} {i = i} {next = next} p s h =
     record {
       next = omega (arith, total p s, ap length over);
       front = sym (append-nil (take next out)) ∙ ap (λ (l : List ℕ). take next out ++ l) (sym over) ∙ s .whole;
+      rest = s .rest;
       kept = s .kept;
     }

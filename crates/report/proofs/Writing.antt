@@ -5,8 +5,8 @@ use mathlib.Core.List.{List, [], _∷_, _++_, append-assoc, append-nil}
 use native.Mathlib.Nat.{add-zero, add-assoc}
 use native.Mathlib.Numerals.{add-one}
 use native.Mathlib.Omega.{arith}
-use lib.ListN.{length, take, getD, set, length-append, length-set}
-use lib.Seq.{take-suc, take-suc-set, take-length}
+use lib.ListN.{length, take, drop, getD, set, length-append, length-set}
+use lib.Seq.{take-suc, take-suc-set, take-length, drop-set-lt, drop-drop}
 use Rattle.report.specs.Text.{Room, Wrote, field}
 
 -- the room of a text is room for what it begins with, and, once that is written, for the rest
@@ -16,21 +16,33 @@ room-first {out} {at} {t} u r = record { room = omega (arith, r .room, length-ap
 pub room-second : {out mid : List ℕ} {at r : ℕ} {t u : List ℕ} → Room out at (t ++ u) → Wrote out at t r mid → Room mid r u
 room-second {t = t} {u = u} p w = record { room = omega (arith, p .room, w .next, w .kept, length-append t u) }
 
+-- what stood past the first of two texts stands past the second
+pub rest-on : (out : List ℕ) {mid left : List ℕ} {r s : ℕ} {u : List ℕ} → drop r mid ≡ drop r out → Wrote mid r u s left → drop s left ≡ drop s out
+rest-on out {mid} {left} {r} {s} {u} h w =
+    let k = length u in
+    w .rest
+    ∙ ap (λ (i : ℕ). drop i mid) (w .next)
+    ∙ sym (drop-drop k r mid)
+    ∙ ap (λ (l : List ℕ). drop k l) h
+    ∙ drop-drop k r out
+    ∙ sym (ap (λ (i : ℕ). drop i out) (w .next))
+
 -- two texts are one
 pub wrote-both : {out mid left : List ℕ} {at r s : ℕ} {t u : List ℕ} → Wrote out at t r mid → Wrote mid r u s left → Wrote out at (t ++ u) s left
 wrote-both {out} {mid} {left} {at} {r} {s} {t} {u} v w = record {
   next = omega (arith, v .next, w .next, length-append t u);
   front = w .front ∙ ap (λ (l : List ℕ). l ++ u) (v .front) ∙ append-assoc (take at out) t u;
+  rest = rest-on out (v .rest) w;
   kept = w .kept ∙ v .kept;
 }
 
 -- no text
 pub wrote-none : (out : List ℕ) (at : ℕ) → Wrote out at [] at out
-wrote-none out at = record { next = sym (add-zero at); front = sym (append-nil (take at out)); kept = refl }
+wrote-none out at = record { next = sym (add-zero at); front = sym (append-nil (take at out)); rest = refl; kept = refl }
 
 -- one byte
 pub wrote-one : (out : List ℕ) (at b : ℕ) → at < length out → Wrote out at (b ∷ []) (at + 1) (set out at b)
-wrote-one out at b h = record { next = refl; front = rw add-one (take-suc-set out at b h); kept = length-set out at b }
+wrote-one out at b h = record { next = refl; front = rw add-one (take-suc-set out at b h); rest = drop-set-lt (at + 1) out at b (omega arith); kept = length-set out at b }
 
 -- the loop over a word: i bytes of it are written
 pub record Copying (out : List ℕ) (at : ℕ) (word : List ℕ) (i : ℕ) (left : List ℕ) : Type 0 where

@@ -2,8 +2,8 @@
 use Prim.Native.Nat.{ℕ, _+_, _*_, _≤_}
 use mathlib.Core.Path.{_≡_}
 use mathlib.Core.Bool.{true}
-use mathlib.Core.List.{List}
-use lib.ListN.{length, take}
+use mathlib.Core.List.{List, _++_}
+use lib.ListN.{length, take, drop}
 use Rattle.lengths.specs.Distance.{ruleOf}
 use Rattle.lengths.specs.Edge.{edgeCount}
 use Rattle.lengths.specs.Instance.{inRange}
@@ -65,9 +65,10 @@ pub record Places (n : ℕ) (coordinates table marks : List ℕ) : Type 0 where
   pub measured : length table ≡ edgeCount n
   pub marked : length marks ≡ edgeCount n
 
--- what `report` ensures: the text stands in front, r bytes long; the last two are what a caller that lends that part asks
-pub record Reported (file : List ℕ) (r : ℕ) (left : List ℕ) : Type 0 where
-  pub text : take r left ≡ outputOf file
+-- what `report` ensures: in the buffer the text stands in front, r bytes long, and the bytes past it are as they were; the last two
+-- are what a caller that lends the text asks
+pub record Reported (file out : List ℕ) (r : ℕ) (left : List ℕ) : Type 0 where
+  pub whole : left ≡ outputOf file ++ drop r out
   pub size : r ≡ length (outputOf file)
   pub room : r ≤ length left
   pub part : r ≡ length (take r left)

@@ -4,7 +4,7 @@ use mathlib.Core.Path.{_≡_}
 use mathlib.Core.Bool.{true, false}
 use mathlib.Core.List.{List, [], _∷_, _++_}
 use lib.Dec.{ltb}
-use lib.ListN.{length, take, getD}
+use lib.ListN.{length, take, drop, getD}
 
 -- the digits of n, at most k of them: those of n / 10, then the last one
 unfoldable pub digits : ℕ → ℕ → List ℕ
@@ -61,10 +61,11 @@ lineEnd = 10 ∷ []
 pub record Room (out : List ℕ) (at : ℕ) (text : List ℕ) : Type 0 where
   pub room : at + length text ≤ length out
 
--- what writing a text at a place leaves: the bytes before the place, then the text; r is the next place
+-- what writing a text at a place leaves: the bytes before the place, then the text, then the bytes past it; r is the next place
 pub record Wrote (out : List ℕ) (at : ℕ) (text : List ℕ) (r : ℕ) (left : List ℕ) : Type 0 where
   pub next : r ≡ at + length text
   pub front : take r left ≡ take at out ++ text
+  pub rest : drop r left ≡ drop r out
   pub kept : length left ≡ length out
 
 -- what writing a digit asks

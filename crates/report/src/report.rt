@@ -97,7 +97,7 @@ fn report_instance(rule: u32, n: u16, file: &[u8], out: &mut [u8]) -> usize
 
 // Writes the text for the bytes of an input, and answers how long it is.
 pub fn report(file: &[u8], out: &mut [u8; TEXT]) -> usize
-    ensures { λ r. ⌜ Reported (now (file .entry)) r (now (out .exit)) ⌝ }
+    ensures { λ r. ⌜ Reported (now (file .entry)) (now (out .entry)) r (now (out .exit)) ⌝ }
 {
     match Header::read(file) {
         Header::Refused(number) => put_refusal(number, out),

@@ -1,19 +1,19 @@
--- Every entry of the table of starred examples holds: antt computes one test over the whole table, and one law turns the test into
--- the claim at each entry. Assumes nothing.
-use Prim.Native.Nat.{ℕ, _+_, max}
-use mathlib.Core.Path.{_≡_, refl, sym, _∙_, subst, ap₂}
-use mathlib.Core.Bool.{Bool, true, false, true≢false, false≢true, _&&_}
-use mathlib.Core.Logic.{_↔_, ⊎-elim}
+-- Every entry of the table of starred examples holds. For each kind of entry a lemma proves the claim from equations between numbers
+-- or lists, which antt computes: the rules' answers, the lengths, the list of standing pairs, the ends of the centres. Assumes nothing.
+use Prim.Native.Nat.{ℕ, _+_, _≤_, _<_, max}
+use mathlib.Core.Path.{_≡_, refl, sym, _∙_, subst}
+use mathlib.Core.Bool.{false≢true}
+use mathlib.Core.Logic.{_↔_, inl, inr, ⊎-elim}
 use mathlib.Core.List.{List, [], _∷_, List·Memᴰ, List·Memᴰ·not-nil, List·Memᴰ·cases-cons}
 use native.Mathlib.Omega.{arith}
-use borrow.Author.Tests.{eqb-true, leb-true, not-true}
-use lib.Dec.{eqb, leb}
 use Rattle.lengths.specs.Distance.{distanceBy, bisect, passes}
 use Rattle.lengths.specs.Edge.{Edge, edge, edgeCount, place, placeUp, tri, edges, rows, row}
 use Rattle.lengths.specs.Measure.{measuredTable, edgeDistance, squares, xOf, yOf, gapOf}
 use Rattle.lengths.specs.Table.{lengthOf}
-use Rattle.lengths.proofs.Bools.{and-left, and-right}
+use Rattle.lengths.specs.declared.distance.Rule.the-variants.{Euc2d, Ceil2d}
+use Rattle.lengths.proofs.Distances.{distance-euc2d, euc2d-only, distance-ceil2d, ceil2d-only}
 use Rattle.lengths.proofs.Tables.{length-symmetric}
+use Rattle.rules.specs.Closing.{Ends, Crossing}
 use Rattle.rules.specs.ClosingTest.{saves?, labelling?, apart?, placed?, settledBy, crossedBy}
 use Rattle.rules.specs.Joined.{joins?, has?}
 use Rattle.rules.specs.Mark.{openIn}
@@ -22,83 +22,122 @@ use Rattle.rules.specs.Pair.{FeasiblePair}
 use Rattle.rules.specs.PairTest.{every, compatible?, leg?, stays?, unmoved?, feasible?}
 use Rattle.rules.specs.Pairs.{keep, feasiblePairs}
 use Rattle.rules.specs.Shape.{shape?, shuts?, reaches?, goesOn}
-use Rattle.rules.proofs.ClosingExact.{settled-exact}
-use Rattle.rules.proofs.Exact.{shape-exact, single-shape}
+use Rattle.rules.specs.declared.closing.Crossed.the-variants.{NoSaving}
+use Rattle.rules.proofs.ClosingExact.{no-saving-exact}
+use Rattle.rules.proofs.Exact.{has-exact, ends-sound, shape-exact, single-shape}
 use Rattle.rules.proofs.PairTests.{compatible-iff, feasiblePairs-iff}
-use Rattle.rules.specs.declared.closing.Crossed.{Crossed}
-use Rattle.rules.specs.declared.closing.Crossed.the-variants.{Settled, NoCrossing, NoSaving}
-use Rattle.starred.specs.Table.{Example, distance, compatible, incompatible, standing, stays, settles, unsaved, square, allOpen, eight, centres, Compared, Claim, samePairs, compared, settled?, right, allRight, starred}
+use Rattle.starred.specs.Table.{Example, distances, incompatible, compatible, standing, compares, saves, unsaved, starred, square, allOpen, eight, centres, Eight, Claim}
 
-compared-both : (p q x y larger together : ℕ) → compared p q x y larger together ≡ true → Compared p q x y larger together
-unfolding compared
-compared-both p q x y larger together h =
-    let exchange : ℕ = max (square p x + square q y) (square p y + square q x) in
-    (eqb-true exchange larger (and-left (eqb exchange larger) _ h), eqb-true (square p q + square x y) together (and-right (eqb exchange larger) _ h))
+distances-hold : (S d e : ℕ) → S ≤ 2000000000000 → distanceBy Euc2d S ≡ d → distanceBy Ceil2d S ≡ e → Claim (distances S d e)
+distances-hold S d e h one two = (
+  record { satisfied = rw one at (distance-euc2d S h); only = λ f r. euc2d-only S f h r ∙ one },
+  record { satisfied = rw two at (distance-ceil2d S h); only = λ f r. ceil2d-only S f h r ∙ two },
+)
 
-same-pairs : (es fs : List Edge) → samePairs es fs ≡ true → es ≡ fs
-unfolding samePairs
-same-pairs [] [] h = refl
-same-pairs [] (f ∷ fs) h = absurd (false≢true h)
-same-pairs (e ∷ es) [] h = absurd (false≢true h)
-same-pairs (edge a b ∷ es) (edge c d ∷ fs) h =
-    let t = and-right (eqb a c) _ h in
-    ap₂ _∷_
-    (ap₂ edge (eqb-true a c (and-left (eqb a c) _ h)) (eqb-true b d (and-left (eqb b d) _ t)))
-    (same-pairs es fs (and-right (eqb b d) _ t))
+incompatible-hold : (p q x y exchange both : ℕ) → exchange < both → max (square p x + square q y) (square p y + square q x) ≡ exchange
+    → square p q + square x y ≡ both → Claim (incompatible p q x y exchange both)
+incompatible-hold p q x y exchange both h one two = (one, two, λ k. omega arith)
+
+compares-hold : (c x y u v new old : ℕ) → old ≤ new → square x y + square u c + square v c ≡ new → square u v + square x c + square y c ≡ old
+    → Claim (compares c x y u v new old)
+compares-hold c x y u v new old h one two = (one, two, λ k. omega arith)
 
 -- the list that the test computes has exactly the feasible pairs, since {ab} has the shape that conditions 2 and 3 go by
-pairs-claim : (a b c : ℕ) (pairs : List Edge) → samePairs pairs (feasiblePairs 4 square allOpen (edge a b ∷ []) c) ≡ true → Claim (standing a b c pairs)
+standing-hold : (a b c : ℕ) (pairs : List Edge) → (a ≡ b → ⊥) → feasiblePairs 4 square allOpen (edge a b ∷ []) c ≡ pairs → Claim (standing a b c pairs)
 unfolding square
-pairs-claim a b c pairs h apart x y =
+standing-hold a b c pairs apart e x y =
     let r = feasiblePairs-iff square (length-symmetric 4 _) 4 allOpen (edge a b ∷ []) c x y
     (λ xc yc e. shape-exact 4 (edge a b ∷ []) c x y (single-shape 4 a b apart) (record { x-y = λ q. omega (arith, e .up); x-c = xc; y-c = yc })) in
-    subst (λ (es : List Edge). List·Memᴰ (edge x y) es ↔ FeasiblePair 4 square allOpen (edge a b ∷ []) c x y) (sym (same-pairs pairs _ h)) r
+    subst (λ (es : List Edge). List·Memᴰ (edge x y) es ↔ FeasiblePair 4 square allOpen (edge a b ∷ []) c x y) e r
 
-settled-true : (c : Crossed) → settled? c ≡ true → c ≡ Settled
-settled-true Settled h = refl
-settled-true NoCrossing h = absurd (false≢true h)
-settled-true NoSaving h = absurd (false≢true h)
+-- the ends of a centre, named the other way round
+ends-swap : {K : List Edge} {r x y : ℕ} → Ends K r x y → Ends K r y x
+ends-swap h = record { apart = λ e. h .apart (sym e); has-x = h .has-y; has-y = h .has-x; only = λ v k. ⊎-elim inr inl (h .only v k) }
 
-right-claim : (e : Example) → right e ≡ true → Claim e
-unfolding right
-right-claim (distance rule s d) h = eqb-true (distanceBy rule s) d h
-right-claim (compatible p q x y larger together) h =
-    let t = compared p q x y larger together in
-    (compared-both p q x y larger together (and-left t _ h), compatible-iff square p q x y .0 (and-right t _ h))
-right-claim (incompatible p q x y larger together) h =
-    let t = compared p q x y larger together in (
-      compared-both p q x y larger together (and-left t _ h),
-      λ k. true≢false (sym (compatible-iff square p q x y .1 k) ∙ not-true (compatible? square p q x y) (and-right t _ h)),
+crosses : Crossing centres 1 2 3 4 5 6 7 8
+unfolding centres endsOf bothOf neighbours seen withPoint has? joins?
+crosses = record {
+  edge-of-K = has-exact centres 1 2 .0 refl;
+  centres = λ e. omega arith;
+  r-not-p = λ e. omega arith;
+  r-not-q = λ e. omega arith;
+  s-not-p = λ e. omega arith;
+  s-not-q = λ e. omega arith;
+  rs-free = λ h. false≢true (has-exact centres 3 4 .1 h);
+  ends-r = ends-swap (ends-sound centres 3 6 5 refl);
+  ends-s = ends-swap (ends-sound centres 4 8 7 refl);
+}
+
+eight-lengths : (rs : ℕ) → Eight (eight rs) 1 2 3 4 5 6 7 8 rs
+unfolding eight lengthOf place placeUp tri
+eight-lengths rs = record {
+  pq = refl;
+  rx = refl;
+  ry = refl;
+  sz = refl;
+  sw = refl;
+  px = refl;
+  qw = refl;
+  pz = refl;
+  qy = refl;
+  py = refl;
+  qx = refl;
+  pw = refl;
+  qz = refl;
+  centres = refl;
+}
+
+saves-hold : (rs difference : ℕ) → 1 ≤ difference → 30 ≡ rs + 18 + difference → Claim (saves rs 30 (rs + 18) difference)
+saves-hold rs difference h e =
+    let l = eight-lengths rs in (
+      (l, crosses),
+      record { first-taken = omega arith; first-put = omega arith; second-taken = omega arith; second-put = omega arith },
+      e,
+      record { x = 5; y = 6; z = 7; w = 8; crossing = crosses; saves = record { first = omega arith; second = omega arith } },
     )
-right-claim (standing a b c pairs) h = pairs-claim a b c pairs h
-right-claim (stays c x y u v new old) h =
-    let one = eqb (square x y + square u c + square v c) new in
-    let two = eqb (square u v + square x c + square y c) old in
-    let t = and-right one _ h in
-    let e = eqb-true (square x y + square u c + square v c) new (and-left one _ h) in
-    let f = eqb-true (square u v + square x c + square y c) old (and-left two _ t) in
-    (e, f, λ saves. omega (arith, leb-true old new (and-right two _ t)))
-right-claim (settles rs) h = settled-exact (eight rs) centres 1 2 3 4 .0 (settled-true (crossedBy (eight rs) centres 1 2 3 4) h)
-right-claim (unsaved rs) h =
-    λ c. true≢false (sym (ap-settled (settled-exact (eight rs) centres 1 2 3 4 .1 c)) ∙ not-true (settled? (crossedBy (eight rs) centres 1 2 3 4)) h)
-  where
-    ap-settled : crossedBy (eight rs) centres 1 2 3 4 ≡ Settled → settled? (crossedBy (eight rs) centres 1 2 3 4) ≡ true
-    ap-settled e = mathlib.Core.Path.ap settled? e
 
-all-claims : (es : List Example) → allRight es ≡ true → (e : Example) → List·Memᴰ e es → Claim e
-unfolding allRight
-all-claims [] h e m = absurd (List·Memᴰ·not-nil m)
-all-claims (d ∷ es) h e m =
-    ⊎-elim
-    (λ q. subst (λ (x : Example). Claim x) (sym q) (right-claim d (and-left (right d) (allRight es) h)))
-    (λ k. all-claims es (and-right (right d) (allRight es) h) e k)
-    (List·Memᴰ·cases-cons m)
+unsaved-hold : (rs : ℕ) → 12 ≤ rs → crossedBy (eight rs) centres 1 2 3 4 ≡ NoSaving → Claim (unsaved rs)
+unsaved-hold rs h e =
+    let l = eight-lengths rs in (
+      (l, crosses),
+      record {
+        as-named = λ s. omega arith;
+        swapped-zw = λ s. omega arith;
+        swapped-xy = λ s. omega arith;
+        swapped-both = λ s. omega arith;
+      },
+      no-saving-exact (eight rs) centres 1 2 3 4 .0 e .unsettled,
+    )
 
-computed : allRight starred ≡ true
-unfolding allRight starred right distanceBy bisect passes compared square allOpen eight centres samePairs lengthOf measuredTable edgeDistance squares xOf yOf gapOf
+-- a proof of each entry's claim
+infixr 67 _&_
+data Proved : List Example → Type 0 where
+  done : Proved []
+  _&_ : {e : Example} {es : List Example} → Claim e → Proved es → Proved (e ∷ es)
+
+each : (es : List Example) → Proved es → (e : Example) → List·Memᴰ e es → Claim e
+each [] done e m = absurd (List·Memᴰ·not-nil m)
+each (d ∷ es) (h & hs) e m = ⊎-elim (λ q. subst (λ (x : Example). Claim x) (sym q) h) (each es hs e) (List·Memᴰ·cases-cons m)
+
+-- the square's numbers, the standing pairs and the crossing's answer are computed
+proved : Proved starred
+unfolding starred distanceBy bisect passes square allOpen eight centres lengthOf measuredTable edgeDistance squares xOf yOf gapOf
     edgeCount place placeUp tri edges rows row openIn feasiblePairs keep feasible? leg? unmoved? stays? every compatible? shape? shuts? reaches? goesOn
     neighbours seen withPoint within? either? beyond crossedBy placed? has? joins? apart? endsOf bothOf settledBy labelling? saves?
-computed = refl
+proved =
+    distances-hold 2 1 2 (omega arith) refl refl &
+    distances-hold 5 2 3 (omega arith) refl refl &
+    distances-hold 8 3 3 (omega arith) refl refl &
+    distances-hold 25 5 5 (omega arith) refl refl &
+    distances-hold 2000000000000 1414214 1414214 (omega arith) refl refl &
+    incompatible-hold 1 3 2 4 20 28 (omega arith) refl refl &
+    compatible-iff square 1 2 3 4 .0 refl &
+    standing-hold 1 2 3 (edge 1 4 ∷ edge 2 4 ∷ []) (λ e. omega arith) refl &
+    compares-hold 3 1 4 1 2 34 34 (omega arith) refl refl &
+    standing-hold 1 3 2 [] (λ e. omega arith) refl &
+    saves-hold 9 3 (omega arith) refl &
+    unsaved-hold 12 (omega arith) refl &
+    done
 
 pub starred-hold : (e : Example) → List·Memᴰ e starred → Claim e
-starred-hold = all-claims starred computed
+starred-hold = each starred proved
