@@ -30,7 +30,7 @@ unfolding numbersOf
 length-numbers [] = refl
 length-numbers (edge x y ∷ es) = omega (arith, length-numbers es)
 
-not-pairs : {number count : ℕ} → listing.Refused number ≡ listing.Pairs count → ⊥
+not-pairs : {number rec count : ℕ} → listing.Refused number rec ≡ listing.Pairs count → ⊥
 not-pairs e = let z : _≡_ {A = ℕ} 0 1 = cc in omega arith
 
 module _ (n : ℕ) (table marks : List ℕ) (a b c : ℕ) where

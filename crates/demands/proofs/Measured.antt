@@ -28,7 +28,7 @@ use Rattle.marking.proofs.Tested.{range-admits}
 use Rattle.demands.specs.Measured.{IsDistance, Measures}
 use Rattle.demands.proofs.Answers.{answered}
 
-not-done : {number : ℕ} → Refused number ≡ Done → ⊥
+not-done : {number rec : ℕ} → Refused number rec ≡ Done → ⊥
 not-done e = let z : _≡_ {A = ℕ} 0 1 = cc in omega arith
 
 -- a number that names a rule is 1 or 2
