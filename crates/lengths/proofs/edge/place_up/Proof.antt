@@ -1,7 +1,6 @@
 -- `lengths::edge::place_up` meets its contract: `placeUp-formula` is the formula of the code. Assumes nothing.
-use native.Mathlib.Omega.{arith}
-use Rattle.lengths.proofs.Edges.{placeUp-formula, placeUp-below, edges-fit}
-use Rattle.lengths.proofs.Products.{product-fits}
+use Rattle.lengths.proofs.Edges.{placeUp-formula}
+use Rattle.lengths.proofs.Products.{product-fits, half-fits}
 use borrow.Author.Needs.{needs}
 use Rattle.lengths.proofs.edge.place_up.Statement.{statement}
 use Rattle.lengths.proofs.edge.place_up.Tie as tie
@@ -25,7 +24,7 @@ sub-result-4 : tie.Need-sub-result-4
 sub-result-4 c = search needs
 
 add-result : tie.Need-add-result
-add-result c = record { fits = omega (arith, placeUp-formula (c .pre), placeUp-below (c .pre), edges-fit (c .fits .n .fits)) }
+add-result c = half-fits 65535 131070 (search needs) (search needs) (search needs) tt
 
 returns : tie.Need-returns
 returns c = placeUp-formula (c .pre)

@@ -29,7 +29,7 @@ put-verdict-requires c κs =
     let p = t .before .before .before .before in
     let o = p .before .before in
     let s = o .before .before .before in
-    verdict-room (s .args .number) (s .args .rec) (now (s .args .marks)) (o .open-edges .ensures .counted) (room-3 (all-room (s .pre) (s .fits .number .fits) (s .fits .rec .fits)) (p .put-points .ensures) (t .put-strikes .ensures))
+    verdict-room _ _ (now (s .args .marks)) (o .open-edges .ensures .counted) (room-3 (all-room (s .pre) (search needs) (search needs)) (p .put-points .ensures) (t .put-strikes .ensures))
 
 same-length : tie.Need-same-length
 same-length c = search needs
