@@ -46,7 +46,7 @@ fn kept(cost: u32, most: u32, z: usize, barred: usize) -> u16
 fn find_in_row(
     n: u16,
     table: &[u32],
-    legs: &[u32; Split::PLACES],
+    legs: &[u32; Instance::PLACES],
     bound: u32,
     x: u16,
     barred: u16,
@@ -92,7 +92,7 @@ fn barred_in(low: u16, high: u16, x: u16) -> u16
 fn find_apart(
     n: u16,
     table: &[u32],
-    legs: &[u32; Split::PLACES],
+    legs: &[u32; Instance::PLACES],
     bound: u32,
     low: u16,
     high: u16,

@@ -7,7 +7,7 @@ use lib.ListN.{length}
 use Rattle.lengths.specs.Edge.{Edge, edge, Point, edgeCount}
 use Rattle.lengths.specs.Rows.{Rows}
 use Rattle.rules.specs.Split.{Lengths}
-use Rattle.rules.specs.Stored.{Held}
+use Rattle.rules.specs.Stored.{Held, mostKnown}
 use Rattle.rules.specs.declared.edge_set.EdgeSet.{EdgeSet}
 use Rattle.rules.specs.declared.pairs.NextPair.{NextPair}
 use Rattle.rules.specs.declared.pairs.NextPair.the-variants.{Pair, End}
@@ -61,12 +61,12 @@ pub record Tried (n : ℕ) (table rows marks sheet : List ℕ) : Type 0 where
 pub record ChainAsked (n : ℕ) (table rows marks sheet : List ℕ) (k : EdgeSet) (left c : ℕ) : Type 0 where
   pub tried : Tried n table rows marks sheet
   pub held : Held n k
-  pub room : k .count + 2 * left + 2 ≤ 13
+  pub room : k .count + 2 * left + 2 ≤ mostKnown
   pub centre : Point n c
 
 -- what a case is asked about: its points are among 1 to n, and K has its pair
 pub record CaseAsked (n : ℕ) (table rows marks sheet : List ℕ) (k : EdgeSet) (left : ℕ) (closing : Closing) : Type 0 where
   pub tried : Tried n table rows marks sheet
   pub held : Held n k
-  pub room : k .count + 2 * left ≤ 13
+  pub room : k .count + 2 * left ≤ mostKnown
   pub points : howFits n (howOf closing) ≡ true
