@@ -29,20 +29,20 @@ pub sized : {n : ℕ} {i : Instance} {cs table : List ℕ} → Admits n i → le
 sized a c t = record { admits = a; coordinates = omega (arith, a .points); whole = t ∙ ap edgeCount (a .points) }
 
 module _ {n rule : ℕ} {cs table : List ℕ} where
-  refused : {k : ℕ} → measured n rule cs (length table) ≡ Refused k → MeasuredAs n rule cs table (Refused k) table
+  refused : {k : ℕ} → measured n rule cs (length table) ≡ Refused k 0 → MeasuredAs n rule cs table (Refused k 0) table
   unfolding tableAfter
   refused h = record { answered = sym h; table-left = rw (tableAfter, h) }
 
-  pub refused-points : admission n ≡ OutOfRange → MeasuredAs n rule cs table (Refused 1) table
+  pub refused-points : admission n ≡ OutOfRange → MeasuredAs n rule cs table (Refused 1 0) table
   unfolding measured
   refused-points h = refused (rw (measured, out-of-range n h))
 
-  pub refused-coordinates : {i : Instance} → Admits n i → (length cs ≡ 2 * i .points → ⊥) → MeasuredAs n rule cs table (Refused 2) table
+  pub refused-coordinates : {i : Instance} → Admits n i → (length cs ≡ 2 * i .points → ⊥) → MeasuredAs n rule cs table (Refused 2 0) table
   unfolding measured
   refused-coordinates a h = refused (rw (measured, a .range, ne-eqb (length cs) (2 * n) (λ e. h (omega (arith, a .points)))))
 
   pub refused-table : {i : Instance} → Admits n i → length cs ≡ 2 * i .points → (length table ≡ edgeCount (i .points) → ⊥)
-      → MeasuredAs n rule cs table (Refused 2) table
+      → MeasuredAs n rule cs table (Refused 2 0) table
   unfolding measured
   refused-table a c h = refused
       (rw (
@@ -53,13 +53,13 @@ module _ {n rule : ℕ} {cs table : List ℕ} where
       ))
 
   module _ {i : Instance} (s : Sized n i cs table) where
-    pub refused-rule : ruleOf rule ≡ Unknown → MeasuredAs n rule cs table (Refused 3) table
+    pub refused-rule : ruleOf rule ≡ Unknown → MeasuredAs n rule cs table (Refused 3 0) table
     unfolding measured
     refused-rule h = refused
         (rw (measured, s .admits .range, eq-eqb (length cs) (2 * n) (s .coordinates), eq-eqb (length table) (edgeCount n) (s .whole), h))
 
     module _ {by : Rule} (k : ruleOf rule ≡ Known by) where
-      pub refused-limit : allAtMost mostCoordinate cs ≡ false → MeasuredAs n rule cs table (Refused 4) table
+      pub refused-limit : allAtMost mostCoordinate cs ≡ false → MeasuredAs n rule cs table (Refused 4 0) table
       unfolding measured
       refused-limit h = refused
           (rw (measured, s .admits .range, eq-eqb (length cs) (2 * n) (s .coordinates), eq-eqb (length table) (edgeCount n) (s .whole), k, h))

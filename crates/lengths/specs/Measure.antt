@@ -43,19 +43,19 @@ abbrev pub known : NamedRule → Bool
 known (Known rule) = true
 known Unknown = false
 
--- 01's tests in their order: n, the two sizes, the rule, the coordinates
+-- 01's tests in their order: n, the two sizes, the rule, the coordinates; no record is at fault, which is record 0
 unfoldable pub measured : ℕ → ℕ → List ℕ → ℕ → Measured
 measured n rule cs size =
-    unless (inRange n) (Refused 1)
-    (unless (eqb (length cs) (2 * n)) (Refused 2)
-    (unless (eqb size (edgeCount n)) (Refused 2)
-    (unless (known (ruleOf rule)) (Refused 3)
-    (unless (allAtMost mostCoordinate cs) (Refused 4)
+    unless (inRange n) (Refused 1 0)
+    (unless (eqb (length cs) (2 * n)) (Refused 2 0)
+    (unless (eqb size (edgeCount n)) (Refused 2 0)
+    (unless (known (ruleOf rule)) (Refused 3 0)
+    (unless (allAtMost mostCoordinate cs) (Refused 4 0)
     Done))))
 
 -- the table that is left: filled where nothing is refused, else as it was
 abbrev pub leftBy : Measured → NamedRule → ℕ → List ℕ → List ℕ → List ℕ
-leftBy (Refused number) named n cs table = table
+leftBy (Refused number rec) named n cs table = table
 leftBy Done (Known rule) n cs table = measuredTable rule cs n
 leftBy Done Unknown n cs table = table
 

@@ -12,10 +12,10 @@ ghost use mathlib.Core.Path.{_≡_};
 ghost use Rattle.lengths.specs.Distance.{distanceBy};
 ghost use Rattle.lengths.specs.Measure.{gapOf, squares, Located, Fillable, measuredTable, MeasuredAs};
 
-// The answer of "measure": the table is filled, or the number of the refusal.
+// The answer of "measure": the table is filled, or the number of the refusal and its record, always 0.
 pub enum Measured {
     Done,
-    Refused(u8),
+    Refused { refusal: u8, record: u16 },
 }
 
 // The difference of two coordinates.
@@ -66,20 +66,35 @@ pub fn measure(n: u32, rule: u32, coordinates: &[u32], table: &mut [u32]) -> Mea
     ensures { λ r. ⌜ MeasuredAs n rule (now (coordinates .entry)) (now (table .entry)) r (now (table .exit)) ⌝ }
 {
     let Admission::Admitted(instance) = Instance::admit(n) else {
-        return Measured::Refused(refusal::POINTS);
+        return Measured::Refused {
+            refusal: refusal::POINTS,
+            record: refusal::NO_RECORD,
+        };
     };
     let points = instance.points;
     if coordinates.len() != 2 * (points as usize) {
-        return Measured::Refused(refusal::SIZE);
+        return Measured::Refused {
+            refusal: refusal::SIZE,
+            record: refusal::NO_RECORD,
+        };
     }
     if table.len() != edge::count(points) {
-        return Measured::Refused(refusal::SIZE);
+        return Measured::Refused {
+            refusal: refusal::SIZE,
+            record: refusal::NO_RECORD,
+        };
     }
     let NamedRule::Known(known) = Rule::numbered(rule) else {
-        return Measured::Refused(refusal::RULE);
+        return Measured::Refused {
+            refusal: refusal::RULE,
+            record: refusal::NO_RECORD,
+        };
     };
     if !all_at_most(coordinates, Instance::MOST_COORDINATE) {
-        return Measured::Refused(refusal::COORDINATE);
+        return Measured::Refused {
+            refusal: refusal::COORDINATE,
+            record: refusal::NO_RECORD,
+        };
     }
     fill(points, known, coordinates, table);
     Measured::Done

@@ -34,3 +34,6 @@ pub const SAVING: u8 = 16;
 pub const TOUR: u8 = 17;
 
 pub const LIST: u8 = 18;
+
+// The record of a refusal where no record is at fault.
+pub const NO_RECORD: u16 = 0;

@@ -2,25 +2,29 @@
 use Prim.Native.Nat.{ℕ, _+_, _*_, _^_, _<_}
 use mathlib.Core.Path.{_≡_}
 use mathlib.Core.Bool.{Bool, true, false}
-use native.Mathlib.Nat.{add-zero, zero-add}
-use Rattle.sheets.specs.declared.verdict.Marked.{Marked}
+use native.Mathlib.Nat.{add-zero}
+use Rattle.sheets.specs.declared.verdict.Verdict.{Verdict}
 use Rattle.sheets.specs.declared.verdict.Verdict.the-variants as verdict
 use Rattle.marking.specs.CApi.{resultNumber, MarkNumber, checkedNumber}
 use Rattle.marking.specs.TourCheck.{Countable}
 use Rattle.marking.specs.declared.tour.Checked.{Checked}
 use Rattle.marking.specs.declared.tour.Checked.the-variants as checked
 
-pub accepted-number : {m : Marked} → m .verdict ≡ verdict.Accepted → MarkNumber m (16777216 * m .lines)
-unfolding resultNumber
-accepted-number h = record { number = λ left. rw (resultNumber, h, zero-add) }
+-- of a verdict on a sheet
 
-pub refused-number : {m : Marked} {number rec : ℕ} → m .verdict ≡ verdict.Refused number rec
-    → MarkNumber m (number + 256 * rec + 16777216 * m .lines)
-unfolding resultNumber
-refused-number h = record { number = λ left. rw (resultNumber, h) }
+module _ {v : Verdict} {lines r : ℕ} where
+  pub accepted-number : v ≡ verdict.Accepted lines → r ≡ 0 + 256 * 0 + 16777216 * lines → MarkNumber v r
+  unfolding resultNumber
+  accepted-number h e = record { number = λ left. rw (resultNumber, h) e }
+
+  pub refused-number : {number rec : ℕ} → v ≡ verdict.Refused number rec lines → r ≡ number + 256 * rec + 16777216 * lines → MarkNumber v r
+  unfolding resultNumber
+  refused-number h e = record { number = λ left. rw (resultNumber, h) e }
+
+-- of a tour's check
 
 module _ {r : Checked} where
-  pub checked-refused : {number : ℕ} → r ≡ checked.Refused number → number ≡ checkedNumber r
+  pub checked-refused : {number rec : ℕ} → r ≡ checked.Refused number rec → number ≡ checkedNumber r
   unfolding checkedNumber
   checked-refused h = rw (h, checkedNumber)
 

@@ -16,7 +16,8 @@ use Rattle.lengths.proofs.Edges.{edgeCount-tri, tri-mono}
 use Rattle.argument.specs.Sheet.{Result}
 use Rattle.sheets.specs.Results.{resultOf}
 use Rattle.sheets.specs.Sheets.{wholeSheet}
-use Rattle.sheets.specs.declared.verdict.Marked.{Marked}
+use Rattle.sheets.specs.declared.verdict.Verdict.{Verdict}
+use Rattle.sheets.specs.declared.verdict.Verdict.the-variants as verdict
 use Rattle.sheets.proofs.Records.{whole-none, whole-long}
 use Rattle.marking.specs.Bytes.{whole16, whole32, fitting16, fitting32, Decoded}
 use Rattle.marking.specs.CApi.{resultNumber, MarkNumber, MarkedInC, MarkRoom, TableRoom, tourInC, checkedNumber}
@@ -124,15 +125,20 @@ module _ (n : ℕ) (table marks s : List ℕ) where
 pub handed-length : {numbers out left : List ℕ} {size : ℕ} → Decoded numbers out size left → size ≡ length (take size left)
 handed-length {numbers} {out} {left} {size} d = sym (length-take-le size left (d .room))
 
+-- the marks of a result are those that are left
+marks-of : (v : Verdict) (left : List ℕ) → resultOf v left .marks ≡ left
+marks-of (verdict.Accepted lines) left = refl
+marks-of (verdict.Refused number rec lines) left = refl
+
 -- what the functions for C return, from what their callees ensure
 module _ (n : ℕ) (table marks s : List ℕ) {lengths₀ lengths numbers₀ numbers : List ℕ} {edges size : ℕ}
     (d : Decoded (fitting32 table (length lengths₀)) lengths₀ edges lengths) (e : Decoded (fitting16 s (length numbers₀)) numbers₀ size numbers) where
-  pub marked-in-c : {m : Marked} {r : ℕ} {left : List ℕ} → MarkRoom table s lengths₀ numbers₀
-      → resultOf m left ≡ markSheet n (take edges lengths) marks (take size numbers) → MarkNumber m r → MarkedInC n table marks s r left
-  marked-in-c {m} {r} {left} room h k =
-      let all : resultOf m left ≡ markSheet n (whole32 table) marks (whole16 s) =
+  pub marked-in-c : {v : Verdict} {r : ℕ} {left : List ℕ} → MarkRoom table s lengths₀ numbers₀
+      → resultOf v left ≡ markSheet n (take edges lengths) marks (take size numbers) → MarkNumber v r → MarkedInC n table marks s r left
+  marked-in-c {v} {r} {left} room h k =
+      let all : resultOf v left ≡ markSheet n (whole32 table) marks (whole16 s) =
       h ∙ rw (d .front, e .front) (mark-handed n table marks s (room .edges) (room .places)) in
-      record { answered = k .number left ∙ ap resultNumber all; marks-left = ap (λ (x : Result (List ℕ)). x .marks) all }
+      record { answered = k .number left ∙ ap resultNumber all; marks-left = sym (marks-of v left) ∙ ap (λ (x : Result (List ℕ)). x .marks) all }
 
   pub checked-in-c : {c : Checked} {r : ℕ} → TableRoom table lengths₀ → length numbers₀ ≡ 180 → c ≡ tourChecked n (take edges lengths) marks (take size numbers)
       → r ≡ checkedNumber c → r ≡ tourInC n table marks s

@@ -44,15 +44,15 @@ module _ {marks₀ marks : List ℕ} {i : ℕ} (o : Opening marks₀ marks i) wh
       split ∙ ap (λ (xs : List ℕ). replicate (length marks₀) 1 ++ xs) (drop-length marks₀) ∙ append-nil (replicate (length marks₀) 1)
 
 module _ {n : ℕ} {marks : List ℕ} where
-  refused : {k : ℕ} → freshAnswer n (length marks) ≡ Refused k → FreshAs n marks (Refused k) marks
+  refused : {k : ℕ} → freshAnswer n (length marks) ≡ Refused k 0 → FreshAs n marks (Refused k 0) marks
   refused h = record { answered = sym h; marks-left = rw h }
 
-  pub refused-fresh-points : admission n ≡ OutOfRange → FreshAs n marks (Refused 1) marks
+  pub refused-fresh-points : admission n ≡ OutOfRange → FreshAs n marks (Refused 1 0) marks
   unfolding freshAnswer
   refused-fresh-points h = refused (rw (freshAnswer, out-of-range n h))
 
   module _ {i : Instance} (a : Admits n i) where
-    pub refused-fresh-size : (length marks ≡ edgeCount (i .points) → ⊥) → FreshAs n marks (Refused 6) marks
+    pub refused-fresh-size : (length marks ≡ edgeCount (i .points) → ⊥) → FreshAs n marks (Refused 6 0) marks
     unfolding freshAnswer
     refused-fresh-size h = refused
         (rw (freshAnswer, a .range, ne-eqb (length marks) (edgeCount n) (λ e. h (e ∙ ap edgeCount (sym (a .points))))))
@@ -65,7 +65,7 @@ module _ {n : ℕ} {marks : List ℕ} where
         record { answered = sym answer; marks-left = rw (answer, freshMarks) (l ∙ ap (λ (k : ℕ). replicate k 1) size) }
 
 -- where "fresh marks" is done, n is 4 to 180, and fresh marks are left
-fresh-passed : (a b : Bool) → Done ≡ unless a (Refused 1) (unless b (Refused 6) Done) → (a ≡ true) × (b ≡ true)
+fresh-passed : (a b : Bool) → Done ≡ unless a (Refused 1 0) (unless b (Refused 6 0) Done) → (a ≡ true) × (b ≡ true)
 fresh-passed true true h = (refl, refl)
 fresh-passed true false h = absurd (let z : _≡_ {A = ℕ} 0 1 = cc in omega arith)
 fresh-passed false b h = absurd (let z : _≡_ {A = ℕ} 0 1 = cc in omega arith)

@@ -61,24 +61,24 @@ module _ {n : ℕ} {table marks : List ℕ} {m a b c : ℕ} where
   -- test 18 is the one left
   reached : Listable n table marks m a b c → (size : ℕ)
       → listed n table marks a b c size
-      ≡ unless (leb (2 * length (pairsAt m table marks a b c)) size) (Refused 18) (Pairs (length (pairsAt m table marks a b c)))
+      ≡ unless (leb (2 * length (pairsAt m table marks a b c)) size) (Refused 18 0) (Pairs (length (pairsAt m table marks a b c)))
   unfolding listed
   reached f size = rw (listed, f .fitted .passed .answer, f .fitted .fit, f .is-open)
 
 module _ {n : ℕ} {table marks : List ℕ} {a b c : ℕ} {list : List ℕ} where
-  refused : {k : ℕ} → listed n table marks a b c (length list) ≡ Refused k → ListedAs n table marks a b c list (Refused k) list
+  refused : {k : ℕ} → listed n table marks a b c (length list) ≡ Refused k 0 → ListedAs n table marks a b c list (Refused k 0) list
   refused h = record { answered = sym h; list-left = rw h }
 
-  pub refused-tests : {k : ℕ} → tested n table marks ≡ tests.Refused k → ListedAs n table marks a b c list (Refused k) list
+  pub refused-tests : {k : ℕ} → tested n table marks ≡ tests.Refused k → ListedAs n table marks a b c list (Refused k 0) list
   unfolding listed
   refused-tests h = refused (rw (listed, h))
 
   module _ {m : ℕ} where
-    pub refused-points : Passed n table marks m → fits m a b (splits c 0) ≡ false → ListedAs n table marks a b c list (Refused 11) list
+    pub refused-points : Passed n table marks m → fits m a b (splits c 0) ≡ false → ListedAs n table marks a b c list (Refused 11 0) list
     unfolding listed
     refused-points p e = refused (rw (listed, p .answer, e))
 
-    pub refused-struck : Fitted n table marks m a b c → openIn m marks a b ≡ false → ListedAs n table marks a b c list (Refused 12) list
+    pub refused-struck : Fitted n table marks m a b c → openIn m marks a b ≡ false → ListedAs n table marks a b c list (Refused 12 0) list
     unfolding listed
     refused-struck f e = refused (rw (listed, f .passed .answer, f .fit, e))
 
@@ -96,7 +96,7 @@ module _ {n : ℕ} {table marks : List ℕ} {a b c : ℕ} {list : List ℕ} wher
 
 -- the ways out of `list_into`
 module _ {n : ℕ} {table marks : List ℕ} {a b c : ℕ} {list : List ℕ} {count : ℕ} {found : List ℕ} (r : Found (pairsAt n table marks a b c) count found) where
-  pub into-refused : length list < 2 * count → ListedInto n table marks a b c list (Refused 18) list
+  pub into-refused : length list < 2 * count → ListedInto n table marks a b c list (Refused 18 0) list
   into-refused h = record {
     answered = sym (rw (lt-leb (2 * length (pairsAt n table marks a b c)) (length list) (omega (arith, r .counted))));
     list-left = refl;

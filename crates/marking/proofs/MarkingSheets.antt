@@ -1,25 +1,25 @@
 -- "Mark a sheet" in code: room for the rows of lengths that its lines are marked by, and one lemma for each way out of `markSheet`.
 -- Assumes nothing.
 use Prim.Native.Nat.{ℕ, _+_, _*_, _≤_}
-use mathlib.Core.Path.{_≡_, sym, _∙_, ap, ap₂}
+use mathlib.Core.Path.{_≡_, sym, _∙_, ap}
 use mathlib.Core.Bool.{Bool, true, false}
 use mathlib.Core.List.{List}
 use native.Mathlib.Nat.{mul-le-mul}
 use native.Mathlib.Omega.{arith}
 use lib.ListN.{length}
 use Rattle.lengths.specs.Test.{unless}
-use Rattle.argument.specs.Verdict.{Verdict, refused}
 use Rattle.argument.specs.Sheet.{Result, sheet}
 use Rattle.sheets.proofs.Records.{sheet-records, sheet-admitted, sheet-refused}
 use Rattle.sheets.specs.Lines.{RowsAsked}
-use Rattle.sheets.specs.Results.{verdictOf, resultOf}
+use Rattle.sheets.specs.Results.{resultOf}
 use Rattle.sheets.specs.Rules.{markingOf}
 use Rattle.sheets.specs.Sheets.{wholeSheet, sheetAdmission}
 use Rattle.sheets.specs.Walks.{Admitted}
 use Rattle.sheets.specs.declared.sheet.Sheet as declared
 use Rattle.sheets.specs.declared.sheet.SheetAdmission.{SheetAdmission}
 use Rattle.sheets.specs.declared.sheet.SheetAdmission.the-variants as admitting
-use Rattle.sheets.specs.declared.verdict.Marked.{Marked}
+use Rattle.sheets.specs.declared.verdict.Verdict.{Verdict}
+use Rattle.sheets.specs.declared.verdict.Verdict.the-variants as verdict
 use Rattle.marking.proofs.Tested.{passed}
 use Rattle.marking.specs.Marking.{turnedDown, markTested, markSheet}
 use Rattle.marking.specs.Tests.{tested}
@@ -34,23 +34,23 @@ rows-room {n} most a h e =
 
 -- the ways out
 
-turns-down : (m : Marked) (number : ℕ) (marks : List ℕ) → (m .lines ≡ 0) × (verdictOf (m .verdict) ≡ refused number 0) → resultOf m marks ≡ turnedDown number marks
-turns-down m number marks h = ap₂ (λ (l : ℕ) (v : Verdict (Unit {0})). record { marks = marks; lines = l; verdict = v }) (h .0) (h .1)
+turns-down : {v : Verdict} {number : ℕ} (marks : List ℕ) → v ≡ verdict.Refused number 0 0 → resultOf v marks ≡ turnedDown number marks
+turns-down marks h = ap (λ (v : Verdict). resultOf v marks) h
 
 module _ (n : ℕ) (table marks s : List ℕ) {r : Tested} (e : r ≡ tested n table marks) where
   as-tested : {r′ : Tested} → r ≡ r′ → markTested r′ table marks s ≡ markSheet n table marks s
   unfolding markSheet
   as-tested g = ap (λ (t : Tested). markTested t table marks s) (sym g ∙ e)
 
-  pub sheet-untested : {number : ℕ} (m : Marked) → r ≡ Refused number → (m .lines ≡ 0) × (verdictOf (m .verdict) ≡ refused number 0) → resultOf m marks ≡ markSheet n table marks s
-  sheet-untested {number} m g h = turns-down m number marks h ∙ as-tested g
+  pub sheet-untested : {number : ℕ} {v : Verdict} → r ≡ Refused number → v ≡ verdict.Refused number 0 0 → resultOf v marks ≡ markSheet n table marks s
+  sheet-untested g h = turns-down marks h ∙ as-tested g
 
   module _ {p : ℕ} (g : r ≡ Points p) {a : SheetAdmission} (w : a ≡ sheetAdmission (length s)) where
     as-whole : (b : Bool) → wholeSheet (length s) ≡ b → unless b (turnedDown 7 marks) (sheet (markingOf p table) s marks) ≡ markSheet n table marks s
     as-whole b h = ap (λ (t : Bool). unless t (turnedDown 7 marks) (sheet (markingOf p table) s marks)) (sym h) ∙ as-tested g
 
-    pub sheet-not-whole : (m : Marked) → a ≡ admitting.Refused → (m .lines ≡ 0) × (verdictOf (m .verdict) ≡ refused 7 0) → resultOf m marks ≡ markSheet n table marks s
-    sheet-not-whole m z h = turns-down m 7 marks h ∙ as-whole false (sheet-refused (length s) (sym w ∙ z))
+    pub sheet-not-whole : {v : Verdict} → a ≡ admitting.Refused → v ≡ verdict.Refused 7 0 0 → resultOf v marks ≡ markSheet n table marks s
+    sheet-not-whole z h = turns-down marks h ∙ as-whole false (sheet-refused (length s) (sym w ∙ z))
 
     module _ {x : declared.Sheet} (z : a ≡ admitting.Admitted x) where
       pub sheet-admits : Admitted p table marks s

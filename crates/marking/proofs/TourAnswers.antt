@@ -41,12 +41,12 @@ pub record Toured (n : ℕ) (table marks : List ℕ) (m : ℕ) (t : List ℕ) : 
   pub tour : isTour m t ≡ true
 
 module _ {n : ℕ} {table marks t : List ℕ} where
-  pub refused-tests : {k : ℕ} → tested n table marks ≡ tests.Refused k → CheckedAs n table marks t (Refused k)
+  pub refused-tests : {k : ℕ} → tested n table marks ≡ tests.Refused k → CheckedAs n table marks t (Refused k 0)
   unfolding tourChecked
   refused-tests h = record { answered = rw (tourChecked, h); countable = tt }
 
   module _ {m : ℕ} where
-    pub refused-tour : Passed n table marks m → isTour m t ≡ false → CheckedAs n table marks t (Refused 17)
+    pub refused-tour : Passed n table marks m → isTour m t ≡ false → CheckedAs n table marks t (Refused 17 0)
     unfolding tourChecked
     refused-tour p e = record { answered = rw (tourChecked, p .answer, e); countable = tt }
 

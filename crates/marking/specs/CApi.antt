@@ -7,7 +7,7 @@ use lib.ListN.{length}
 use Rattle.argument.specs.Verdict.{Verdict, accepted, refused}
 use Rattle.argument.specs.Sheet.{Result}
 use Rattle.sheets.specs.Results.{resultOf}
-use Rattle.sheets.specs.declared.verdict.Marked.{Marked}
+use Rattle.sheets.specs.declared.verdict.Verdict as declared
 use Rattle.marking.specs.Bytes.{whole16, whole32}
 use Rattle.marking.specs.Marking.{markSheet}
 use Rattle.marking.specs.TourCheck.{tourChecked}
@@ -24,8 +24,8 @@ unfoldable pub resultNumber : Result (List ℕ) → ℕ
 resultNumber r = verdictNumber (r .verdict) + 16777216 * r .lines
 
 -- the declared answer's number, whatever marks are left
-pub record MarkNumber (m : Marked) (r : ℕ) : Type 0 where
-  pub number : (left : List ℕ) → r ≡ resultNumber (resultOf m left)
+pub record MarkNumber (v : declared.Verdict) (r : ℕ) : Type 0 where
+  pub number : (left : List ℕ) → r ≡ resultNumber (resultOf v left)
 
 -- what marking answers and leaves over bytes
 abbrev pub markInC : ℕ → List ℕ → List ℕ → List ℕ → Result (List ℕ)
@@ -41,7 +41,7 @@ openNumber true = 256
 openNumber false = 0
 
 unfoldable pub checkedNumber : Checked → ℕ
-checkedNumber (checked.Refused number) = number
+checkedNumber (checked.Refused number rec) = number
 checkedNumber (checked.Tour sum all-open) = 65536 * sum + openNumber all-open
 
 unfoldable pub tourInC : ℕ → List ℕ → List ℕ → List ℕ → ℕ

@@ -10,8 +10,9 @@ use Rattle.lengths.specs.Test.{unless}
 use Rattle.marking.specs.declared.fresh.Fresh.{Fresh}
 use Rattle.marking.specs.declared.fresh.Fresh.the-variants.{Done, Refused}
 
+-- a refusal names record 0: no record is at fault
 unfoldable pub freshAnswer : ℕ → ℕ → Fresh
-freshAnswer n size = unless (inRange n) (Refused 1) (unless (eqb size (edgeCount n)) (Refused 6) Done)
+freshAnswer n size = unless (inRange n) (Refused 1 0) (unless (eqb size (edgeCount n)) (Refused 6 0) Done)
 
 -- "Fresh marks are all 1": an open edge for each edge of n points
 unfoldable pub freshMarks : ℕ → List ℕ
@@ -19,7 +20,7 @@ freshMarks n = replicate (edgeCount n) 1
 
 abbrev pub freshLeft : Fresh → ℕ → List ℕ → List ℕ
 freshLeft Done n marks = freshMarks n
-freshLeft (Refused number) n marks = marks
+freshLeft (Refused number rec) n marks = marks
 
 -- what `fresh_marks` ensures: its answer, and the marks that it leaves
 pub record FreshAs (n : ℕ) (marks : List ℕ) (answer : Fresh) (left : List ℕ) : Type 0 where

@@ -97,12 +97,13 @@ pub record Found (pairs : List Edge) (count : ℕ) (found : List ℕ) : Type 0 w
   pub few : count ≤ 16110
   pub room : 2 * count ≤ length found
 
+-- a refusal names record 0: no record is at fault
 abbrev pub listTested : Tested → List ℕ → List ℕ → ℕ → ℕ → ℕ → ℕ → Listed
-listTested (tests.Refused number) table marks a b c size = Refused number
+listTested (tests.Refused number) table marks a b c size = Refused number 0
 listTested (tests.Points n) table marks a b c size =
-    unless (fits n a b (splits c 0)) (Refused 11)
-    (unless (openIn n marks a b) (Refused 12)
-    (unless (leb (2 * length (pairsAt n table marks a b c)) size) (Refused 18)
+    unless (fits n a b (splits c 0)) (Refused 11 0)
+    (unless (openIn n marks a b) (Refused 12 0)
+    (unless (leb (2 * length (pairsAt n table marks a b c)) size) (Refused 18 0)
     (Pairs (length (pairsAt n table marks a b c)))))
 
 -- the answer, for a list of so many places
@@ -111,13 +112,13 @@ listed n table marks a b c size = listTested (tested n table marks) table marks 
 
 -- "Places past the list keep their old numbers"
 abbrev pub listLeft : Listed → ℕ → List ℕ → List ℕ → ℕ → ℕ → ℕ → List ℕ → List ℕ
-listLeft (Refused number) n table marks a b c list = list
+listLeft (Refused number rec) n table marks a b c list = list
 listLeft (Pairs count) n table marks a b c list = numbersOf (pairsAt n table marks a b c) ++ drop (2 * count) list
 
 -- what `list_into` ensures: the answer of test 18, and the list that it leaves
 pub record ListedInto (n : ℕ) (table marks : List ℕ) (a b c : ℕ) (list : List ℕ) (answer : Listed) (left : List ℕ) : Type 0 where
   pub answered : answer
-      ≡ unless (leb (2 * length (pairsAt n table marks a b c)) (length list)) (Refused 18) (Pairs (length (pairsAt n table marks a b c)))
+      ≡ unless (leb (2 * length (pairsAt n table marks a b c)) (length list)) (Refused 18 0) (Pairs (length (pairsAt n table marks a b c)))
   pub list-left : left ≡ listLeft answer n table marks a b c list
 
 -- what `list_pairs` ensures: its answer, and the list that it leaves

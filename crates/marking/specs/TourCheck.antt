@@ -34,10 +34,11 @@ pub record TourAsked (n : ℕ) (places t : List ℕ) : Type 0 where
   pub whole : length places ≡ edgeCount n
   pub tour : isTour n t ≡ true
 
+-- a refusal names record 0: no record is at fault
 abbrev pub checkTested : Tested → List ℕ → List ℕ → List ℕ → Checked
-checkTested (tests.Refused number) table marks t = checked.Refused number
+checkTested (tests.Refused number) table marks t = checked.Refused number 0
 checkTested (tests.Points n) table marks t =
-    unless (isTour n t) (checked.Refused 17)
+    unless (isTour n t) (checked.Refused 17 0)
     (checked.Tour (tourLength (lengthOf n table) t) (every (openIn n marks) (closedEdges t)))
 
 unfoldable pub tourChecked : ℕ → List ℕ → List ℕ → List ℕ → Checked
@@ -45,7 +46,7 @@ tourChecked n table marks t = checkTested (tested n table marks) table marks t
 
 -- the answer's length has few enough bits that C's number holds it
 abbrev pub Countable : Checked → Type 0
-Countable (checked.Refused number) = Unit {0}
+Countable (checked.Refused number rec) = Unit {0}
 Countable (checked.Tour sum all-open) = sum < 2 ^ 40
 
 -- what `check_tour` ensures

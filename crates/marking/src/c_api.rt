@@ -4,21 +4,31 @@ use crate::bytes::decode32;
 use crate::mark::mark_sheet;
 use crate::tour::Checked;
 use crate::tour::check_tour;
-use sheets::verdict::Marked;
+use lengths::refusal;
 use sheets::verdict::Verdict;
 ghost use mathlib.Core.Path.{_≡_};
+ghost use Prim.Native.Nat.{_+_, _*_};
 ghost use Rattle.marking.specs.TourCheck.{Countable};
 ghost use Rattle.marking.specs.CApi.{checkedNumber, MarkNumber, MarkedInC, MarkRoom, SmallSheet, SmallTable, TableRoom, tourInC};
 
 // The refusal number or 0, plus 256 times the record, plus 16,777,216 times the lines accepted.
-fn marked_number(marked: Marked) -> u64
-    ensures { λ r. ⌜ MarkNumber marked r ⌝ }
+fn number_of(refusal: u8, rec: u16, lines: u16) -> u64
+    ensures { λ r. ⌜ r ≡ refusal + 256 * rec + 16777216 * lines ⌝ }
 {
-    let lines = 16_777_216 * (marked.lines as u64);
-    let verdict = marked.verdict;
+    refusal as u64 + 256 * (rec as u64) + 16_777_216 * (lines as u64)
+}
+
+// The number of a verdict on a sheet.
+fn marked_number(verdict: Verdict) -> u64
+    ensures { λ r. ⌜ MarkNumber verdict r ⌝ }
+{
     match verdict {
-        Verdict::Accepted => lines,
-        Verdict::Refused { refusal, record } => refusal as u64 + 256 * (record as u64) + lines,
+        Verdict::Accepted { lines } => number_of(0, refusal::NO_RECORD, lines),
+        Verdict::Refused {
+            refusal,
+            record,
+            lines,
+        } => number_of(refusal, record, lines),
     }
 }
 
@@ -28,7 +38,7 @@ fn checked_number(checked: Checked) -> u64
     ensures { λ r. ⌜ r ≡ checkedNumber checked ⌝ }
 {
     match checked {
-        Checked::Refused(number) => number as u64,
+        Checked::Refused { refusal, record: _ } => refusal as u64,
         Checked::Tour { length, open } => {
             if open {
                 return 65_536 * length + 256;

@@ -7,10 +7,10 @@ ghost use mathlib.Core.Path.{_≡_};
 ghost use lib.ListN.{length, replicate};
 ghost use Rattle.marking.specs.Fresh.{FreshAs};
 
-// The answer of "fresh marks".
+// The answer of "fresh marks": every edge is open, or the number of the refusal and its record, always 0.
 pub enum Fresh {
     Done,
-    Refused(u8),
+    Refused { refusal: u8, record: u16 },
 }
 
 // Opens every edge.
@@ -29,10 +29,16 @@ pub fn fresh_marks(n: u32, marks: &mut [u8]) -> Fresh
     ensures { λ r. ⌜ FreshAs n (now (marks .entry)) r (now (marks .exit)) ⌝ }
 {
     let Admission::Admitted(instance) = Instance::admit(n) else {
-        return Fresh::Refused(refusal::POINTS);
+        return Fresh::Refused {
+            refusal: refusal::POINTS,
+            record: refusal::NO_RECORD,
+        };
     };
     if marks.len() != edge::count(instance.points) {
-        return Fresh::Refused(refusal::MARKS);
+        return Fresh::Refused {
+            refusal: refusal::MARKS,
+            record: refusal::NO_RECORD,
+        };
     }
     open_all(marks);
     Fresh::Done

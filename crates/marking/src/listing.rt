@@ -28,10 +28,10 @@ ghost use Rattle.rules.specs.Pairs.{keep, feasiblePairs};
 ghost use Rattle.rules.specs.Stored.{edgeList};
 ghost use Rattle.marking.specs.Listing.{pairsAt, ones, barredIn, apart?, RowAsked, RowFound, ApartAsked, SearchAsked, FindAsked, CopyAsked, Found, ListedInto, ListedAs};
 
-// The answer of "list pairs": how many pairs there are, or the number of the refusal.
+// The answer of "list pairs": how many pairs there are, or the number of the refusal and its record, always 0.
 pub enum Listed {
     Pairs(u16),
-    Refused(u8),
+    Refused { refusal: u8, record: u16 },
 }
 
 // 1 where the pair stands: its cost is at most what it may be, and z is not barred.
@@ -199,7 +199,10 @@ fn list_into(
     let count = find_pairs(n, table, marks, a, b, c, found);
     let size = 2 * count as usize;
     if list.len() < size {
-        return Listed::Refused(refusal::LIST);
+        return Listed::Refused {
+            refusal: refusal::LIST,
+            record: refusal::NO_RECORD,
+        };
     }
     copy(found, size, list);
     Listed::Pairs(count)
@@ -220,14 +223,23 @@ pub fn list_pairs(
     let tested = test_instance(n, table, marks);
     let points = match tested {
         Tested::Points(points) => points,
-        Tested::Refused(number) => return Listed::Refused(number),
+        Tested::Refused(number) => return Listed::Refused {
+            refusal: number,
+            record: refusal::NO_RECORD,
+        },
     };
     let split = Closing::Split { point: c, first: 0 };
     if !points_fit(points, a, b, split) {
-        return Listed::Refused(refusal::POINT);
+        return Listed::Refused {
+            refusal: refusal::POINT,
+            record: refusal::NO_RECORD,
+        };
     }
     if !is_open(points, marks, a, b) {
-        return Listed::Refused(refusal::STRUCK);
+        return Listed::Refused {
+            refusal: refusal::STRUCK,
+            record: refusal::NO_RECORD,
+        };
     }
     if points <= 60 {
         let mut found = [0u16; 3540];

@@ -6,14 +6,12 @@ use lengths::rows::fill_rows;
 use sheets::line::mark_lines;
 use sheets::sheet::Sheet;
 use sheets::sheet::SheetAdmission;
-use sheets::verdict::Marked;
 use sheets::verdict::Verdict;
 ghost use mathlib.Core.Path.{_≡_};
 ghost use Prim.Native.Nat.{_≤_};
 ghost use Rattle.argument.specs.Sheet as lines;
-ghost use Rattle.argument.specs.Verdict.{refused};
 ghost use Rattle.sheets.specs.Lines.{RowsAsked};
-ghost use Rattle.sheets.specs.Results.{resultOf, verdictOf};
+ghost use Rattle.sheets.specs.Results.{resultOf};
 ghost use Rattle.sheets.specs.Rules.{markingOf};
 ghost use Rattle.sheets.specs.Walks.{Admitted};
 ghost use Rattle.marking.specs.Marking.{markSheet};
@@ -28,7 +26,7 @@ const FEW_ROWS: usize = 3_721;
 const MOST_ROWS: usize = 32_761;
 
 // Writes the rows of lengths, and marks the lines by them.
-fn mark_by_rows(n: u16, table: &[u32], rows: &mut [u32], marks: &mut [u8], sheet: &[u16]) -> Marked
+fn mark_by_rows(n: u16, table: &[u32], rows: &mut [u32], marks: &mut [u8], sheet: &[u16]) -> Verdict
     requires { ⌜ RowsAsked n (now table) (now rows) (now marks) (now sheet) ⌝ }
     ensures { λ r. ⌜ resultOf r (now (marks .exit)) ≡ lines.sheet (markingOf n (now (table .entry))) (now (sheet .entry)) (now (marks .entry)) ⌝ }
 {
@@ -37,7 +35,7 @@ fn mark_by_rows(n: u16, table: &[u32], rows: &mut [u32], marks: &mut [u8], sheet
 }
 
 // Marks the lines where there are few points.
-fn mark_few(n: u16, table: &[u32], marks: &mut [u8], sheet: &[u16]) -> Marked
+fn mark_few(n: u16, table: &[u32], marks: &mut [u8], sheet: &[u16]) -> Verdict
     requires { ⌜ (Admitted n (now table) (now marks) (now sheet)) × (n ≤ 60) ⌝ }
     ensures { λ r. ⌜ resultOf r (now (marks .exit)) ≡ lines.sheet (markingOf n (now (table .entry))) (now (sheet .entry)) (now (marks .entry)) ⌝ }
 {
@@ -46,7 +44,7 @@ fn mark_few(n: u16, table: &[u32], marks: &mut [u8], sheet: &[u16]) -> Marked
 }
 
 // Marks the lines, however many points there are.
-fn mark_many(n: u16, table: &[u32], marks: &mut [u8], sheet: &[u16]) -> Marked
+fn mark_many(n: u16, table: &[u32], marks: &mut [u8], sheet: &[u16]) -> Verdict
     requires { ⌜ Admitted n (now table) (now marks) (now sheet) ⌝ }
     ensures { λ r. ⌜ resultOf r (now (marks .exit)) ≡ lines.sheet (markingOf n (now (table .entry))) (now (sheet .entry)) (now (marks .entry)) ⌝ }
 {
@@ -55,7 +53,7 @@ fn mark_many(n: u16, table: &[u32], marks: &mut [u8], sheet: &[u16]) -> Marked
 }
 
 // Marks the lines of a sheet that passed the tests.
-fn mark_admitted(n: u16, table: &[u32], marks: &mut [u8], sheet: &[u16]) -> Marked
+fn mark_admitted(n: u16, table: &[u32], marks: &mut [u8], sheet: &[u16]) -> Verdict
     requires { ⌜ Admitted n (now table) (now marks) (now sheet) ⌝ }
     ensures { λ r. ⌜ resultOf r (now (marks .exit)) ≡ lines.sheet (markingOf n (now (table .entry))) (now (sheet .entry)) (now (marks .entry)) ⌝ }
 {
@@ -66,20 +64,18 @@ fn mark_admitted(n: u16, table: &[u32], marks: &mut [u8], sheet: &[u16]) -> Mark
 }
 
 // The answer where a test of the call fails: no record is at fault, and no line was accepted.
-fn turned_down(number: u8) -> Marked
-    ensures { λ r. ⌜ (r .lines ≡ 0) × (verdictOf (r .verdict) ≡ refused number 0) ⌝ }
+fn turned_down(number: u8) -> Verdict
+    ensures { λ r. ⌜ r ≡ Verdict.Refused number 0 0 ⌝ }
 {
-    Marked {
-        verdict: Verdict::Refused {
-            refusal: number,
-            record: 0,
-        },
+    Verdict::Refused {
+        refusal: number,
+        record: refusal::NO_RECORD,
         lines: 0,
     }
 }
 
 // Marks a sheet: tests 1, 2, 5, 6 and 7, then its lines.
-pub fn mark_sheet(n: u32, table: &[u32], marks: &mut [u8], sheet: &[u16]) -> Marked
+pub fn mark_sheet(n: u32, table: &[u32], marks: &mut [u8], sheet: &[u16]) -> Verdict
     ensures { λ r. ⌜ resultOf r (now (marks .exit)) ≡ markSheet n (now (table .entry)) (now (marks .entry)) (now (sheet .entry)) ⌝ }
 {
     let points = match test_instance(n, table, marks) {

@@ -14,10 +14,10 @@ ghost use Rattle.rules.specs.PairTest.{every};
 ghost use Rattle.tours.specs.Tour.{tourLength};
 ghost use Rattle.marking.specs.TourCheck.{isTour, TourAsked, CheckedAs};
 
-// The answer of "check a tour": its length and whether all its edges are open, or the number of the refusal.
+// The answer of "check a tour": its length and whether all its edges are open, or the number of the refusal and its record, always 0.
 pub enum Checked {
     Tour { length: u64, open: bool },
-    Refused(u8),
+    Refused { refusal: u8, record: u16 },
 }
 
 // Is each point from 1 to n among the numbers exactly once?
@@ -88,10 +88,16 @@ pub fn check_tour(n: u32, table: &[u32], marks: &[u8], tour: &[u16]) -> Checked
     let tested = test_instance(n, table, marks);
     let points = match tested {
         Tested::Points(points) => points,
-        Tested::Refused(number) => return Checked::Refused(number),
+        Tested::Refused(number) => return Checked::Refused {
+            refusal: number,
+            record: refusal::NO_RECORD,
+        },
     };
     if !each_once(points, tour) {
-        return Checked::Refused(refusal::TOUR);
+        return Checked::Refused {
+            refusal: refusal::TOUR,
+            record: refusal::NO_RECORD,
+        };
     }
     Checked::Tour {
         length: length_of(points, table, tour),

@@ -159,17 +159,17 @@ module _ {n : ℕ} {table rows marks₀ s marks : List ℕ} {lines last index hi
   leaves : {r′ : Turned} → r ≡ r′ → left ≡ marksAfter here (turnedOf here r′ left)
   leaves g = t .marks-left lines ∙ ap (marksAfter here) (turns g)
 
-  pub lines-accepted : r ≡ turned.Over → resultOf (record { verdict = verdict.Accepted; lines = lines }) left ≡ sheet (markingOf n table) s marks₀
+  pub lines-accepted : r ≡ turned.Over → resultOf (verdict.Accepted lines) left ≡ sheet (markingOf n table) s marks₀
   unfolding answer
   lines-accepted g =
-      ap (λ (m : List ℕ). resultOf (record { verdict = verdict.Accepted; lines = lines }) m) (leaves g)
+      ap (λ (m : List ℕ). resultOf (verdict.Accepted lines) m) (leaves g)
       ∙ sym (lines-over (markingOf n table) s here (turns g))
       ∙ p .goes
 
-  pub lines-refused : {m i : ℕ} → r ≡ turned.Refused m i → resultOf (record { verdict = verdict.Refused m i; lines = lines }) left ≡ sheet (markingOf n table) s marks₀
+  pub lines-refused : {m i : ℕ} → r ≡ turned.Refused m i → resultOf (verdict.Refused m i lines) left ≡ sheet (markingOf n table) s marks₀
   unfolding answer
   lines-refused {m} {i} g =
-      ap (λ (x : List ℕ). resultOf (record { verdict = verdict.Refused m i; lines = lines }) x) (leaves g)
+      ap (λ (x : List ℕ). resultOf (verdict.Refused m i lines) x) (leaves g)
       ∙ sym (lines-stop (markingOf n table) s here m i (turns g))
       ∙ p .goes
 

@@ -1,16 +1,12 @@
--- What marking answers, in 01's words: the declared verdict and result as those of the definitions.
+-- What marking answers, in 01's words: the declared verdict as a result of the definitions.
 use Prim.Native.Nat.{ℕ}
 use mathlib.Core.List.{List}
-use Rattle.argument.specs.Verdict.{Verdict, accepted, refused}
+use Rattle.argument.specs.Verdict.{accepted, refused}
 use Rattle.argument.specs.Sheet.{Result}
-use Rattle.sheets.specs.declared.verdict.Marked.{Marked}
-use Rattle.sheets.specs.declared.verdict.Verdict as declared
-use Rattle.sheets.specs.declared.verdict.Verdict.the-variants as verdict
+use Rattle.sheets.specs.declared.verdict.Verdict.{Verdict}
+use Rattle.sheets.specs.declared.verdict.Verdict.the-variants.{Accepted, Refused}
 
--- the declared verdict as 01's: the number and the record of a refusal
-abbrev pub verdictOf : declared.Verdict → Verdict (Unit {0})
-verdictOf verdict.Accepted = accepted tt
-verdictOf (verdict.Refused number rec) = refused number rec
-
-abbrev pub resultOf : Marked → List ℕ → Result (List ℕ)
-resultOf m marks = record { marks = marks; lines = m .lines; verdict = verdictOf (m .verdict) }
+-- the verdict with the marks that are left: the lines accepted, and the number and the record of a refusal
+abbrev pub resultOf : Verdict → List ℕ → Result (List ℕ)
+resultOf (Accepted lines) marks = record { marks = marks; lines = lines; verdict = accepted tt }
+resultOf (Refused number rec lines) marks = record { marks = marks; lines = lines; verdict = refused number rec }

@@ -3,7 +3,6 @@ use crate::sheet::Closing;
 use crate::sheet::Line;
 use crate::sheet::Record;
 use crate::sheet::Sheet;
-use crate::verdict::Marked;
 use crate::verdict::Verdict;
 use crate::walk::Walked;
 use crate::walk::chain;
@@ -145,7 +144,7 @@ fn strike(n: u16, marks: &mut [u8], a: u16, b: u16)
 }
 
 // The lines of a sheet from record 1 on.
-pub fn mark_lines(n: u16, table: &[u32], rows: &[u32], marks: &mut [u8], sheet: &[u16]) -> Marked
+pub fn mark_lines(n: u16, table: &[u32], rows: &[u32], marks: &mut [u8], sheet: &[u16]) -> Verdict
     requires { ⌜ Tried n (now table) (now rows) (now marks) (now sheet) ⌝ }
     ensures { λ r. ⌜ resultOf r (now (marks .exit)) ≡ lines.sheet (markingOf n (now (table .entry))) (now (sheet .entry)) (now (marks .entry)) ⌝ }
 {
@@ -155,15 +154,10 @@ pub fn mark_lines(n: u16, table: &[u32], rows: &[u32], marks: &mut [u8], sheet: 
     let mut high: u16 = 0;
     loop {
         match mark_line(n, table, rows, marks, sheet, last, index, high) {
-            Turned::Over => return Marked {
-                verdict: Verdict::Accepted,
-                lines: lines,
-            },
-            Turned::Refused(number, at) => return Marked {
-                verdict: Verdict::Refused {
-                    refusal: number,
-                    record: at,
-                },
+            Turned::Over => return Verdict::Accepted { lines: lines },
+            Turned::Refused(number, at) => return Verdict::Refused {
+                refusal: number,
+                record: at,
                 lines: lines,
             },
             Turned::Struck {

@@ -1,13 +1,14 @@
-// Verdicts: a result, or a refusal number with its record.
+// The verdict on a sheet: a result, or a refusal number with its record.
 
-// The verdict on a sheet: accepted whole, or refused with the number and the record (0 where no record is at fault).
+// Accepted whole, with the number of lines; or refused with the number, the record (0 where no record is at fault), and the lines accepted
+// before.
 pub enum Verdict {
-    Accepted,
-    Refused { refusal: u8, record: u16 },
-}
-
-// What "mark a sheet" answers: the verdict, and how many lines were accepted in this call.
-pub struct Marked {
-    pub verdict: Verdict,
-    pub lines: u16,
+    Accepted {
+        lines: u16,
+    },
+    Refused {
+        refusal: u8,
+        record: u16,
+        lines: u16,
+    },
 }

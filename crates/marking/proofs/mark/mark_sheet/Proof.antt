@@ -20,7 +20,7 @@ same-length : tie.Need-same-length
 same-length c = search needs
 
 returns : tie.Need-returns
-returns c = sheet-untested _ _ _ _ (c .before .before .before .before .test-instance .ensures) (c .turned-down .result) (c .before .before .number .given .1) (c .turned-down .ensures)
+returns c = sheet-untested _ _ _ _ (c .before .before .before .before .test-instance .ensures) (c .before .before .number .given .1) (c .turned-down .ensures)
 
 admit-requires : tie.Need-admit-requires
 admit-requires c κs = search needs
@@ -41,7 +41,7 @@ same-length-2 : tie.Need-same-length-2
 same-length-2 c = search needs
 
 returns-2 : tie.Need-returns-2
-returns-2 c = sheet-not-whole _ _ _ _ (c .before .before .before .before .before .before .before .test-instance .ensures) (c .before .before .before .before .before .points .given .1) (c .before .before .before .admit .ensures) (c .turned-down2 .result) (c .before .enum-told .given .1) (c .turned-down2 .ensures)
+returns-2 c = sheet-not-whole _ _ _ _ (c .before .before .before .before .before .before .before .test-instance .ensures) (c .before .before .before .before .before .points .given .1) (c .before .before .before .admit .ensures) (c .before .enum-told .given .1) (c .turned-down2 .ensures)
 
 same-length-3 : tie.Need-same-length-3
 same-length-3 c = search needs
