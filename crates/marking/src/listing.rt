@@ -241,10 +241,10 @@ pub fn list_pairs(
             record: refusal::NO_RECORD,
         };
     }
-    if points <= 60 {
-        let mut found = [0u16; 3540];
+    if points <= Instance::FEW_POINTS {
+        let mut found = [0u16; 2 * Instance::FEW_EDGES];
         return list_into(points, table, marks, a, b, c, &mut found, list);
     }
-    let mut found = [0u16; 32220];
+    let mut found = [0u16; 2 * Instance::MOST_EDGES];
     list_into(points, table, marks, a, b, c, &mut found, list)
 }

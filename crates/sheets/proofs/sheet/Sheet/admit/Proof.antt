@@ -1,4 +1,4 @@
--- `marking::sheet::Sheet::admit` meets its contract: each way out is one part of test 7. Assumes nothing.
+-- `sheets::sheet::Sheet::admit` meets its contract: each way out is one part of test 7. Assumes nothing.
 use Rattle.sheets.proofs.Records.{whole-none, whole-broken, whole-long, whole-passed, refused-sheet, admitted-sheet}
 use borrow.Author.Needs.{needs}
 use Rattle.sheets.proofs.sheet.Sheet.admit.Statement.{statement}
