@@ -16,7 +16,7 @@ const UNTOUCHED: [u8; 7] = [0, 2, 0, 2, 0, 2, 0];
 fn number_of(fresh: Fresh) -> u64 {
     match fresh {
         Fresh::Done => 0,
-        Fresh::Refused(number) => number as u64,
+        Fresh::Refused { refusal, record: _ } => refusal as u64,
     }
 }
 

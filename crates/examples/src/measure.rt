@@ -14,7 +14,7 @@ const UNTOUCHED: [u32; 7] = [7, 7, 7, 7, 7, 7, 7];
 fn number_of(measured: Measured) -> u64 {
     match measured {
         Measured::Done => 0,
-        Measured::Refused(number) => number as u64,
+        Measured::Refused { refusal, record: _ } => refusal as u64,
     }
 }
 

@@ -18,7 +18,7 @@ const UNTOUCHED: [u16; 8] = [9, 9, 9, 9, 9, 9, 9, 9];
 fn number_of(listed: Listed) -> u64 {
     match listed {
         Listed::Pairs(_) => 0,
-        Listed::Refused(number) => number as u64,
+        Listed::Refused { refusal, record: _ } => refusal as u64,
     }
 }
 
@@ -26,7 +26,10 @@ fn number_of(listed: Listed) -> u64 {
 fn count_of(listed: Listed) -> u64 {
     match listed {
         Listed::Pairs(count) => count as u64,
-        Listed::Refused(_) => 0,
+        Listed::Refused {
+            refusal: _,
+            record: _,
+        } => 0,
     }
 }
 

@@ -17,7 +17,7 @@ const ROUND: [u16; 4] = [1, 2, 3, 4];
 fn number_of(checked: Checked) -> u64 {
     match checked {
         Checked::Tour { length: _, open: _ } => 0,
-        Checked::Refused(number) => number as u64,
+        Checked::Refused { refusal, record: _ } => refusal as u64,
     }
 }
 
@@ -25,7 +25,10 @@ fn number_of(checked: Checked) -> u64 {
 fn length_of(checked: Checked) -> u64 {
     match checked {
         Checked::Tour { length, open: _ } => length,
-        Checked::Refused(_) => 0,
+        Checked::Refused {
+            refusal: _,
+            record: _,
+        } => 0,
     }
 }
 
@@ -33,7 +36,10 @@ fn length_of(checked: Checked) -> u64 {
 fn open_of(checked: Checked) -> u64 {
     match checked {
         Checked::Tour { length: _, open } => open as u64,
-        Checked::Refused(_) => 0,
+        Checked::Refused {
+            refusal: _,
+            record: _,
+        } => 0,
     }
 }
 

@@ -12,7 +12,7 @@ use marking::listing::list_pairs;
 pub extern "C" fn probe_measure(n: u32, rule: u32, coordinates: &[u32], table: &mut [u32]) -> u64 {
     match measure(n, rule, coordinates, table) {
         Measured::Done => 0,
-        Measured::Refused(number) => number as u64,
+        Measured::Refused { refusal, record: _ } => refusal as u64,
     }
 }
 
@@ -21,7 +21,7 @@ pub extern "C" fn probe_measure(n: u32, rule: u32, coordinates: &[u32], table: &
 pub extern "C" fn probe_fresh_marks(n: u32, marks: &mut [u8]) -> u64 {
     match fresh_marks(n, marks) {
         Fresh::Done => 0,
-        Fresh::Refused(number) => number as u64,
+        Fresh::Refused { refusal, record: _ } => refusal as u64,
     }
 }
 
@@ -38,6 +38,6 @@ pub extern "C" fn probe_list_pairs(
 ) -> u64 {
     match list_pairs(n, table, marks, a, b, c, list) {
         Listed::Pairs(count) => 65_536 * (count as u64),
-        Listed::Refused(number) => number as u64,
+        Listed::Refused { refusal, record: _ } => refusal as u64,
     }
 }

@@ -26,15 +26,15 @@ use Rattle.report.specs.Output.{textBy, measuredText, markedText}
 
 -- tests 3 and 4
 abbrev later : NamedRule → Bool → Measured
-later named ok = unless (known named) (Refused 3) (unless ok (Refused 4) Done)
+later named ok = unless (known named) (Refused 3 0) (unless ok (Refused 4 0) Done)
 
-refused-by : (named : NamedRule) (cs : List ℕ) (n : ℕ) (records : List ℕ) {k : ℕ} → later named (allAtMost 1000000 cs) ≡ Refused k → textBy named n cs records ≡ lastLine k
-refused-by Unknown cs n records {k} h = let e : 3 ≡ k = cc in ap lastLine e
-refused-by (Known rule) cs n records {k} h = go (allAtMost 1000000 cs) refl
+refused-by : (named : NamedRule) (cs : List ℕ) (n : ℕ) (records : List ℕ) {k rec : ℕ} → later named (allAtMost 1000000 cs) ≡ Refused k rec → textBy named n cs records ≡ lastLine k
+refused-by Unknown cs n records {k} {rec} h = let e : 3 ≡ k = cc in ap lastLine e
+refused-by (Known rule) cs n records {k} {rec} h = go (allAtMost 1000000 cs) refl
   where
     go : (b : Bool) → allAtMost 1000000 cs ≡ b → textBy (Known rule) n cs records ≡ lastLine k
-    go true e = absurd (let z : _≡_ {A = ℕ} 0 1 = let g : Done ≡ Refused k = rw e at h in cc in omega arith)
-    go false e = let g : Refused 4 ≡ Refused k = rw e at h in let q : 4 ≡ k = cc in rw e (ap lastLine q)
+    go true e = absurd (let z : _≡_ {A = ℕ} 0 1 = let g : Done ≡ Refused k rec = rw e at h in cc in omega arith)
+    go false e = let g : Refused 4 0 ≡ Refused k rec = rw e at h in let q : 4 ≡ k = cc in rw e (ap lastLine q)
 
 done-by : (named : NamedRule) (cs : List ℕ) (n : ℕ) (records table : List ℕ) → later named (allAtMost 1000000 cs) ≡ Done
     → textBy named n cs records ≡ markedText n (markSheet n (leftBy Done named n cs table) (freshMarks n) records)
@@ -43,14 +43,14 @@ done-by (Known rule) cs n records table h = go (allAtMost 1000000 cs) refl
   where
     go : (b : Bool) → allAtMost 1000000 cs ≡ b → textBy (Known rule) n cs records ≡ markedText n (markSheet n (measuredTable rule cs n) (freshMarks n) records)
     go true e = rw e
-    go false e = absurd (let z : _≡_ {A = ℕ} 0 1 = let g : Refused 4 ≡ Done = rw e at h in cc in omega arith)
+    go false e = absurd (let z : _≡_ {A = ℕ} 0 1 = let g : Refused 4 0 ≡ Done = rw e at h in cc in omega arith)
 
 module _ (n rule : ℕ) (cs table : List ℕ) (range : inRange n ≡ true) (located : length cs ≡ 2 * n) (sized : length table ≡ edgeCount n) where
   measured-later : measured n rule cs (length table) ≡ later (ruleOf rule) (allAtMost 1000000 cs)
   unfolding measured
   measured-later = rw (measured, range, eq-eqb (length cs) (2 * n) located, eq-eqb (length table) (edgeCount n) sized)
 
-  pub refused-text : (records : List ℕ) {k : ℕ} {left : List ℕ} → MeasuredAs n rule cs table (Refused k) left → measuredText rule n cs records ≡ lastLine k
+  pub refused-text : (records : List ℕ) {k rec : ℕ} {left : List ℕ} → MeasuredAs n rule cs table (Refused k rec) left → measuredText rule n cs records ≡ lastLine k
   unfolding measuredText
   refused-text records m = refused-by (ruleOf rule) cs n records (sym measured-later ∙ sym (m .answered))
 
@@ -64,7 +64,7 @@ module _ (n rule : ℕ) (cs table : List ℕ) (range : inRange n ≡ true) (loca
 -- what is written once measuring has answered: the last line, or the text of the records
 module _ (n rule : ℕ) (file : List ℕ) {r : ℕ} {cs table left out done : List ℕ} (range : inRange n ≡ true) (read : cs ≡ coordinatesIn n file)
     (located : length cs ≡ 2 * n) (sized : length table ≡ edgeCount n) where
-  pub wrote-refused : {a : Measured} {k : ℕ} → MeasuredAs n rule cs table a left → a ≡ Refused k → Wrote out 0 (lastLine k) r done
+  pub wrote-refused : {a : Measured} {k rec : ℕ} → MeasuredAs n rule cs table a left → a ≡ Refused k rec → Wrote out 0 (lastLine k) r done
       → Wrote out 0 (measuredText rule n (coordinatesIn n file) (recordsIn n file)) r done
   wrote-refused m e w = subst (λ (t : List ℕ). Wrote out 0 t r done)
       (sym

@@ -7,23 +7,25 @@ use lib.ListN.{length, take, length-take}
 use lib.Seq.{length-take-le}
 use Rattle.lengths.specs.Edge.{edgeCount}
 use Rattle.lengths.proofs.Instances.{in-range}
-use Rattle.sheets.specs.Results.{verdictOf}
+use Rattle.sheets.specs.Results.{resultOf}
 use Rattle.sheets.specs.declared.verdict.Verdict.{Verdict}
 use Rattle.sheets.specs.declared.verdict.Verdict.the-variants.{Accepted, Refused}
 use Rattle.report.specs.Text.{Wrote}
 use Rattle.report.specs.Lines.{allLines, LinesAsked}
 use Rattle.report.specs.Input.{headerOf}
-use Rattle.report.specs.Output.{linesFor, textFor, outputOf, MarkingAsked, InstanceAsked, Places, Reported}
+use Rattle.report.specs.Output.{markedText, textFor, outputOf, MarkingAsked, InstanceAsked, Places, Reported}
 use Rattle.report.specs.declared.header.Header.{Header}
 use Rattle.report.proofs.Bounds.{edges-few}
 
 -- the lines of a verdict
-pub wrote-accepted : (n : ℕ) (marks : List ℕ) {v : Verdict} {out left : List ℕ} {r : ℕ} → v ≡ Accepted → Wrote out 0 (allLines n 0 0 marks) r left
-    → Wrote out 0 (linesFor n (verdictOf v) marks) r left
+pub wrote-accepted : (n : ℕ) (marks : List ℕ) {v : Verdict} {lines : ℕ} {out left : List ℕ} {r : ℕ} → v ≡ Accepted lines
+    → Wrote out 0 (allLines n 0 0 marks) r left → Wrote out 0 (markedText n (resultOf v marks)) r left
+unfolding markedText
 wrote-accepted n marks e w = rw e w
 
-pub wrote-refusal : (n : ℕ) (marks : List ℕ) {v : Verdict} {number rec : ℕ} {out left : List ℕ} {r : ℕ} → v ≡ Refused number rec
-    → Wrote out 0 (allLines n number rec marks) r left → Wrote out 0 (linesFor n (verdictOf v) marks) r left
+pub wrote-refusal : (n : ℕ) (marks : List ℕ) {v : Verdict} {number rec lines : ℕ} {out left : List ℕ} {r : ℕ} → v ≡ Refused number rec lines
+    → Wrote out 0 (allLines n number rec marks) r left → Wrote out 0 (markedText n (resultOf v marks)) r left
+unfolding markedText
 wrote-refusal n marks e w = rw e w
 
 -- what the lines ask of an instance whose records were marked

@@ -11,9 +11,9 @@ use borrow.Author.Tests.{eq-eqb, le-leb, lt-leb, leb-false}
 use Rattle.lengths.specs.Edge.{edgeCount}
 use Rattle.lengths.specs.Instance.{inRange}
 use Rattle.argument.specs.Sheet.{Result}
-use Rattle.sheets.specs.Results.{resultOf, verdictOf}
+use Rattle.sheets.specs.Results.{resultOf}
 use Rattle.sheets.specs.Sheets.{wholeSheet}
-use Rattle.sheets.specs.declared.verdict.Marked.{Marked}
+use Rattle.sheets.specs.declared.verdict.Verdict.{Verdict}
 use Rattle.marking.specs.Bytes.{numbers16, numbers32, whole16, whole32, fitting16, fitting32, Decoded}
 use Rattle.marking.specs.Fresh.{freshAnswer, freshMarks, FreshAs}
 use Rattle.marking.specs.Marking.{markSheet, markTested}
@@ -23,7 +23,7 @@ use Rattle.marking.specs.declared.tests.Tested.the-variants as tests
 use Rattle.marking.specs.declared.fresh.Fresh.{Fresh}
 use Rattle.report.specs.Text.{Wrote}
 use Rattle.report.specs.Input.{coordinatesIn}
-use Rattle.report.specs.Output.{linesFor, markedText}
+use Rattle.report.specs.Output.{markedText}
 
 length-16 : (bytes : List ℕ) → length (numbers16 bytes) ≡ length bytes / 2
 unfolding numbers16
@@ -98,12 +98,11 @@ fitting-marked n table marks bytes = go (leb (length bytes / 2) 32000) refl
         ∙ same-refusal (tested n table marks) table marks (whole16 bytes) (none-whole bytes (leb-false (length bytes / 2) 32000 e))
 
 -- the text of the marked records
-pub marked-wrote : (n : ℕ) (table records : List ℕ) (m : Marked) (left : List ℕ) {r : ℕ} {marks sheet out done : List ℕ} → resultOf m left ≡ markSheet n table marks sheet → marks ≡ freshMarks n
-    → sheet ≡ fitting16 records 32000 → Wrote out 0 (linesFor n (verdictOf (m .verdict)) left) r done
+pub marked-wrote : (n : ℕ) (table records : List ℕ) (v : Verdict) (left : List ℕ) {r : ℕ} {marks sheet out done : List ℕ} → resultOf v left ≡ markSheet n table marks sheet → marks ≡ freshMarks n
+    → sheet ≡ fitting16 records 32000 → Wrote out 0 (markedText n (resultOf v left)) r done
     → Wrote out 0 (markedText n (markSheet n table (freshMarks n) (whole16 records))) r done
-unfolding markedText
-marked-wrote n table records m left {r} {marks} {sheet} {out} {done} is fresh decoded w =
-    let e : resultOf m left ≡ markSheet n table (freshMarks n) (whole16 records) =
+marked-wrote n table records v left {r} {marks} {sheet} {out} {done} is fresh decoded w =
+    let e : resultOf v left ≡ markSheet n table (freshMarks n) (whole16 records) =
     is
     ∙ ap (λ (l : List ℕ). markSheet n table l sheet) fresh
     ∙ ap (markSheet n table (freshMarks n)) decoded

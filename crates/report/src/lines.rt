@@ -2,6 +2,7 @@
 use crate::text::put_field;
 use crate::text::put_word;
 use lengths::edge;
+use lengths::refusal;
 ghost use Prim.Native.Nat.{_≤_};
 ghost use lib.ListN.{length};
 ghost use Rattle.report.specs.Text.{Room, Wrote};
@@ -93,7 +94,7 @@ pub fn put_refusal(number: u8, out: &mut [u8]) -> usize
     requires { ⌜ Large (now out) ⌝ }
     ensures { λ r. ⌜ Wrote (now (out .entry)) 0 (lastLine number) r (now (out .exit)) ⌝ }
 {
-    put_verdict(number, 0, 0, out, 0)
+    put_verdict(number, refusal::NO_RECORD, 0, out, 0)
 }
 
 // All lines.

@@ -5,20 +5,21 @@ use crate::lines::put_refusal;
 use lengths::edge;
 use lengths::measure::Measured;
 use lengths::measure::measure;
+use lengths::refusal;
 use marking::bytes::decode16;
 use marking::bytes::decode32;
 use marking::fresh::fresh_marks;
 use marking::mark::mark_sheet;
 use sheets::sheet::Sheet;
 use sheets::verdict::Verdict;
-ghost use Rattle.sheets.specs.Results.{verdictOf};
+ghost use Rattle.sheets.specs.Results.{resultOf};
 ghost use Rattle.marking.specs.Bytes.{whole16};
 ghost use Rattle.marking.specs.Fresh.{freshMarks};
 ghost use Rattle.marking.specs.Marking.{markSheet};
 ghost use Rattle.report.specs.Input.{coordinatesIn, recordsIn};
 ghost use Rattle.report.specs.Text.{Wrote};
 ghost use Rattle.report.specs.Lines.{LinesAsked};
-ghost use Rattle.report.specs.Output.{linesFor, markedText, measuredText, MarkingAsked, InstanceAsked, Places, Reported};
+ghost use Rattle.report.specs.Output.{markedText, measuredText, MarkingAsked, InstanceAsked, Places, Reported};
 
 // Room for the coordinates and the edges of 180 points.
 const COORDINATES: usize = 360;
@@ -31,11 +32,15 @@ pub const TEXT: usize = 262_144;
 // All lines for a verdict: its number and record, or 0 and 0.
 fn put_marked(n: u16, verdict: Verdict, marks: &[u8], out: &mut [u8]) -> usize
     requires { ⌜ LinesAsked n (now marks) (now out) ⌝ }
-    ensures { λ r. ⌜ Wrote (now (out .entry)) 0 (linesFor n (verdictOf verdict) (now (marks .entry))) r (now (out .exit)) ⌝ }
+    ensures { λ r. ⌜ Wrote (now (out .entry)) 0 (markedText n (resultOf verdict (now (marks .entry)))) r (now (out .exit)) ⌝ }
 {
     match verdict {
-        Verdict::Accepted => put_all(n, 0, 0, marks, out),
-        Verdict::Refused { refusal, record } => put_all(n, refusal, record, marks, out),
+        Verdict::Accepted { lines: _ } => put_all(n, 0, refusal::NO_RECORD, marks, out),
+        Verdict::Refused {
+            refusal,
+            record,
+            lines: _,
+        } => put_all(n, refusal, record, marks, out),
     }
 }
 
@@ -47,8 +52,7 @@ fn mark_records(n: u16, table: &[u32], records: &[u8], marks: &mut [u8], out: &m
     fresh_marks(n as u32, marks);
     let mut sheet = [0u16; Sheet::MOST_RECORDS * Sheet::RECORD_SIZE];
     let size = decode16(records, &mut sheet);
-    let marked = mark_sheet(n as u32, table, marks, &sheet[..size]);
-    let verdict = marked.verdict;
+    let verdict = mark_sheet(n as u32, table, marks, &sheet[..size]);
     put_marked(n, verdict, marks, out)
 }
 
@@ -69,7 +73,7 @@ fn measure_file(
     let body = Header::BYTES + Header::POINT_BYTES * (n as usize);
     decode32(&file[Header::BYTES..body], coordinates);
     match measure(n as u32, rule, coordinates, table) {
-        Measured::Refused(number) => put_refusal(number, out),
+        Measured::Refused { refusal, record: _ } => put_refusal(refusal, out),
         Measured::Done => mark_records(n, table, &file[body..], marks, out),
     }
 }

@@ -17,16 +17,36 @@ use sheets::verdict::Verdict;
 // The refusal number, or 0.
 fn number_of(verdict: Verdict) -> u64 {
     match verdict {
-        Verdict::Accepted => 0,
-        Verdict::Refused { refusal, record: _ } => refusal as u64,
+        Verdict::Accepted { lines: _ } => 0,
+        Verdict::Refused {
+            refusal,
+            record: _,
+            lines: _,
+        } => refusal as u64,
     }
 }
 
 // The record of a refusal, or 0.
 fn record_of(verdict: Verdict) -> u64 {
     match verdict {
-        Verdict::Accepted => 0,
-        Verdict::Refused { refusal: _, record } => record as u64,
+        Verdict::Accepted { lines: _ } => 0,
+        Verdict::Refused {
+            refusal: _,
+            record,
+            lines: _,
+        } => record as u64,
+    }
+}
+
+// The lines accepted.
+fn lines_of(verdict: Verdict) -> u64 {
+    match verdict {
+        Verdict::Accepted { lines } => lines as u64,
+        Verdict::Refused {
+            refusal: _,
+            record: _,
+            lines,
+        } => lines as u64,
     }
 }
 
@@ -61,11 +81,10 @@ pub fn mark(
     lines: u64,
     left: &[u8],
 ) -> Tally {
-    let marked = mark_sheet(n, table, bytes, sheet);
-    let verdict = marked.verdict;
+    let verdict = mark_sheet(n, table, bytes, sheet);
     let got = number_of(verdict);
     let at = record_of(verdict);
-    let count = marked.lines as u64;
+    let count = lines_of(verdict);
     sheet_text(sheet);
     text(b":");
     answer(got, at, count, bytes);

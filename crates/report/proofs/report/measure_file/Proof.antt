@@ -29,8 +29,8 @@ decode32-requires c κs = search needs
 measure-requires : tie.Need-measure-requires
 measure-requires c κs = search needs
 
-enum-known-number : tie.Need-enum-known-number
-enum-known-number c = search needs
+enum-known-refusal : tie.Need-enum-known-refusal
+enum-known-refusal c = search needs
 
 put-refusal-requires : tie.Need-put-refusal-requires
 put-refusal-requires c κs = search needs
@@ -71,7 +71,7 @@ returns c =
     let s = d .before .before .before .before .before .before .before .before in
     wrote-refused (s .args .n) (s .args .rule) (now (s .args .file)) (s .pre .0 .range)
     (coordinates-read (s .args .n) (now (s .args .file)) (s .pre .0 .whole) (s .pre .1 .located) (d .decode32 .ensures)) (d .decode32 .kept .1 .0 ∙ s .pre .1 .located)
-    (s .pre .1 .measured) (m .measure .ensures) (e .number .given .1) (r .put-refusal .ensures)
+    (s .pre .1 .measured) (m .measure .ensures) (e .refusal .given .1) (r .put-refusal .ensures)
 
 same-length-4 : tie.Need-same-length-4
 same-length-4 c = search needs
@@ -107,7 +107,7 @@ measure-file-spec =
     part-decode32-end
     decode32-requires
     measure-requires
-    enum-known-number
+    enum-known-refusal
     put-refusal-requires
     enum-told
     sub-mark-records
