@@ -5,6 +5,7 @@ use mathlib.Core.List.{List}
 use native.Mathlib.Nat.{mul-le-mul, add-comm}
 use native.Mathlib.Omega.{arith}
 use Rattle.lengths.specs.Distance.{Gaps}
+use Rattle.lengths.specs.Instance.{mostCoordinate}
 use Rattle.lengths.specs.Measure.{xOf, yOf, gapOf, squares, Located}
 
 pub gap-up : {a b : ℕ} → a < b → b - a ≡ gapOf a b
@@ -28,13 +29,13 @@ unfolding squares
 squares-symmetric cs a b =
     ap₂ (λ (x y : ℕ). x * x + y * y) (gap-symmetric (xOf cs a) (xOf cs b)) (gap-symmetric (yOf cs a) (yOf cs b))
 
--- where the coordinates are within the limit, so are their differences r and q, whose squares add up to at most 2,000,000,000,000
+-- where the coordinates are within the limit, so are their differences r and q, whose squares add up to at most mostSquares
 module _ {cs : List ℕ} {a b r q : ℕ} (at : Located cs a b) (x : r ≡ gapOf (xOf cs a) (xOf cs b)) (y : q ≡ gapOf (yOf cs a) (yOf cs b)) where
-  x-small : r ≤ 1000000
+  x-small : r ≤ mostCoordinate
   unfolding xOf
   x-small = rw x (gap-small (at .small _ (omega (arith, at))) (at .small _ (omega (arith, at))))
 
-  y-small : q ≤ 1000000
+  y-small : q ≤ mostCoordinate
   unfolding yOf
   y-small = rw y (gap-small (at .small _ (omega (arith, at))) (at .small _ (omega (arith, at))))
 

@@ -11,6 +11,7 @@ use Rattle.lengths.specs.Distance.{Growing, Least, passes, distanceBy, I
 use Rattle.lengths.specs.declared.distance.Rule.{Rule}
 use Rattle.lengths.specs.declared.distance.Rule.the-variants.{Euc2d, Ceil2d}
 use Rattle.lengths.proofs.Bisect.{bisect-least, least-unique}
+use Rattle.lengths.specs.Instance.{mostSquares}
 
 square-mono : {d e : ℕ} → d ≤ e → d * d ≤ e * e
 square-mono h = mul-le-mul h h
@@ -24,12 +25,12 @@ passes-grow Euc2d s d e h t = lt-ltb (4 * s) ((2 * e + 1) * (2 * e + 1)) (omega 
 passes-grow Ceil2d s d e h t = le-leb s (e * e) (omega (arith, leb-true s (d * d) t, square-mono h))
 
 -- every sum of squares of an instance is passed by a number of 21 bits
-passes-top : (rule : Rule) (s : ℕ) → s ≤ 2000000000000 → passes rule s 2097151 ≡ true
+passes-top : (rule : Rule) (s : ℕ) → s ≤ mostSquares → passes rule s 2097151 ≡ true
 unfolding passes
 passes-top Euc2d s h = lt-ltb (4 * s) _ (omega arith)
 passes-top Ceil2d s h = le-leb s _ (omega arith)
 
-pub distance-least : (rule : Rule) (s : ℕ) → s ≤ 2000000000000 → Least (passes rule s) (distanceBy rule s)
+pub distance-least : (rule : Rule) (s : ℕ) → s ≤ mostSquares → Least (passes rule s) (distanceBy rule s)
 unfolding distanceBy
 distance-least rule s h = bisect-least (passes-grow rule s) 21 0 (λ e _. omega arith) (passes-top rule s h)
 
@@ -63,20 +64,20 @@ least-euc2d {s} {d} l = record {
     ]
 
 -- rule 1 (EUC_2D): the answer satisfies 01's inequality, and nothing else does
-pub distance-euc2d : (s : ℕ) → s ≤ 2000000000000 → IsEuc2d s (distanceBy Euc2d s)
+pub distance-euc2d : (s : ℕ) → s ≤ mostSquares → IsEuc2d s (distanceBy Euc2d s)
 distance-euc2d s h = least-euc2d (distance-least Euc2d s h)
 
-pub euc2d-only : (s d : ℕ) → s ≤ 2000000000000 → IsEuc2d s d → d ≡ distanceBy Euc2d s
+pub euc2d-only : (s d : ℕ) → s ≤ mostSquares → IsEuc2d s d → d ≡ distanceBy Euc2d s
 euc2d-only s d h r = least-unique (euc2d-least r) (distance-least Euc2d s h)
 
 -- rule 2 (CEIL_2D), likewise
-pub distance-ceil2d : (s : ℕ) → s ≤ 2000000000000 → IsCeil2d s (distanceBy Ceil2d s)
+pub distance-ceil2d : (s : ℕ) → s ≤ mostSquares → IsCeil2d s (distanceBy Ceil2d s)
 unfolding passes
 distance-ceil2d s h =
     let l = distance-least Ceil2d s h in
     record { reaches = leb-true s _ (l .passed); least = λ e t. l .least e (le-leb _ _ t) }
 
-pub ceil2d-only : (s d : ℕ) → s ≤ 2000000000000 → IsCeil2d s d → d ≡ distanceBy Ceil2d s
+pub ceil2d-only : (s d : ℕ) → s ≤ mostSquares → IsCeil2d s d → d ≡ distanceBy Ceil2d s
 unfolding passes
 ceil2d-only s d h r =
     least-unique {test = passes Ceil2d s} (record { passed = le-leb _ _ (r .reaches); least = λ e t. r .least e (leb-true s _ t) }) (distance-least Ceil2d s h)

@@ -17,6 +17,7 @@ use Rattle.lengths.specs.Table.{lengthOf}
 use Rattle.lengths.proofs.Coordinates.{squares-symmetric}
 use Rattle.lengths.proofs.Edges.{edgeCount-tri, length-edges, edges-at, placeUp-below, next-in-row, next-row, lower-first}
 use Rattle.lengths.proofs.Tables.{length-up, length-symmetric}
+use Rattle.lengths.specs.Instance.{mostPoints}
 
 -- what stands at an index does not hang on the default
 getD-default : {A : Type 0} (l : List A) (i : ℕ) (d e : A) → i < length l → getD l i d ≡ getD l i e
@@ -119,5 +120,5 @@ module _ {n : ℕ} {rule : Rule} {cs table table₀ : List ℕ} {a b at : ℕ} (
     small = g .small;
   }
 
-  pub row-small : a + 1 ≤ 180
+  pub row-small : a + 1 ≤ mostPoints
   row-small = omega (arith, g .few, at-edge)

@@ -9,6 +9,7 @@ use Rattle.lengths.specs.declared.distance.Rule.{Rule}
 use Rattle.lengths.specs.Distance.{Growing, Least, passes, stepFrom, Close, Distance}
 use Rattle.lengths.proofs.Bisect.{least-after, least-unique}
 use Rattle.lengths.proofs.Distances.{passes-grow, distance-least}
+use Rattle.lengths.specs.Instance.{mostSquares}
 
 -- the code's number of a test that fails
 pub failing : {r : Bool} (t : Bool) → r ≡ t → boolByte (not r) ≡ stepFrom t
@@ -32,7 +33,7 @@ stepped {test} grows g h low high = at (test (g - 1)) (test g) refl refl
     at false true p q = subst (Least test) (omega arith) (least-after grows (g - 1) g (omega arith) p q)
     at false false p q = subst (Least test) (omega arith) (least-after grows g (g + 1) (omega arith) q high)
 
-pub corrected : {rule : Rule} {s g a b : ℕ} → s ≤ 2000000000000 → Close rule s g
+pub corrected : {rule : Rule} {s g a b : ℕ} → s ≤ mostSquares → Close rule s g
     → a ≡ stepFrom (passes rule s (g - 1)) → b ≡ stepFrom (passes rule s g) → Distance rule s (g - 1 + a + b)
 corrected {rule} {s} {g} h c p q = record {
   at = rw (p, q) (least-unique (stepped (passes-grow rule s) g (c .low) (c .failed) (c .passed)) (distance-least rule s h));

@@ -5,23 +5,23 @@ use mathlib.Core.Bool.{Bool, true, false, true≢false}
 use native.Mathlib.Omega.{arith}
 use lib.Dec.{leb}
 use borrow.Author.Tests.{leb-true}
-use Rattle.lengths.specs.Instance.{inRange, admission}
+use Rattle.lengths.specs.Instance.{inRange, admission, leastPoints, mostPoints}
 use Rattle.lengths.specs.declared.instance.Instance.{Instance}
 use Rattle.lengths.specs.declared.instance.Admission.the-variants.{Admitted, OutOfRange}
 
--- the instance i has n points, 4 to 180
+-- the instance i has n points, within the limits
 pub record Admits (n : ℕ) (i : Instance) : Type 0 where
   pub range : inRange n ≡ true
   pub points : i .points ≡ n
-  pub least : 4 ≤ n
-  pub most : n ≤ 180
+  pub least : leastPoints ≤ n
+  pub most : n ≤ mostPoints
 
-pub in-range : (n : ℕ) → inRange n ≡ true → (4 ≤ n) × (n ≤ 180)
+pub in-range : (n : ℕ) → inRange n ≡ true → (leastPoints ≤ n) × (n ≤ mostPoints)
 unfolding inRange
-in-range n h = go (leb 4 n) refl
+in-range n h = go (leb leastPoints n) refl
   where
-    go : (b : Bool) → leb 4 n ≡ b → (4 ≤ n) × (n ≤ 180)
-    go true e = (leb-true 4 n e, leb-true n 180 (rw (inRange, e) at h))
+    go : (b : Bool) → leb leastPoints n ≡ b → (leastPoints ≤ n) × (n ≤ mostPoints)
+    go true e = (leb-true leastPoints n e, leb-true n mostPoints (rw (inRange, e) at h))
     go false e = absurd (true≢false (sym (rw (inRange, e) at h)))
 
 -- the points of two equal admissions

@@ -13,7 +13,7 @@ use Rattle.lengths.specs.declared.distance.NamedRule.the-variants.{Known
 use Rattle.lengths.specs.declared.distance.Rule.{Rule}
 use Rattle.lengths.specs.declared.instance.Admission.the-variants.{OutOfRange}
 use Rattle.lengths.specs.declared.instance.Instance.{Instance}
-use Rattle.lengths.specs.Instance.{admission}
+use Rattle.lengths.specs.Instance.{admission, mostCoordinate}
 use Rattle.lengths.specs.declared.measure.Measured.the-variants.{Done, Refused}
 use Rattle.lengths.specs.Test.{allAtMost}
 use Rattle.lengths.proofs.Limits.{limit-each}
@@ -59,23 +59,23 @@ module _ {n rule : ℕ} {cs table : List ℕ} where
         (rw (measured, s .admits .range, eq-eqb (length cs) (2 * n) (s .coordinates), eq-eqb (length table) (edgeCount n) (s .whole), h))
 
     module _ {by : Rule} (k : ruleOf rule ≡ Known by) where
-      pub refused-limit : allAtMost 1000000 cs ≡ false → MeasuredAs n rule cs table (Refused 4 0) table
+      pub refused-limit : allAtMost mostCoordinate cs ≡ false → MeasuredAs n rule cs table (Refused 4 0) table
       unfolding measured
       refused-limit h = refused
           (rw (measured, s .admits .range, eq-eqb (length cs) (2 * n) (s .coordinates), eq-eqb (length table) (edgeCount n) (s .whole), k, h))
 
-      pub done : {left : List ℕ} → allAtMost 1000000 cs ≡ true → left ≡ measuredTable by cs (i .points) → MeasuredAs n rule cs table Done left
+      pub done : {left : List ℕ} → allAtMost mostCoordinate cs ≡ true → left ≡ measuredTable by cs (i .points) → MeasuredAs n rule cs table Done left
       unfolding measured tableAfter
       done {left} w l =
           let m : measured n rule cs (length table) ≡ Done =
           rw (measured, s .admits .range, eq-eqb (length cs) (2 * n) (s .coordinates), eq-eqb (length table) (edgeCount n) (s .whole), k, w) in
           record { answered = sym m; table-left = rw (tableAfter, m, k) (l ∙ ap (measuredTable by cs) (s .admits .points)) }
 
-pub fillable : {n : ℕ} {i : Instance} {cs table : List ℕ} → Sized n i cs table → allAtMost 1000000 cs ≡ true → Fillable (i .points) cs table
+pub fillable : {n : ℕ} {i : Instance} {cs table : List ℕ} → Sized n i cs table → allAtMost mostCoordinate cs ≡ true → Fillable (i .points) cs table
 fillable {n} {i} {cs} {table} s w = record {
   some = omega (arith, s .admits);
   few = omega (arith, s .admits);
   located = omega (arith, s .admits .points, s .coordinates);
-  small = limit-each 1000000 cs w;
+  small = limit-each mostCoordinate cs w;
   whole = s .whole ∙ ap edgeCount (sym (s .admits .points));
 }

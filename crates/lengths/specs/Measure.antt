@@ -7,7 +7,7 @@ use lib.Dec.{eqb}
 use lib.ListN.{length, getD}
 use Rattle.lengths.specs.Distance.{distanceBy, ruleOf}
 use Rattle.lengths.specs.Edge.{Edge, edge, edges, edgeCount}
-use Rattle.lengths.specs.Instance.{inRange}
+use Rattle.lengths.specs.Instance.{inRange, mostCoordinate, mostPoints}
 use Rattle.lengths.specs.Test.{allAtMost, AtMost, unless}
 use Rattle.lengths.specs.declared.distance.Rule.{Rule}
 use Rattle.lengths.specs.declared.distance.NamedRule.{NamedRule}
@@ -50,7 +50,7 @@ measured n rule cs size =
     (unless (eqb (length cs) (2 * n)) (Refused 2 0)
     (unless (eqb size (edgeCount n)) (Refused 2 0)
     (unless (known (ruleOf rule)) (Refused 3 0)
-    (unless (allAtMost 1000000 cs) (Refused 4 0)
+    (unless (allAtMost mostCoordinate cs) (Refused 4 0)
     Done))))
 
 -- the table that is left: filled where nothing is refused, else as it was
@@ -68,14 +68,14 @@ pub record Located (cs : List ℕ) (a b : ℕ) : Type 0 where
   pub high-a : 2 * a ≤ length cs
   pub low-b : 1 ≤ b
   pub high-b : 2 * b ≤ length cs
-  pub small : AtMost 1000000 cs
+  pub small : AtMost mostCoordinate cs
 
 -- what `fill` is given: at least two points, their coordinates, and a table of their edges
 pub record Fillable (n : ℕ) (cs table : List ℕ) : Type 0 where
   pub some : 2 ≤ n
-  pub few : n ≤ 180
+  pub few : n ≤ mostPoints
   pub located : length cs ≡ 2 * n
-  pub small : AtMost 1000000 cs
+  pub small : AtMost mostCoordinate cs
   pub whole : length table ≡ edgeCount n
 
 -- what `measure` ensures: its answer, and the table that it leaves

@@ -5,6 +5,7 @@ use mathlib.Core.Logic.{_⊎_}
 use mathlib.Core.List.{List}
 use lib.ListN.{length, getD}
 use Rattle.lengths.specs.Edge.{Point, edgeCount}
+use Rattle.lengths.specs.Instance.{mostPoints}
 use Rattle.lengths.specs.Table.{lengthOf}
 
 -- the row of v stands in `rows` from `at` on: the length from v to x at the place at + x
@@ -18,7 +19,7 @@ pub record Rows (n : ℕ) (table rows : List ℕ) : Type 0 where
 
 -- what writing the row of v is asked about: a table of n points, and room for n + 1 numbers
 pub record RowFillable (n : ℕ) (table rows : List ℕ) (at v : ℕ) : Type 0 where
-  pub few : n ≤ 180
+  pub few : n ≤ mostPoints
   pub whole : length table ≡ edgeCount n
   pub point : Point n v
   pub room : at + n < length rows
@@ -37,7 +38,7 @@ pub record RowFilled (n : ℕ) (table rows : List ℕ) (at v : ℕ) (r : List �
 
 -- what writing all rows is asked about: a table of n points, and room for the numbers of n + 1 rows
 pub record RowsFillable (n : ℕ) (table rows : List ℕ) : Type 0 where
-  pub few : n ≤ 180
+  pub few : n ≤ mostPoints
   pub whole : length table ≡ edgeCount n
   pub room : (n + 1) * (n + 1) ≤ length rows
 

@@ -1,7 +1,9 @@
 // TSPLIB's distances in whole numbers: the least number that passes the rule's growing test.
+use crate::instance::Instance;
 ghost use mathlib.Core.Path.{_≡_};
 ghost use mathlib.Core.Bool.{true};
 ghost use Prim.Native.Nat.{_≤_, _<_, max};
+ghost use Rattle.lengths.specs.Instance.{mostSquares};
 ghost use Rattle.lengths.specs.Distance.{passes, Measurable, Distance, ruleOf, stepFrom, Close, Gaps};
 
 // The rules of 01, under TSPLIB's names.
@@ -54,8 +56,8 @@ fn larger(a: u64, b: u64) -> u64
 
 // One step of Newton's iteration for the square root of s.
 fn newton(s: u64, x: u64) -> u64
-    requires { ⌜ (s ≤ 2000000000000) × (x ≤ 2000000000000) ⌝ }
-    ensures { λ r. ⌜ r ≤ 2000000000000 ⌝ }
+    requires { ⌜ (s ≤ mostSquares) × (x ≤ mostSquares) ⌝ }
+    ensures { λ r. ⌜ r ≤ mostSquares ⌝ }
 {
     if x == 0 {
         return 0;
@@ -74,15 +76,18 @@ pub fn guess(s: u64, dx: u64, dy: u64) -> u64
     newton(s, newton(s, start))
 }
 
+// The square of a guess above it may not fit.
+const MOST_GUESS: u64 = Instance::MOST_LENGTH as u64;
+
 // Is the distance the guess or one beside it? Guesses below 2, and those whose squares may not fit, are left to the search.
 fn is_close(rule: Rule, s: u64, guess: u64) -> bool
-    requires { ⌜ s ≤ 2000000000000 ⌝ }
+    requires { ⌜ s ≤ mostSquares ⌝ }
     ensures { λ r. ⌜ (r ≡ true → Close rule s guess) ⌝ }
 {
     if guess < 2 {
         return false;
     }
-    if 2_000_000 < guess {
+    if MOST_GUESS < guess {
         return false;
     }
     if test(rule, s, guess - 2) {
@@ -101,7 +106,7 @@ fn step(rule: Rule, s: u64, d: u64) -> u64
 
 // The distance at the sum of squares s. A close guess is corrected by two tests without a branch; for any other the search halves.
 pub fn distance(rule: Rule, s: u64, guess: u64) -> u64
-    requires { ⌜ s ≤ 2000000000000 ⌝ }
+    requires { ⌜ s ≤ mostSquares ⌝ }
     ensures { λ r. ⌜ Distance rule s r ⌝ }
 {
     if is_close(rule, s, guess) {
@@ -112,7 +117,7 @@ pub fn distance(rule: Rule, s: u64, guess: u64) -> u64
 
 // The distance at the sum of squares s: halves 21 bits for the least number that passes.
 fn by_halving(rule: Rule, s: u64) -> u64
-    requires { ⌜ s ≤ 2000000000000 ⌝ }
+    requires { ⌜ s ≤ mostSquares ⌝ }
     ensures { λ r. ⌜ Distance rule s r ⌝ }
 {
     let mut least: u64 = 0;

@@ -2,7 +2,7 @@
 ghost use mathlib.Core.Path.{_≡_};
 ghost use Rattle.lengths.specs.Instance.{admission};
 
-// An instance of 4 to 180 points.
+// An instance of LEAST_POINTS to MOST_POINTS points.
 pub struct Instance {
     pub points: u16,
 }
@@ -22,7 +22,20 @@ impl Instance {
 
     pub const MOST_LENGTH: u32 = 2_000_000;
 
-    // The instance of n points, where n is 4 to 180.
+    pub const MOST_EDGES: usize = (Instance::MOST_POINTS * (Instance::MOST_POINTS - 1)
+        / 2) as usize;
+
+    // A place for each point, and one for 0, which is no point.
+    pub const PLACES: usize = Instance::MOST_POINTS as usize + 1;
+
+    // Up to so many points a call uses small arrays: to clear large ones takes longer than to mark a short sheet.
+    pub const FEW_POINTS: u16 = 60;
+
+    pub const FEW_EDGES: usize = (Instance::FEW_POINTS * (Instance::FEW_POINTS - 1) / 2) as usize;
+
+    pub const FEW_PLACES: usize = Instance::FEW_POINTS as usize + 1;
+
+    // The instance of n points, where n is within the limits.
     pub fn admit(n: u32) -> Admission
         ensures { λ r. ⌜ r ≡ admission n ⌝ }
     {

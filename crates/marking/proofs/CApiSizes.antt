@@ -10,12 +10,12 @@ use lib.ListN.{length, take}
 use lib.Seq.{length-take-le}
 use borrow.Author.Tests.{ne-eqb}
 use Rattle.lengths.specs.Edge.{edgeCount, tri}
-use Rattle.lengths.specs.Instance.{inRange}
+use Rattle.lengths.specs.Instance.{inRange, leastPoints, mostEdges, mostPoints}
 use Rattle.lengths.specs.Test.{unless}
 use Rattle.lengths.proofs.Edges.{edgeCount-tri, tri-mono}
 use Rattle.argument.specs.Sheet.{Result}
 use Rattle.sheets.specs.Results.{resultOf}
-use Rattle.sheets.specs.Sheets.{wholeSheet}
+use Rattle.sheets.specs.Sheets.{wholeSheet, mostNumbers}
 use Rattle.sheets.specs.declared.verdict.Verdict.{Verdict}
 use Rattle.sheets.specs.declared.verdict.Verdict.the-variants as verdict
 use Rattle.sheets.proofs.Records.{whole-none, whole-long}
@@ -31,18 +31,18 @@ use Rattle.marking.proofs.BytesDecoded.{TooLong, in16, in32, handed-on}
 use Rattle.marking.proofs.Tested.{range-admits, passed}
 use Rattle.marking.proofs.TestWays.{wrong-size}
 
--- 4 to 180 points have 6 to 16,110 edges
+-- an instance has 6 to `mostEdges` edges
 edges-some : (n : ℕ) → inRange n ≡ true → 6 ≤ edgeCount n
 unfolding tri
 edges-some n h = omega (arith, edgeCount-tri n, tri-mono 4 n (range-admits n h .least))
 
-edges-few : (n : ℕ) → inRange n ≡ true → edgeCount n ≤ 16110
+edges-few : (n : ℕ) → inRange n ≡ true → edgeCount n ≤ mostEdges
 unfolding tri
-edges-few n h = omega (arith, edgeCount-tri n, tri-mono n 180 (range-admits n h .most))
+edges-few n h = omega (arith, edgeCount-tri n, tri-mono n mostPoints (range-admits n h .most))
 
 -- an answer that looks at the table only where the tests are passed
 module _ {A : Type 0} (answer : Tested → List ℕ → A) (blind : (number : ℕ) (s t : List ℕ) → answer (Refused number) s ≡ answer (Refused number) t) where
-  pub table-alike : (n : ℕ) (table handed marks : List ℕ) → (handed ≡ table) ⊎ TooLong table handed 16110
+  pub table-alike : (n : ℕ) (table handed marks : List ℕ) → (handed ≡ table) ⊎ TooLong table handed mostEdges
       → answer (tested n handed marks) handed ≡ answer (tested n table marks) table
   table-alike n table handed marks (inl e) = rw e
   table-alike n table handed marks (inr l) =
@@ -60,8 +60,8 @@ module _ {A : Type 0} (answer : Tested → List ℕ → A) (blind : (number : �
       refused true = blind 2 handed table
       refused false = blind 1 handed table
 
--- a sheet of none or of more than 32,000 numbers is refused
-sheet-alike : (t : Tested) (table marks s handed : List ℕ) → (handed ≡ s) ⊎ TooLong s handed 32000
+-- a sheet of none or of more than `mostNumbers` numbers is refused
+sheet-alike : (t : Tested) (table marks s handed : List ℕ) → (handed ≡ s) ⊎ TooLong s handed mostNumbers
     → markTested t table marks handed ≡ markTested t table marks s
 sheet-alike t table marks s handed (inl e) = rw e
 sheet-alike (Refused number) table marks s handed (inr l) = refl
@@ -72,7 +72,7 @@ no-tour : (n : ℕ) (t : List ℕ) → (length t ≡ n → ⊥) → isTour n t �
 unfolding isTour
 no-tour n t h = rw (isTour, ne-eqb (length t) n h)
 
-tour-alike : (n : ℕ) (table marks t handed : List ℕ) → (handed ≡ t) ⊎ TooLong t handed 180
+tour-alike : (n : ℕ) (table marks t handed : List ℕ) → (handed ≡ t) ⊎ TooLong t handed mostPoints
     → tourChecked n table marks handed ≡ tourChecked n table marks t
 unfolding tourChecked
 tour-alike n table marks t handed (inl e) = rw e
@@ -101,20 +101,20 @@ module _ (n : ℕ) (bytes : List ℕ) where
   unfolding whole16
   broken-sheet h = rw (whole16, ne-eqb (length bytes % 2) 0 h) (whole-none 0 refl)
 
-  pub broken-tour : 4 ≤ n → (length bytes % 2 ≡ 0 → ⊥) → isTour n (whole16 bytes) ≡ false
+  pub broken-tour : leastPoints ≤ n → (length bytes % 2 ≡ 0 → ⊥) → isTour n (whole16 bytes) ≡ false
   unfolding whole16
   broken-tour l h = rw (whole16, ne-eqb (length bytes % 2) 0 h) (no-tour n [] (λ e. omega arith))
 
 module _ (n : ℕ) (table marks s : List ℕ) where
-  module _ {room places : ℕ} (e : min (length table / 4) 16110 ≤ room) where
-    pub mark-handed : min (length s / 2) 32000 ≤ places
+  module _ {room places : ℕ} (e : min (length table / 4) mostEdges ≤ room) where
+    pub mark-handed : min (length s / 2) mostNumbers ≤ places
         → markSheet n (fitting32 table room) marks (fitting16 s places) ≡ markSheet n (whole32 table) marks (whole16 s)
     unfolding markSheet
     mark-handed p =
         sheet-alike (tested n (fitting32 table room) marks) (fitting32 table room) marks (whole16 s) (fitting16 s places) (handed-on in16 s p)
         ∙ table-alike (λ u t. markTested u t marks (whole16 s)) (λ number t r. refl) n (whole32 table) (fitting32 table room) marks (handed-on in32 table e)
 
-    pub tour-handed : min (length s / 2) 180 ≤ places
+    pub tour-handed : min (length s / 2) mostPoints ≤ places
         → tourChecked n (fitting32 table room) marks (fitting16 s places) ≡ tourChecked n (whole32 table) marks (whole16 s)
     unfolding tourChecked
     tour-handed p =
@@ -140,9 +140,9 @@ module _ (n : ℕ) (table marks s : List ℕ) {lengths₀ lengths numbers₀ num
       h ∙ rw (d .front, e .front) (mark-handed n table marks s (room .edges) (room .places)) in
       record { answered = k .number left ∙ ap resultNumber all; marks-left = sym (marks-of v left) ∙ ap (λ (x : Result (List ℕ)). x .marks) all }
 
-  pub checked-in-c : {c : Checked} {r : ℕ} → TableRoom table lengths₀ → length numbers₀ ≡ 180 → c ≡ tourChecked n (take edges lengths) marks (take size numbers)
+  pub checked-in-c : {c : Checked} {r : ℕ} → TableRoom table lengths₀ → length numbers₀ ≡ mostPoints → c ≡ tourChecked n (take edges lengths) marks (take size numbers)
       → r ≡ checkedNumber c → r ≡ tourInC n table marks s
   unfolding tourInC
   checked-in-c {c} {r} room places h k =
-      let p : min (length s / 2) 180 ≤ length numbers₀ = omega (arith, places) in
+      let p : min (length s / 2) mostPoints ≤ length numbers₀ = omega (arith, places) in
       k ∙ ap checkedNumber (h ∙ rw (d .front, e .front) (tour-handed n table marks s (room .edges) p))

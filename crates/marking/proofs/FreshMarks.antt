@@ -64,7 +64,7 @@ module _ {n : ℕ} {marks : List ℕ} where
         let answer : freshAnswer n (length marks) ≡ Done = rw (freshAnswer, a .range, eq-eqb (length marks) (edgeCount n) size) in
         record { answered = sym answer; marks-left = rw (answer, freshMarks) (l ∙ ap (λ (k : ℕ). replicate k 1) size) }
 
--- where "fresh marks" is done, n is 4 to 180, and fresh marks are left
+-- where "fresh marks" is done, n is within the limits, and fresh marks are left
 fresh-passed : (a b : Bool) → Done ≡ unless a (Refused 1 0) (unless b (Refused 6 0) Done) → (a ≡ true) × (b ≡ true)
 fresh-passed true true h = (refl, refl)
 fresh-passed true false h = absurd (let z : _≡_ {A = ℕ} 0 1 = cc in omega arith)

@@ -12,6 +12,7 @@ use Rattle.lengths.specs.Test.{unless}
 use Rattle.rules.specs.Mark.{openIn, Marked}
 use Rattle.argument.specs.Record.{splits, fits}
 use Rattle.argument.proofs.Tests.{Fits, fits-means}
+use Rattle.lengths.specs.Instance.{fewEdges, fewPoints, mostEdges}
 use Rattle.marking.specs.Listing.{pairsAt, Found, FindAsked, listed, listLeft, ListedInto, ListedAs}
 use Rattle.marking.specs.Tests.{tested}
 use Rattle.marking.specs.declared.listing.Listed.{Listed}
@@ -51,11 +52,11 @@ module _ {n : ℕ} {table marks : List ℕ} {m a b c : ℕ} where
         room = z;
       }
 
-  -- the small array has room for the pairs of 60 points, the large one for those of 180
-  pub findable-small : {found : List ℕ} → Listable n table marks m a b c → m ≤ 60 → length found ≡ 3540 → FindAsked m table marks a b c found
+  -- the small array has room for the pairs of few points, the large one for those of most
+  pub findable-small : {found : List ℕ} → Listable n table marks m a b c → m ≤ fewPoints → length found ≡ 2 * fewEdges → FindAsked m table marks a b c found
   findable-small f h z = findable f (omega (arith, fewer-edges m h))
 
-  pub findable-large : {found : List ℕ} → Listable n table marks m a b c → length found ≡ 32220 → FindAsked m table marks a b c found
+  pub findable-large : {found : List ℕ} → Listable n table marks m a b c → length found ≡ 2 * mostEdges → FindAsked m table marks a b c found
   findable-large f z = findable f (omega (arith, few-edges m (f .fitted .passed .lengths .few)))
 
   -- test 18 is the one left

@@ -11,6 +11,7 @@ use lib.Seq.{take-suc, take-suc-set, drop-cons, set-at, length-take-le, append-s
 use Rattle.lengths.specs.Edge.{Edge, edge, IsEdgeUp, edgeCount, edges}
 use Rattle.lengths.specs.Table.{lengthOf}
 use Rattle.lengths.proofs.Edges.{length-edges, edgeCount-tri, tri-mono}
+use Rattle.lengths.specs.Instance.{fewEdges, fewPoints, mostEdges, mostPoints}
 use Rattle.rules.specs.Mark.{openIn}
 use Rattle.rules.specs.Near.{neighbours}
 use Rattle.rules.specs.Nearby.{NearbyOf}
@@ -44,13 +45,13 @@ keep-fewer t (edge a b ∷ es) = go (t a b) refl (keep-fewer t es)
 edges-mono : (m n : ℕ) → m ≤ n → edgeCount m ≤ edgeCount n
 edges-mono m n h = omega (arith, edgeCount-tri m, edgeCount-tri n, tri-mono m n h)
 
-pub few-edges : (n : ℕ) → n ≤ 180 → edgeCount n ≤ 16110
+pub few-edges : (n : ℕ) → n ≤ mostPoints → edgeCount n ≤ mostEdges
 unfolding edgeCount
-few-edges n h = edges-mono n 180 h
+few-edges n h = edges-mono n mostPoints h
 
-pub fewer-edges : (n : ℕ) → n ≤ 60 → edgeCount n ≤ 1770
+pub fewer-edges : (n : ℕ) → n ≤ fewPoints → edgeCount n ≤ fewEdges
 unfolding edgeCount
-fewer-edges n h = edges-mono n 60 h
+fewer-edges n h = edges-mono n fewPoints h
 
 few-pairs : (n : ℕ) (l : ℕ → ℕ → ℕ) (open? : ℕ → ℕ → Bool) (K : List Edge) (c : ℕ) → 1 ≤ n → length (feasiblePairs n l open? K c) ≤ edgeCount n
 unfolding feasiblePairs
@@ -64,7 +65,7 @@ pub record Finding (n : ℕ) (l : ℕ → ℕ → ℕ) (open? : ℕ → ℕ → 
   pub up : x ≤ y
   pub high : y ≤ n
   pub size : length found ≡ length found₀
-  pub few : length (feasiblePairs n l open? K c) ≤ 16110
+  pub few : length (feasiblePairs n l open? K c) ≤ mostEdges
   pub room : 2 * length (feasiblePairs n l open? K c) ≤ length found
   pub counted : count + length (feasibleAfter n l open? K c x y) ≡ length (feasiblePairs n l open? K c)
   pub written : take (2 * count) found ++ numbersOf (feasibleAfter n l open? K c x y) ≡ numbersOf (feasiblePairs n l open? K c)
@@ -101,7 +102,7 @@ module _ {n : ℕ} {l : ℕ → ℕ → ℕ} {open? : ℕ → ℕ → Bool} {K :
     fewer-left : length (feasibleAfter n l open? K c a b) < length (feasibleAfter n l open? K c x y)
     fewer-left = omega (arith, ap length (next .2))
 
-    space : (count < 16110) × (2 * count + 1 < length found)
+    space : (count < mostEdges) × (2 * count + 1 < length found)
     space = (omega (arith, f .counted, f .few, ap length (next .2)), omega (arith, f .counted, f .room, ap length (next .2)))
 
     finding-on : Finding n l open? K c found₀ (set (set found (2 * count) a) (2 * count + 1) b) a b (count + 1)
@@ -181,7 +182,7 @@ module _ {n : ℕ} {table marks : List ℕ} {k : EdgeSet} {c : ℕ} {found₀ le
       pub search-less : length (feasibleAfter n (lengthOf n table) (openIn n marks) (edgeList k) c a b) < length (feasibleAfter n (lengthOf n table) (openIn n marks) (edgeList k) c x y)
       search-less = fewer-left (f .at) (first e)
 
-      pub search-room : (count < 16110) × (2 * count + 1 < length found)
+      pub search-room : (count < mostEdges) × (2 * count + 1 < length found)
       search-room = space (f .at) (first e)
 
       pub search-on : Searching n table marks k c found₀ legs bound ways centre near rank (set (set found (2 * count) a) (2 * count + 1) b) a b (count + 1)

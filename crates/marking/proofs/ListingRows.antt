@@ -16,12 +16,14 @@ use Rattle.lengths.specs.Edge.{Edge, edge, IsEdge, IsEdgeUp, row, rows, edges, 
 use Rattle.lengths.specs.Table.{lengthOf}
 use Rattle.lengths.proofs.Edges.{length-row, edgeCount-tri, tri-suc, place-up, placeUp-below, edges-fit}
 use Rattle.lengths.proofs.Tables.{length-up}
+use Rattle.lengths.specs.Instance.{mostEdges, mostLength}
 use Rattle.rules.specs.NextPair.{passes?}
 use Rattle.rules.specs.Pairs.{keep}
 use Rattle.rules.proofs.PairLists.{keep-yes, keep-no, keep-append}
 use Rattle.rules.proofs.Splits.{length-small}
 use Rattle.marking.specs.Listing.{numbersOf, ones, stands?, barredIn, apart?, standing, RowAsked, RowFound, ApartAsked, Found}
 use Rattle.marking.proofs.ListingLoops.{keep-fewer, few-edges, two-more}
+use Rattle.rules.specs.Split.{far}
 
 -- a pair that is written and counted if it stands
 
@@ -64,28 +66,28 @@ unfolding row keep
 keep-row-none t x h z zero = refl
 keep-row-none t x h z (suc k) = keep-no t x z (row x (suc z) k) (h z) ∙ keep-row-none t x h (suc z) k
 
-pub row-far : {n : ℕ} {table legs : List ℕ} {bound x : ℕ} (barred : ℕ) {found : List ℕ} {before : ℕ} → RowAsked n table legs bound x found before → getD legs x 0 ≡ 10000000
+pub row-far : {n : ℕ} {table legs : List ℕ} {bound x : ℕ} (barred : ℕ) {found : List ℕ} {before : ℕ} → RowAsked n table legs bound x found before → getD legs x 0 ≡ far
     → RowFound n table legs bound x barred found before before found
 unfolding standing stands? passes? numbersOf
 row-far {n} {table} {legs} {bound} {x} barred {found} {before} a g =
-    let none = keep-row-none (stands? n table legs bound barred) x far (suc x) (n - x) in
+    let none = keep-row-none (stands? n table legs bound barred) x fails (suc x) (n - x) in
     record {
       counted = omega (arith, ap length none);
       front = sym (append-nil (take (2 * before) found)) ∙ ap (λ (es : List Edge). take (2 * before) found ++ numbersOf es) (sym none);
       size = refl;
     }
   where
-    far : (z : ℕ) → leb (getD legs x 0 + 2000000 + getD legs z 0) (lengthOf n table x z + bound) && not (eqb z barred) ≡ false
-    far z =
+    fails : (z : ℕ) → leb (getD legs x 0 + mostLength + getD legs z 0) (lengthOf n table x z + bound) && not (eqb z barred) ≡ false
+    fails z =
         ap (λ (t : Bool). t && not (eqb z barred))
-        (lt-leb (getD legs x 0 + 2000000 + getD legs z 0) (lengthOf n table x z + bound) (omega (arith, length-small (a .lengths) x z, a .bounded .tight)))
+        (lt-leb (getD legs x 0 + mostLength + getD legs z 0) (lengthOf n table x z + bound) (omega (arith, length-small (a .lengths) x z, a .bounded .tight)))
 
 -- the loop of `find_in_row`
 
 -- the pair of x with x + 1 + i is next; its length stands at the place first + i
 pub record Rowing (n : ℕ) (table legs : List ℕ) (bound x barred : ℕ) (found₀ : List ℕ) (before cost first : ℕ) (found : List ℕ) (count i : ℕ) : Type 0 where
   pub asked : RowAsked n table legs bound x found₀ before
-  pub is-cost : cost ≡ getD legs x 0 + 2000000
+  pub is-cost : cost ≡ getD legs x 0 + mostLength
   pub is-first : first ≡ placeUp n x (x + 1)
   pub within : i ≤ n - x
   pub size : length found ≡ length found₀
@@ -102,7 +104,7 @@ row-edge a = record {
 }
 
 pub rowing-start : {n : ℕ} {table legs : List ℕ} {bound x : ℕ} (barred : ℕ) {found : List ℕ} {before first : ℕ} → RowAsked n table legs bound x found before → first ≡ place n x (x + 1)
-    → Rowing n table legs bound x barred found before (getD legs x 0 + 2000000) first found before 0
+    → Rowing n table legs bound x barred found before (getD legs x 0 + mostLength) first found before 0
 unfolding standing
 rowing-start {n} {table} {legs} {bound} {x} barred {found} {before} {first} a p =
     let f : x + 1 + 0 ≡ suc x = omega arith in
@@ -154,7 +156,7 @@ module _ {n : ℕ} {table legs : List ℕ} {bound x barred : ℕ} {found₀ : Li
     place-small = omega (arith, place-here, placeUp-below edge-here, edges-fit {n = n} (omega (arith, r .asked .lengths .few)))
 
     -- there is room for the pair, and its place is small
-    pub has-room : (count < 16110) × (2 * count + 1 < length found)
+    pub has-room : (count < mostEdges) × (2 * count + 1 < length found)
     has-room = (omega (arith, r .looked, r .asked .few), omega (arith, r .looked, r .asked .room, r .size))
 
     test-here : leb (cost + getD legs (x + 1 + i) 0) (getD table (first + i) 0 + bound) && not (eqb (x + 1 + i) barred) ≡ stands? n table legs bound barred x (x + 1 + i)
@@ -240,7 +242,7 @@ apart-start {n} low high a =
     }
 
 module _ {n : ℕ} {table legs : List ℕ} {bound low high : ℕ} {found₀ found : List ℕ} {x count : ℕ} (r : Apart n table legs bound low high found₀ found x count) where
-  all-few : tri n ≤ 16110
+  all-few : tri n ≤ mostEdges
   all-few = omega (arith, edgeCount-tri n, few-edges n (r .asked .lengths .few))
 
   pub apart-end : n ≤ x → Found (keep (apart? n table legs bound low high) (edges n)) count found

@@ -6,7 +6,7 @@ use mathlib.Core.List.{List}
 use lib.ListN.{length}
 use borrow.Author.Tests.{eq-eqb, ne-eqb}
 use Rattle.lengths.specs.Edge.{edgeCount}
-use Rattle.lengths.specs.Instance.{inRange, admission}
+use Rattle.lengths.specs.Instance.{inRange, admission, mostLength}
 use Rattle.lengths.specs.Test.{allAtMost, unless}
 use Rattle.lengths.specs.declared.instance.Admission.the-variants.{OutOfRange}
 use Rattle.lengths.specs.declared.instance.Instance.{Instance}
@@ -29,11 +29,11 @@ module _ (n : ℕ) (table marks : List ℕ) where
     refused-size h = rw (tested, a .range, ne-eqb (length table) (edgeCount n) (λ e. h (e ∙ ap edgeCount (sym (a .points)))))
 
     module _ (whole : length table ≡ edgeCount (i .points)) where
-      pub refused-length : allAtMost 2000000 table ≡ false → Refused 5 ≡ tested n table marks
+      pub refused-length : allAtMost mostLength table ≡ false → Refused 5 ≡ tested n table marks
       unfolding tested
       refused-length h = rw (tested, a .range, eq-eqb (length table) (edgeCount n) (edges-of a whole), h)
 
-      module _ (small : allAtMost 2000000 table ≡ true) where
+      module _ (small : allAtMost mostLength table ≡ true) where
         pub refused-marks : (length marks ≡ edgeCount (i .points) → ⊥) → Refused 6 ≡ tested n table marks
         unfolding tested
         refused-marks h = rw (

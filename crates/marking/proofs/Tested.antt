@@ -9,7 +9,7 @@ use lib.Dec.{eqb}
 use lib.ListN.{length, getD, List·getD-eq-default}
 use borrow.Author.Tests.{eqb-true}
 use Rattle.lengths.specs.Edge.{edgeCount}
-use Rattle.lengths.specs.Instance.{inRange, admission}
+use Rattle.lengths.specs.Instance.{inRange, leastPoints, admission, mostLength}
 use Rattle.lengths.specs.Test.{allAtMost, unless}
 use Rattle.lengths.proofs.Instances.{Admits, admitted}
 use Rattle.lengths.proofs.Limits.{limit-each}
@@ -23,7 +23,7 @@ pub record Passed (n : ℕ) (table marks : List ℕ) (m : ℕ) : Type 0 where
   pub answer : tested n table marks ≡ Points m
   pub range : inRange n ≡ true
   pub same : m ≡ n
-  pub least : 4 ≤ m
+  pub least : leastPoints ≤ m
   pub lengths : Lengths m table
   pub marked : length marks ≡ edgeCount m
   pub bytes : (i : ℕ) → getD marks i 0 ≤ 1
@@ -40,7 +40,7 @@ within limit xs h i = elim (decLt i (length xs)) [
   | no g ↦ omega (arith, List·getD-eq-default xs 0 {n = i} (omega arith))
 ]
 
--- test 1 says that n is 4 to 180
+-- test 1 says that n is within the limits
 pub range-admits : (n : ℕ) → inRange n ≡ true → Admits n (record { points = n })
 unfolding admission
 range-admits n h = admitted (rw (admission, h))
@@ -50,7 +50,7 @@ unfolding tested
 passed {n} {table} {marks} {m} h =
     let p1 = unless-passed (inRange n) 1 _ m h in
     let p2 = unless-passed (eqb (length table) (edgeCount n)) 2 _ m (p1 .1) in
-    let p3 = unless-passed (allAtMost 2000000 table) 5 _ m (p2 .1) in
+    let p3 = unless-passed (allAtMost mostLength table) 5 _ m (p2 .1) in
     let p4 = unless-passed (eqb (length marks) (edgeCount n)) 6 _ m (p3 .1) in
     let p5 = unless-passed (allAtMost 1 marks) 6 _ m (p4 .1) in
     let q : Points n ≡ Points m = p5 .1 in
@@ -64,7 +64,7 @@ passed {n} {table} {marks} {m} h =
       lengths = record {
         few = omega (arith, a .most);
         whole = rw e (eqb-true (length table) (edgeCount n) (p2 .0));
-        small = within 2000000 table (p3 .0);
+        small = within mostLength table (p3 .0);
       };
       marked = rw e (eqb-true (length marks) (edgeCount n) (p4 .0));
       bytes = within 1 marks (p5 .0);

@@ -6,6 +6,7 @@ use mathlib.Core.List.{List, [], _∷_}
 use native.Mathlib.Omega.{arith}
 use lib.ListN.{length}
 use Rattle.lengths.specs.Edge.{Edge, edge}
+use Rattle.lengths.specs.Instance.{mostLength}
 use Rattle.lengths.specs.Table.{lengthOf}
 use Rattle.rules.specs.EdgeSet.{pathEdges, closedEdges}
 use Rattle.rules.specs.Mark.{openIn}
@@ -65,7 +66,7 @@ module _ {n : ℕ} {table marks t : List ℕ} where
         countable = omega (
           arith,
           s,
-          total-small (lengthOf m table) 2000000 (length-small (h .passed .lengths)) (closedEdges t),
+          total-small (lengthOf m table) mostLength (length-small (h .passed .lengths)) (closedEdges t),
           length-closed t,
           tour-size asked-table,
           h .passed .lengths .few,

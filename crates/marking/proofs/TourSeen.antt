@@ -15,6 +15,7 @@ use Rattle.lengths.specs.Edge.{Point}
 use Rattle.rules.specs.EdgeSet.{count}
 use Rattle.argument.specs.Record.{isPoint}
 use Rattle.argument.proofs.Tests.{is-point, point-is}
+use Rattle.lengths.specs.Instance.{mostPoints, pointPlaces}
 use Rattle.tours.specs.Tour.{Tour}
 use Rattle.tours.proofs.Bit.{same, same-true, same-false, same-self}
 use Rattle.tours.proofs.Count.{tour-once, tour-length, points-all}
@@ -37,29 +38,29 @@ wrong-length n t h = no-tour n t (λ T. h (tour-length T))
 pub record Seeing (n : ℕ) (t : List ℕ) (seen : List Bool) (i : ℕ) : Type 0 where
   pub whole : length t ≡ n
   pub inside : i ≤ length t
-  pub size : length seen ≡ 181
+  pub size : length seen ≡ pointPlaces
   pub points : (v : ℕ) → 1 ≤ count v (take i t) → Point n v
   pub once : (v : ℕ) → count v (take i t) ≤ 1
-  pub flags : (v : ℕ) → v < 181 → getD seen v false ≡ ltb 0 (count v (take i t))
+  pub flags : (v : ℕ) → v < pointPlaces → getD seen v false ≡ ltb 0 (count v (take i t))
 
-pub seeing-start : {n : ℕ} {t : List ℕ} → length t ≡ n → Seeing n t (replicate 181 false) 0
+pub seeing-start : {n : ℕ} {t : List ℕ} → length t ≡ n → Seeing n t (replicate pointPlaces false) 0
 unfolding count
 seeing-start e = record {
   whole = e;
   inside = omega arith;
-  size = length-replicate 181 false;
+  size = length-replicate pointPlaces false;
   points = λ v h. absurd (omega arith);
   once = λ v. omega arith;
-  flags = λ v h. getD-replicate 181 v false false h;
+  flags = λ v h. getD-replicate pointPlaces v false false h;
 }
 
 module _ {n : ℕ} {t : List ℕ} {seen : List Bool} {i : ℕ} (s : Seeing n t seen i) where
-  module _ (few : n ≤ 180) (h : i < length t) where
+  module _ (few : n ≤ mostPoints) (h : i < length t) where
     pub not-point : isPoint n (getD t i 0) ≡ false → false ≡ isTour n t
     not-point p = no-tour n t (λ T. true≢false (sym (point-is (T .only (getD t i 0) (count-at t i h))) ∙ p))
 
     module _ (p : isPoint n (getD t i 0) ≡ true) where
-      pub flag-inside : getD t i 0 < 181
+      pub flag-inside : getD t i 0 < pointPlaces
       flag-inside = omega (arith, is-point n (getD t i 0) p .high)
 
       pub seen-twice : getD seen (getD t i 0) false ≡ true → false ≡ isTour n t

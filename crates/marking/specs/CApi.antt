@@ -4,9 +4,11 @@ use mathlib.Core.Path.{_≡_}
 use mathlib.Core.Bool.{Bool, true, false}
 use mathlib.Core.List.{List}
 use lib.ListN.{length}
+use Rattle.lengths.specs.Instance.{fewEdges, mostEdges}
 use Rattle.argument.specs.Verdict.{Verdict, accepted, refused}
 use Rattle.argument.specs.Sheet.{Result}
 use Rattle.sheets.specs.Results.{resultOf}
+use Rattle.sheets.specs.Sheets.{fewRecords, mostNumbers, recordSize}
 use Rattle.sheets.specs.declared.verdict.Verdict as declared
 use Rattle.marking.specs.Bytes.{whole16, whole32}
 use Rattle.marking.specs.Marking.{markSheet}
@@ -49,16 +51,16 @@ tourInC n table marks t = checkedNumber (tourChecked n (whole32 table) marks (wh
 
 -- the arrays that a call decodes into have room for all numbers, or for as many as a call that passes its tests has
 pub record TableRoom (table lengths : List ℕ) : Type 0 where
-  pub edges : min (length table / 4) 16110 ≤ length lengths
+  pub edges : min (length table / 4) mostEdges ≤ length lengths
 
 pub record MarkRoom (table s lengths numbers : List ℕ) : Type 0 where
-  pub edges : min (length table / 4) 16110 ≤ length lengths
-  pub places : min (length s / 2) 32000 ≤ length numbers
+  pub edges : min (length table / 4) mostEdges ≤ length lengths
+  pub places : min (length s / 2) mostNumbers ≤ length numbers
 
--- the bytes of a table of up to 60 points, and of a sheet of up to 1,000 records
+-- the bytes of a table of few points, and of a sheet of few records
 pub record SmallTable (table : List ℕ) : Type 0 where
-  pub edges : length table ≤ 7080
+  pub edges : length table ≤ 4 * fewEdges
 
 pub record SmallSheet (table s : List ℕ) : Type 0 where
-  pub edges : length table ≤ 7080
-  pub places : length s ≤ 16000
+  pub edges : length table ≤ 4 * fewEdges
+  pub places : length s ≤ 2 * (fewRecords * recordSize)

@@ -6,6 +6,7 @@ use mathlib.Core.List.{List, [], _∷_, _++_}
 use lib.Dec.{eqb, leb}
 use lib.ListN.{length, take, drop}
 use Rattle.lengths.specs.Edge.{Edge, edge, Point, edgeCount, row}
+use Rattle.lengths.specs.Instance.{leastPoints, mostEdges}
 use Rattle.lengths.specs.Table.{lengthOf}
 use Rattle.lengths.specs.Test.{unless}
 use Rattle.rules.specs.Mark.{openIn}
@@ -55,7 +56,7 @@ pub record RowAsked (n : ℕ) (table legs : List ℕ) (bound x : ℕ) (found : L
   pub bounded : Bounded legs bound
   pub low : 1 ≤ x
   pub high : x < n
-  pub few : before + (n - x) ≤ 16110
+  pub few : before + (n - x) ≤ mostEdges
   pub room : 2 * (before + (n - x)) ≤ length found
 
 -- the pairs of the row that stand are written behind those that were there before
@@ -79,7 +80,7 @@ pub record SearchAsked (n : ℕ) (table marks : List ℕ) (k : EdgeSet) (c : ℕ
 -- what the search is asked about: the edge ab, the split point, and room for every pair
 pub record FindAsked (n : ℕ) (table marks : List ℕ) (a b c : ℕ) (found : List ℕ) : Type 0 where
   pub legs : LegsAsked n table marks c
-  pub least : 4 ≤ n
+  pub least : leastPoints ≤ n
   pub first : Point n a
   pub second : Point n b
   pub apart : a ≡ b → ⊥
@@ -94,7 +95,7 @@ pub record CopyAsked (found : List ℕ) (size : ℕ) (list : List ℕ) : Type 0 
 pub record Found (pairs : List Edge) (count : ℕ) (found : List ℕ) : Type 0 where
   pub counted : count ≡ length pairs
   pub front : take (2 * count) found ≡ numbersOf pairs
-  pub few : count ≤ 16110
+  pub few : count ≤ mostEdges
   pub room : 2 * count ≤ length found
 
 -- a refusal names record 0: no record is at fault

@@ -4,17 +4,17 @@ use mathlib.Core.List.{List}
 use lib.Dec.{eqb}
 use lib.ListN.{length}
 use Rattle.lengths.specs.Edge.{edgeCount}
-use Rattle.lengths.specs.Instance.{inRange}
+use Rattle.lengths.specs.Instance.{inRange, mostLength}
 use Rattle.lengths.specs.Test.{allAtMost, unless}
 use Rattle.marking.specs.declared.tests.Tested.{Tested}
 use Rattle.marking.specs.declared.tests.Tested.the-variants.{Points, Refused}
 
--- n is 4 to 180; the table has n(n - 1)/2 entries, none above 2,000,000; there are as many marks, none above 1
+-- n is within the limits; the table has n(n - 1)/2 entries, none above the longest length; there are as many marks, none above 1
 unfoldable pub tested : ℕ → List ℕ → List ℕ → Tested
 tested n table marks =
     unless (inRange n) (Refused 1)
     (unless (eqb (length table) (edgeCount n)) (Refused 2)
-    (unless (allAtMost 2000000 table) (Refused 5)
+    (unless (allAtMost mostLength table) (Refused 5)
     (unless (eqb (length marks) (edgeCount n)) (Refused 6)
     (unless (allAtMost 1 marks) (Refused 6)
     (Points n)))))

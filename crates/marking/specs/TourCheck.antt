@@ -6,6 +6,7 @@ use mathlib.Core.List.{List}
 use lib.Dec.{eqb}
 use lib.ListN.{length}
 use Rattle.lengths.specs.Edge.{edgeCount}
+use Rattle.lengths.specs.Instance.{leastPoints, mostPoints}
 use Rattle.lengths.specs.Table.{lengthOf}
 use Rattle.lengths.specs.Test.{unless}
 use Rattle.rules.specs.EdgeSet.{count, closedEdges}
@@ -27,10 +28,10 @@ onceEach (suc k) t = eqb (count (suc k) t) 1 && onceEach k t
 unfoldable pub isTour : ℕ → List ℕ → Bool
 isTour n t = eqb (length t) n && onceEach n t
 
--- a tour of 4 to 180 points, and a table or marks with a place for each edge
+-- a tour of an instance's points, and a table or marks with a place for each edge
 pub record TourAsked (n : ℕ) (places t : List ℕ) : Type 0 where
-  pub few : n ≤ 180
-  pub some : 4 ≤ n
+  pub few : n ≤ mostPoints
+  pub some : leastPoints ≤ n
   pub whole : length places ≡ edgeCount n
   pub tour : isTour n t ≡ true
 

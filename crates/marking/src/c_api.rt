@@ -4,7 +4,9 @@ use crate::bytes::decode32;
 use crate::mark::mark_sheet;
 use crate::tour::Checked;
 use crate::tour::check_tour;
+use lengths::instance::Instance;
 use lengths::refusal;
+use sheets::sheet::Sheet;
 use sheets::verdict::Verdict;
 ghost use mathlib.Core.Path.{_≡_};
 ghost use Prim.Native.Nat.{_+_, _*_};
@@ -48,15 +50,6 @@ fn checked_number(checked: Checked) -> u64
     }
 }
 
-// The numbers that small calls have room for, up to 60 points and 1,000 records, and those that any call has.
-const SMALL_TABLE: usize = 1_770;
-
-const SMALL_SHEET: usize = 8_000;
-
-const LARGE_TABLE: usize = 16_110;
-
-const LARGE_SHEET: usize = 32_000;
-
 // Marks a sheet: the table and the sheet are decoded into `lengths` and `numbers`.
 fn mark_decoded(
     n: u32,
@@ -78,16 +71,16 @@ fn mark_small(n: u32, table: &[u8], marks: &mut [u8], sheet: &[u8]) -> u64
     requires { ⌜ SmallSheet (now table) (now sheet) ⌝ }
     ensures { λ r. ⌜ MarkedInC n (now (table .entry)) (now (marks .entry)) (now (sheet .entry)) r (now (marks .exit)) ⌝ }
 {
-    let mut lengths = [0u32; SMALL_TABLE];
-    let mut numbers = [0u16; SMALL_SHEET];
+    let mut lengths = [0u32; Instance::FEW_EDGES];
+    let mut numbers = [0u16; Sheet::FEW_NUMBERS];
     mark_decoded(n, table, marks, sheet, &mut lengths, &mut numbers)
 }
 
 fn mark_large(n: u32, table: &[u8], marks: &mut [u8], sheet: &[u8]) -> u64
     ensures { λ r. ⌜ MarkedInC n (now (table .entry)) (now (marks .entry)) (now (sheet .entry)) r (now (marks .exit)) ⌝ }
 {
-    let mut lengths = [0u32; LARGE_TABLE];
-    let mut numbers = [0u16; LARGE_SHEET];
+    let mut lengths = [0u32; Instance::MOST_EDGES];
+    let mut numbers = [0u16; Sheet::MOST_NUMBERS];
     mark_decoded(n, table, marks, sheet, &mut lengths, &mut numbers)
 }
 
@@ -96,8 +89,8 @@ fn mark_large(n: u32, table: &[u8], marks: &mut [u8], sheet: &[u8]) -> u64
 pub extern "C" fn revosti_mark_sheet(n: u32, table: &[u8], marks: &mut [u8], sheet: &[u8]) -> u64
     ensures { λ r. ⌜ MarkedInC n (now (table .entry)) (now (marks .entry)) (now (sheet .entry)) r (now (marks .exit)) ⌝ }
 {
-    if table.len() <= 4 * SMALL_TABLE {
-        if sheet.len() <= 2 * SMALL_SHEET {
+    if table.len() <= 4 * Instance::FEW_EDGES {
+        if sheet.len() <= 2 * Sheet::FEW_NUMBERS {
             return mark_small(n, table, marks, sheet);
         }
     }
@@ -110,7 +103,7 @@ fn check_decoded(n: u32, table: &[u8], marks: &[u8], tour: &[u8], lengths: &mut 
     ensures { λ r. ⌜ r ≡ tourInC n (now (table .entry)) (now (marks .entry)) (now (tour .entry)) ⌝ }
 {
     let edges = decode32(table, lengths);
-    let mut points = [0u16; 180];
+    let mut points = [0u16; Instance::MOST_POINTS as usize];
     let size = decode16(tour, &mut points);
     checked_number(check_tour(n, &lengths[..edges], marks, &points[..size]))
 }
@@ -119,14 +112,14 @@ fn check_small(n: u32, table: &[u8], marks: &[u8], tour: &[u8]) -> u64
     requires { ⌜ SmallTable (now table) ⌝ }
     ensures { λ r. ⌜ r ≡ tourInC n (now (table .entry)) (now (marks .entry)) (now (tour .entry)) ⌝ }
 {
-    let mut lengths = [0u32; SMALL_TABLE];
+    let mut lengths = [0u32; Instance::FEW_EDGES];
     check_decoded(n, table, marks, tour, &mut lengths)
 }
 
 fn check_large(n: u32, table: &[u8], marks: &[u8], tour: &[u8]) -> u64
     ensures { λ r. ⌜ r ≡ tourInC n (now (table .entry)) (now (marks .entry)) (now (tour .entry)) ⌝ }
 {
-    let mut lengths = [0u32; LARGE_TABLE];
+    let mut lengths = [0u32; Instance::MOST_EDGES];
     check_decoded(n, table, marks, tour, &mut lengths)
 }
 
@@ -135,7 +128,7 @@ fn check_large(n: u32, table: &[u8], marks: &[u8], tour: &[u8]) -> u64
 pub extern "C" fn revosti_check_tour(n: u32, table: &[u8], marks: &[u8], tour: &[u8]) -> u64
     ensures { λ r. ⌜ r ≡ tourInC n (now (table .entry)) (now (marks .entry)) (now (tour .entry)) ⌝ }
 {
-    if table.len() <= 4 * SMALL_TABLE {
+    if table.len() <= 4 * Instance::FEW_EDGES {
         return check_small(n, table, marks, tour);
     }
     check_large(n, table, marks, tour)

@@ -46,7 +46,7 @@ fn kept(cost: u32, most: u32, z: usize, barred: usize) -> u16
 fn find_in_row(
     n: u16,
     table: &[u32],
-    legs: &[u32; Split::PLACES],
+    legs: &[u32; Instance::PLACES],
     bound: u32,
     x: u16,
     barred: u16,
@@ -92,7 +92,7 @@ fn barred_in(low: u16, high: u16, x: u16) -> u16
 fn find_apart(
     n: u16,
     table: &[u32],
-    legs: &[u32; Split::PLACES],
+    legs: &[u32; Instance::PLACES],
     bound: u32,
     low: u16,
     high: u16,
@@ -241,10 +241,10 @@ pub fn list_pairs(
             record: refusal::NO_RECORD,
         };
     }
-    if points <= 60 {
-        let mut found = [0u16; 3540];
+    if points <= Instance::FEW_POINTS {
+        let mut found = [0u16; 2 * Instance::FEW_EDGES];
         return list_into(points, table, marks, a, b, c, &mut found, list);
     }
-    let mut found = [0u16; 32220];
+    let mut found = [0u16; 2 * Instance::MOST_EDGES];
     list_into(points, table, marks, a, b, c, &mut found, list)
 }

@@ -1,6 +1,7 @@
 // The operation "mark a sheet".
 use crate::tests::Tested;
 use crate::tests::test_instance;
+use lengths::instance::Instance;
 use lengths::refusal;
 use lengths::rows::fill_rows;
 use sheets::line::mark_lines;
@@ -9,6 +10,7 @@ use sheets::sheet::SheetAdmission;
 use sheets::verdict::Verdict;
 ghost use mathlib.Core.Path.{_≡_};
 ghost use Prim.Native.Nat.{_≤_};
+ghost use Rattle.lengths.specs.Instance.{fewPoints};
 ghost use Rattle.argument.specs.Sheet as lines;
 ghost use Rattle.sheets.specs.Lines.{RowsAsked};
 ghost use Rattle.sheets.specs.Results.{resultOf};
@@ -16,14 +18,11 @@ ghost use Rattle.sheets.specs.Rules.{markingOf};
 ghost use Rattle.sheets.specs.Walks.{Admitted};
 ghost use Rattle.marking.specs.Marking.{markSheet};
 
-// Up to so many points the rows of lengths stand in a small array: to clear a large one takes longer than to mark a short sheet.
-const FEW_POINTS: u16 = 60;
+// The numbers in the rows of few points: a place for each point and one for 0, in the row of each point and of 0.
+const FEW_ROWS: usize = Instance::FEW_PLACES * Instance::FEW_PLACES;
 
-// The numbers in the rows of 60 points: a place for each point and one for 0, in the row of each point and of 0.
-const FEW_ROWS: usize = 3_721;
-
-// The numbers in the rows of 180 points.
-const MOST_ROWS: usize = 32_761;
+// The numbers in the rows of most points.
+const MOST_ROWS: usize = Instance::PLACES * Instance::PLACES;
 
 // Writes the rows of lengths, and marks the lines by them.
 fn mark_by_rows(n: u16, table: &[u32], rows: &mut [u32], marks: &mut [u8], sheet: &[u16]) -> Verdict
@@ -36,7 +35,7 @@ fn mark_by_rows(n: u16, table: &[u32], rows: &mut [u32], marks: &mut [u8], sheet
 
 // Marks the lines where there are few points.
 fn mark_few(n: u16, table: &[u32], marks: &mut [u8], sheet: &[u16]) -> Verdict
-    requires { ⌜ (Admitted n (now table) (now marks) (now sheet)) × (n ≤ 60) ⌝ }
+    requires { ⌜ (Admitted n (now table) (now marks) (now sheet)) × (n ≤ fewPoints) ⌝ }
     ensures { λ r. ⌜ resultOf r (now (marks .exit)) ≡ lines.sheet (markingOf n (now (table .entry))) (now (sheet .entry)) (now (marks .entry)) ⌝ }
 {
     let mut rows = [0u32; FEW_ROWS];
@@ -57,7 +56,7 @@ fn mark_admitted(n: u16, table: &[u32], marks: &mut [u8], sheet: &[u16]) -> Verd
     requires { ⌜ Admitted n (now table) (now marks) (now sheet) ⌝ }
     ensures { λ r. ⌜ resultOf r (now (marks .exit)) ≡ lines.sheet (markingOf n (now (table .entry))) (now (sheet .entry)) (now (marks .entry)) ⌝ }
 {
-    if n <= FEW_POINTS {
+    if n <= Instance::FEW_POINTS {
         return mark_few(n, table, marks, sheet);
     }
     mark_many(n, table, marks, sheet)

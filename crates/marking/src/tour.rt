@@ -1,12 +1,14 @@
 // The operation "check a tour".
 use crate::tests::Tested;
 use crate::tests::test_instance;
+use lengths::instance::Instance;
 use lengths::refusal;
 use lengths::table::length_between;
 use rules::marks::is_open;
 use sheets::walk::is_point;
 ghost use mathlib.Core.Path.{_≡_};
 ghost use Prim.Native.Nat.{_≤_};
+ghost use Rattle.lengths.specs.Instance.{mostPoints};
 ghost use Rattle.lengths.specs.Table.{lengthOf};
 ghost use Rattle.rules.specs.EdgeSet.{closedEdges};
 ghost use Rattle.rules.specs.Mark.{openIn};
@@ -22,13 +24,13 @@ pub enum Checked {
 
 // Is each point from 1 to n among the numbers exactly once?
 fn each_once(n: u16, tour: &[u16]) -> bool
-    requires { ⌜ n ≤ 180 ⌝ }
+    requires { ⌜ n ≤ mostPoints ⌝ }
     ensures { λ r. ⌜ r ≡ isTour n (now (tour .entry)) ⌝ }
 {
     if tour.len() != n as usize {
         return false;
     }
-    let mut seen = [false; 181];
+    let mut seen = [false; Instance::PLACES];
     let mut i = 0;
     while i < tour.len() {
         let v = tour[i];

@@ -1,4 +1,4 @@
--- How long the texts are: every one of the program fits 262,144 bytes, since a line of a strike has at most 15. Assumes nothing.
+-- How long the texts are: every one of the program fits `textRoom` bytes, since a line of a strike has at most 15. Assumes nothing.
 use Prim.Native.Nat.{ℕ, zero, suc, _+_, _-_, _*_, _^_, _≤_, _<_}
 use mathlib.Core.Path.{_≡_, refl, sym}
 use mathlib.Core.Bool.{Bool, true, false}
@@ -8,14 +8,15 @@ use lib.Dec.{eqb}
 use lib.ListN.{length, length-append}
 use Rattle.lengths.specs.Edge.{Edge, edge, edges, edgeCount, row, rows, tri}
 use Rattle.lengths.proofs.Edges.{edgeCount-tri, tri-mono, length-edges}
+use Rattle.lengths.specs.Instance.{mostEdges, mostPoints, pointPlaces}
 use Rattle.rules.specs.EdgeSet.{count}
 use Rattle.report.specs.Text.{Room, Wrote, decimal, field, pointsWord, edgesWord, struckWord, space, verdictWord, recordWord, openWord, lineEnd}
 use Rattle.report.specs.Lines.{pointsLine, struckLine, markLine, markLines, struckLines, verdictLine, allLines, Large, LinesAsked, StrikesAsked}
 use Rattle.report.proofs.Decimals.{decimal-length}
 
-pub edges-few : {n : ℕ} → n ≤ 180 → edgeCount n ≤ 16110
+pub edges-few : {n : ℕ} → n ≤ mostPoints → edgeCount n ≤ mostEdges
 unfolding tri
-edges-few {n} h = omega (arith, edgeCount-tri n, tri-mono n 180 h)
+edges-few {n} h = omega (arith, edgeCount-tri n, tri-mono n mostPoints h)
 
 field-length : (k : ℕ) (word : List ℕ) (n : ℕ) → n < 10 ^ suc k → length (field word n) ≤ length word + suc k
 unfolding field
@@ -24,7 +25,7 @@ field-length k word n h = omega (arith, length-append word (decimal n), decimal-
 line-length : (t u v : List ℕ) → length (t ++ u ++ v) ≡ length t + length u + length v
 line-length t u v = omega (arith, length-append (t ++ u) v, length-append t u)
 
-struck-length : (a b : ℕ) → a ≤ 180 → b ≤ 180 → length (struckLine a b) ≤ 15
+struck-length : (a b : ℕ) → a ≤ mostPoints → b ≤ mostPoints → length (struckLine a b) ≤ 15
 unfolding struckLine
 struck-length a b h g = omega (
   arith,
@@ -33,7 +34,7 @@ struck-length a b h g = omega (
   field-length 2 space b (omega arith),
 )
 
-mark-length : (mark a b : ℕ) → a ≤ 180 → b ≤ 180 → length (markLine mark a b) ≤ 15
+mark-length : (mark a b : ℕ) → a ≤ mostPoints → b ≤ mostPoints → length (markLine mark a b) ≤ 15
 unfolding markLine
 mark-length mark a b h g = go (eqb mark 0) refl
   where
@@ -41,21 +42,21 @@ mark-length mark a b h g = go (eqb mark 0) refl
     go true e = rw (markLine, e) (struck-length a b h g)
     go false e = rw (markLine, e) (omega arith)
 
--- every point of the edges is one of the points 1 to 180
+-- every point of the edges is one of an instance's points
 abbrev Small : List Edge → Type 0
 Small [] = Unit {0}
-Small (edge a b ∷ es) = (a ≤ 180) × (b ≤ 180) × Small es
+Small (edge a b ∷ es) = (a ≤ mostPoints) × (b ≤ mostPoints) × Small es
 
 small-both : (es fs : List Edge) → Small es → Small fs → Small (es ++ fs)
 small-both [] fs h g = g
 small-both (edge a b ∷ es) fs (h, k, l) g = (h, k, small-both es fs l g)
 
-small-row : (a b k : ℕ) → a ≤ 180 → b + k ≤ 181 → Small (row a b k)
+small-row : (a b k : ℕ) → a ≤ mostPoints → b + k ≤ pointPlaces → Small (row a b k)
 unfolding row
 small-row a b zero h g = tt
 small-row a b (suc k) h g = (h, omega arith, small-row a (suc b) k h (omega arith))
 
-small-rows : (a k : ℕ) → a + k ≤ 180 → Small (rows a k)
+small-rows : (a k : ℕ) → a + k ≤ mostPoints → Small (rows a k)
 unfolding rows
 small-rows a zero h = tt
 small-rows a (suc k) h = small-both (row a (suc a) (suc k)) (rows (suc a) k) (small-row a (suc a) (suc k) (omega arith) (omega arith)) (small-rows (suc a) k (omega arith))
@@ -67,12 +68,12 @@ marks-length (e ∷ es) [] h = omega arith
 marks-length (edge a b ∷ es) (mark ∷ marks) (h, g, k) =
     omega (arith, length-append (markLine mark a b) (markLines es marks), mark-length mark a b h g, marks-length es marks k)
 
-strikes-length : (n : ℕ) (marks : List ℕ) → 2 ≤ n → n ≤ 180 → length (struckLines n marks) ≤ 241650
+strikes-length : (n : ℕ) (marks : List ℕ) → 2 ≤ n → n ≤ mostPoints → length (struckLines n marks) ≤ 15 * mostEdges
 unfolding struckLines edges
 strikes-length n marks h g =
     omega (arith, marks-length (rows 1 (n - 1)) marks (small-rows 1 (n - 1) (omega arith)), length-edges n (omega arith), edges-few g)
 
-points-length : (n : ℕ) → n ≤ 180 → length (pointsLine n) ≤ 23
+points-length : (n : ℕ) → n ≤ mostPoints → length (pointsLine n) ≤ 23
 unfolding pointsLine
 points-length n h = omega (
   arith,
@@ -81,7 +82,7 @@ points-length n h = omega (
   field-length 4 edgesWord (edgeCount n) (omega (arith, edges-few h)),
 )
 
-verdict-length : (number rec opens : ℕ) → number < 2 ^ 8 → rec < 2 ^ 16 → opens ≤ 16110 → length (verdictLine number rec opens) ≤ 38
+verdict-length : (number rec opens : ℕ) → number < 2 ^ 8 → rec < 2 ^ 16 → opens ≤ mostEdges → length (verdictLine number rec opens) ≤ 38
 unfolding verdictLine
 verdict-length number rec opens h g k = omega (
   arith,

@@ -13,12 +13,12 @@ use lib.Seq.{take-all, length-take-le, getD-take}
 use borrow.Author.Tests.{le-leb, lt-leb}
 use Rattle.lengths.specs.Instance.{inRange}
 use Rattle.lengths.proofs.Instances.{in-range}
-use Rattle.report.specs.Input.{number32, pointsIn, headerOf}
+use Rattle.report.specs.Input.{number32, pointsIn, headerOf, headerBytes, mostBytes, pointBytes}
 use Rattle.report.specs.Output.{textFor, outputOf}
 use Rattle.report.specs.declared.header.Header.{Header}
 use Rattle.report.specs.declared.header.Header.the-variants.{Refused}
 
-points-front : (file : List ℕ) (k : ℕ) → 8 ≤ k → pointsIn (take k file) ≡ pointsIn file
+points-front : (file : List ℕ) (k : ℕ) → headerBytes ≤ k → pointsIn (take k file) ≡ pointsIn file
 unfolding pointsIn number32
 points-front file k h = omega (
   arith,
@@ -33,19 +33,19 @@ abbrev refusalOf : Bool → ℕ
 refusalOf true = 7
 refusalOf false = 1
 
-header-of-long : (file : List ℕ) → 65448 < length file → headerOf file ≡ Refused (refusalOf (inRange (pointsIn file)))
+header-of-long : (file : List ℕ) → mostBytes < length file → headerOf file ≡ Refused (refusalOf (inRange (pointsIn file)))
 unfolding headerOf
 header-of-long file h = go (inRange (pointsIn file)) refl
   where
     go : (b : Bool) → inRange (pointsIn file) ≡ b → headerOf file ≡ Refused (refusalOf (inRange (pointsIn file)))
     go true e = rw (
       headerOf,
-      le-leb 8 (length file) (omega arith),
+      le-leb headerBytes (length file) (omega arith),
       e,
-      le-leb (8 + 8 * pointsIn file) (length file) (omega (arith, in-range (pointsIn file) e)),
-      lt-leb (length file) 65448 h,
+      le-leb (headerBytes + pointBytes * pointsIn file) (length file) (omega (arith, in-range (pointsIn file) e)),
+      lt-leb (length file) mostBytes h,
     )
-    go false e = rw (headerOf, le-leb 8 (length file) (omega arith), e)
+    go false e = rw (headerOf, le-leb headerBytes (length file) (omega arith), e)
 
 pub output-front : (file : List ℕ) (k : ℕ) → 65449 ≤ k → outputOf (take k file) ≡ outputOf file
 unfolding outputOf

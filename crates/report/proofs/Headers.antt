@@ -12,39 +12,39 @@ use Rattle.lengths.specs.Test.{unless}
 use Rattle.lengths.specs.declared.instance.Instance.{Instance}
 use Rattle.lengths.specs.declared.instance.Admission.the-variants.{OutOfRange}
 use Rattle.lengths.proofs.Instances.{Admits, out-of-range}
-use Rattle.report.specs.Input.{number32, ruleIn, pointsIn, headerOf}
+use Rattle.report.specs.Input.{number32, ruleIn, pointsIn, headerOf, headerBytes, mostBytes, pointBytes}
 use Rattle.report.specs.Output.{InstanceAsked}
 use Rattle.report.specs.Lines.{Large}
 use Rattle.report.specs.declared.header.Header.the-variants.{Read, Refused}
 
-pub header-short : (file : List ℕ) → length file < 8 → Refused 7 ≡ headerOf file
+pub header-short : (file : List ℕ) → length file < headerBytes → Refused 7 ≡ headerOf file
 unfolding headerOf
-header-short file h = rw (headerOf, lt-leb 8 (length file) h)
+header-short file h = rw (headerOf, lt-leb headerBytes (length file) h)
 
-module _ (file : List ℕ) {p : ℕ} (e : p ≡ number32 file 4) (long : 8 ≤ length file) where
+module _ (file : List ℕ) {p : ℕ} (e : p ≡ number32 file 4) (long : headerBytes ≤ length file) where
   points-are : pointsIn file ≡ p
   unfolding pointsIn
   points-are = sym e
 
   pub header-points : admission p ≡ OutOfRange → Refused 1 ≡ headerOf file
   unfolding headerOf
-  header-points h = rw (headerOf, le-leb 8 (length file) long, points-are, out-of-range p h)
+  header-points h = rw (headerOf, le-leb headerBytes (length file) long, points-are, out-of-range p h)
 
   module _ {i : Instance} (a : Admits p i) where
-    pub header-cut : length file < 8 + 8 * i .points → Refused 7 ≡ headerOf file
+    pub header-cut : length file < headerBytes + pointBytes * i .points → Refused 7 ≡ headerOf file
     unfolding headerOf
-    header-cut h = rw (headerOf, le-leb 8 (length file) long, points-are, a .range, lt-leb (8 + 8 * p) (length file) (omega (arith, a .points)))
+    header-cut h = rw (headerOf, le-leb headerBytes (length file) long, points-are, a .range, lt-leb (headerBytes + pointBytes * p) (length file) (omega (arith, a .points)))
 
-    pub header-long : 8 + 8 * i .points ≤ length file → 65448 < length file → Refused 7 ≡ headerOf file
+    pub header-long : headerBytes + pointBytes * i .points ≤ length file → mostBytes < length file → Refused 7 ≡ headerOf file
     unfolding headerOf
-    header-long h g = rw (headerOf, le-leb 8 (length file) long, points-are, a .range, le-leb (8 + 8 * p) (length file) (omega (arith, a .points)), lt-leb (length file) 65448 g)
+    header-long h g = rw (headerOf, le-leb headerBytes (length file) long, points-are, a .range, le-leb (headerBytes + pointBytes * p) (length file) (omega (arith, a .points)), lt-leb (length file) mostBytes g)
 
-    pub header-read : {r : ℕ} → 8 + 8 * i .points ≤ length file → length file ≤ 65448 → r ≡ number32 file 0 → Read r (i .points) ≡ headerOf file
+    pub header-read : {r : ℕ} → headerBytes + pointBytes * i .points ≤ length file → length file ≤ mostBytes → r ≡ number32 file 0 → Read r (i .points) ≡ headerOf file
     unfolding headerOf ruleIn
     header-read {r} h g q =
         ap (Read r) (a .points)
         ∙ ap (λ (x : ℕ). Read x p) q
-        ∙ rw (headerOf, le-leb 8 (length file) long, points-are, a .range, le-leb (8 + 8 * p) (length file) (omega (arith, a .points)), le-leb (length file) 65448 g)
+        ∙ rw (headerOf, le-leb headerBytes (length file) long, points-are, a .range, le-leb (headerBytes + pointBytes * p) (length file) (omega (arith, a .points)), le-leb (length file) mostBytes g)
 
 -- what the tests say of a header that was read
 passed : (a b c d : Bool) (r p : ℕ) {rule n : ℕ} → unless a (Refused 7) (unless b (Refused 1) (unless c (Refused 7) (unless d (Refused 7) (Read r p)))) ≡ Read rule n
@@ -58,9 +58,9 @@ passed false b c d r p h = absurd (let z : _≡_ {A = ℕ} 0 1 = cc in omega ari
 pub header-asked : {file out : List ℕ} {rule n : ℕ} → headerOf file ≡ Read rule n → Large out → InstanceAsked n file out
 unfolding headerOf
 header-asked {file} {out} {rule} {n} h l =
-    let k = passed (leb 8 (length file)) (inRange (pointsIn file)) (leb (8 + 8 * pointsIn file) (length file)) (leb (length file) 65448) (ruleIn file) (pointsIn file) h in
+    let k = passed (leb headerBytes (length file)) (inRange (pointsIn file)) (leb (headerBytes + pointBytes * pointsIn file) (length file)) (leb (length file) mostBytes) (ruleIn file) (pointsIn file) h in
     record {
       range = ap inRange (sym (k .2)) ∙ k .0;
-      whole = omega (arith, leb-true (8 + 8 * pointsIn file) (length file) (k .1), k .2);
+      whole = omega (arith, leb-true (headerBytes + pointBytes * pointsIn file) (length file) (k .1), k .2);
       large = l;
     }

@@ -9,7 +9,7 @@ use lib.Seq.{take-all}
 use borrow.Author.Tests.{eq-eqb}
 use Rattle.lengths.specs.Distance.{ruleOf}
 use Rattle.lengths.specs.Edge.{edgeCount}
-use Rattle.lengths.specs.Instance.{inRange}
+use Rattle.lengths.specs.Instance.{inRange, mostCoordinate}
 use Rattle.lengths.specs.Measure.{measured, measuredTable, tableAfter, leftBy, known, MeasuredAs}
 use Rattle.lengths.specs.Test.{unless, allAtMost}
 use Rattle.lengths.specs.declared.distance.NamedRule.{NamedRule}
@@ -19,7 +19,7 @@ use Rattle.lengths.specs.declared.measure.Measured.the-variants.{Done, Refused}
 use Rattle.marking.specs.Bytes.{whole16}
 use Rattle.marking.specs.Fresh.{freshMarks}
 use Rattle.marking.specs.Marking.{markSheet}
-use Rattle.report.specs.Input.{coordinatesIn, recordsIn}
+use Rattle.report.specs.Input.{coordinatesIn, recordsIn, headerBytes, pointBytes}
 use Rattle.report.specs.Text.{Wrote}
 use Rattle.report.specs.Lines.{lastLine}
 use Rattle.report.specs.Output.{textBy, measuredText, markedText}
@@ -28,25 +28,25 @@ use Rattle.report.specs.Output.{textBy, measuredText, markedText}
 abbrev later : NamedRule → Bool → Measured
 later named ok = unless (known named) (Refused 3 0) (unless ok (Refused 4 0) Done)
 
-refused-by : (named : NamedRule) (cs : List ℕ) (n : ℕ) (records : List ℕ) {k rec : ℕ} → later named (allAtMost 1000000 cs) ≡ Refused k rec → textBy named n cs records ≡ lastLine k
+refused-by : (named : NamedRule) (cs : List ℕ) (n : ℕ) (records : List ℕ) {k rec : ℕ} → later named (allAtMost mostCoordinate cs) ≡ Refused k rec → textBy named n cs records ≡ lastLine k
 refused-by Unknown cs n records {k} {rec} h = let e : 3 ≡ k = cc in ap lastLine e
-refused-by (Known rule) cs n records {k} {rec} h = go (allAtMost 1000000 cs) refl
+refused-by (Known rule) cs n records {k} {rec} h = go (allAtMost mostCoordinate cs) refl
   where
-    go : (b : Bool) → allAtMost 1000000 cs ≡ b → textBy (Known rule) n cs records ≡ lastLine k
+    go : (b : Bool) → allAtMost mostCoordinate cs ≡ b → textBy (Known rule) n cs records ≡ lastLine k
     go true e = absurd (let z : _≡_ {A = ℕ} 0 1 = let g : Done ≡ Refused k rec = rw e at h in cc in omega arith)
     go false e = let g : Refused 4 0 ≡ Refused k rec = rw e at h in let q : 4 ≡ k = cc in rw e (ap lastLine q)
 
-done-by : (named : NamedRule) (cs : List ℕ) (n : ℕ) (records table : List ℕ) → later named (allAtMost 1000000 cs) ≡ Done
+done-by : (named : NamedRule) (cs : List ℕ) (n : ℕ) (records table : List ℕ) → later named (allAtMost mostCoordinate cs) ≡ Done
     → textBy named n cs records ≡ markedText n (markSheet n (leftBy Done named n cs table) (freshMarks n) records)
 done-by Unknown cs n records table h = absurd (let z : _≡_ {A = ℕ} 0 1 = cc in omega arith)
-done-by (Known rule) cs n records table h = go (allAtMost 1000000 cs) refl
+done-by (Known rule) cs n records table h = go (allAtMost mostCoordinate cs) refl
   where
-    go : (b : Bool) → allAtMost 1000000 cs ≡ b → textBy (Known rule) n cs records ≡ markedText n (markSheet n (measuredTable rule cs n) (freshMarks n) records)
+    go : (b : Bool) → allAtMost mostCoordinate cs ≡ b → textBy (Known rule) n cs records ≡ markedText n (markSheet n (measuredTable rule cs n) (freshMarks n) records)
     go true e = rw e
     go false e = absurd (let z : _≡_ {A = ℕ} 0 1 = let g : Refused 4 0 ≡ Done = rw e at h in cc in omega arith)
 
 module _ (n rule : ℕ) (cs table : List ℕ) (range : inRange n ≡ true) (located : length cs ≡ 2 * n) (sized : length table ≡ edgeCount n) where
-  measured-later : measured n rule cs (length table) ≡ later (ruleOf rule) (allAtMost 1000000 cs)
+  measured-later : measured n rule cs (length table) ≡ later (ruleOf rule) (allAtMost mostCoordinate cs)
   unfolding measured
   measured-later = rw (measured, range, eq-eqb (length cs) (2 * n) located, eq-eqb (length table) (edgeCount n) sized)
 
@@ -72,12 +72,12 @@ module _ (n rule : ℕ) (file : List ℕ) {r : ℕ} {cs table left out done : Li
       ∙ refused-text n rule cs table range located sized (recordsIn n file) (subst (λ (b : Measured). MeasuredAs n rule cs table b left) e m))) w
 
   pub wrote-done : {a : Measured} → MeasuredAs n rule cs table a left → a ≡ Done
-      → Wrote out 0 (markedText n (markSheet n left (freshMarks n) (whole16 (take (length file - (8 + 8 * n)) (drop (8 + 8 * n) file))))) r done
+      → Wrote out 0 (markedText n (markSheet n left (freshMarks n) (whole16 (take (length file - (headerBytes + pointBytes * n)) (drop (headerBytes + pointBytes * n) file))))) r done
       → Wrote out 0 (measuredText rule n (coordinatesIn n file) (recordsIn n file)) r done
   unfolding recordsIn
   wrote-done m e w =
-      let rest : take (length file - (8 + 8 * n)) (drop (8 + 8 * n) file) ≡ drop (8 + 8 * n) file =
-      take-all (length file - (8 + 8 * n)) (drop (8 + 8 * n) file) (omega (arith, length-drop (8 + 8 * n) file)) in
+      let rest : take (length file - (headerBytes + pointBytes * n)) (drop (headerBytes + pointBytes * n) file) ≡ drop (headerBytes + pointBytes * n) file =
+      take-all (length file - (headerBytes + pointBytes * n)) (drop (headerBytes + pointBytes * n) file) (omega (arith, length-drop (headerBytes + pointBytes * n) file)) in
       subst (λ (t : List ℕ). Wrote out 0 t r done)
       (ap (λ (l : List ℕ). markedText n (markSheet n left (freshMarks n) (whole16 l))) rest
       ∙ sym

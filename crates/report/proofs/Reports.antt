@@ -7,6 +7,7 @@ use lib.ListN.{length, take, length-take, take-append-drop}
 use lib.Seq.{length-take-le}
 use Rattle.lengths.specs.Edge.{edgeCount}
 use Rattle.lengths.proofs.Instances.{in-range}
+use Rattle.lengths.specs.Instance.{mostEdges, mostPoints}
 use Rattle.sheets.specs.Results.{resultOf}
 use Rattle.sheets.specs.declared.verdict.Verdict.{Verdict}
 use Rattle.sheets.specs.declared.verdict.Verdict.the-variants.{Accepted, Refused}
@@ -41,16 +42,16 @@ pub marking-asked : {n : ℕ} {file out cs table marks left : List ℕ} → Inst
 marking-asked p q h = record { range = p .range; measured = h ∙ q .measured; marked = q .marked; large = p .large }
 
 -- an instance's coordinates, lengths and marks have their places
-pub numbers-few : {n : ℕ} {file out : List ℕ} → InstanceAsked n file out → 2 * n ≤ 360
+pub numbers-few : {n : ℕ} {file out : List ℕ} → InstanceAsked n file out → 2 * n ≤ 2 * mostPoints
 numbers-few {n} p = omega (arith, in-range n (p .range))
 
-pub count-few : {n e : ℕ} {file out : List ℕ} → InstanceAsked n file out → e ≡ edgeCount n → e ≤ 16110
+pub count-few : {n e : ℕ} {file out : List ℕ} → InstanceAsked n file out → e ≡ edgeCount n → e ≤ mostEdges
 count-few {n} p h = omega (arith, edges-few (in-range n (p .range) .1))
 
 pub part-length : (k : ℕ) (l : List ℕ) → k ≤ length l → k ≡ length (take k l)
 part-length k l h = sym (length-take-le k l h)
 
-pub places : {n e : ℕ} {file out : List ℕ} (cs table marks : List ℕ) → InstanceAsked n file out → e ≡ edgeCount n → length cs ≡ 360 → length table ≡ 16110 → length marks ≡ 16110
+pub places : {n e : ℕ} {file out : List ℕ} (cs table marks : List ℕ) → InstanceAsked n file out → e ≡ edgeCount n → length cs ≡ 2 * mostPoints → length table ≡ mostEdges → length marks ≡ mostEdges
     → Places n (take (2 * n) cs) (take e table) (take e marks)
 places {n} {e} cs table marks p h a b c = record {
   located = length-take-le (2 * n) cs (omega (arith, numbers-few p));

@@ -12,7 +12,7 @@ use Rattle.lengths.specs.Edge.{edgeCount}
 use Rattle.lengths.specs.Instance.{inRange}
 use Rattle.argument.specs.Sheet.{Result}
 use Rattle.sheets.specs.Results.{resultOf}
-use Rattle.sheets.specs.Sheets.{wholeSheet}
+use Rattle.sheets.specs.Sheets.{wholeSheet, mostNumbers, recordSize}
 use Rattle.sheets.specs.declared.verdict.Verdict.{Verdict}
 use Rattle.marking.specs.Bytes.{numbers16, numbers32, whole16, whole32, fitting16, fitting32, Decoded}
 use Rattle.marking.specs.Fresh.{freshAnswer, freshMarks, FreshAs}
@@ -22,7 +22,7 @@ use Rattle.marking.specs.declared.tests.Tested.{Tested}
 use Rattle.marking.specs.declared.tests.Tested.the-variants as tests
 use Rattle.marking.specs.declared.fresh.Fresh.{Fresh}
 use Rattle.report.specs.Text.{Wrote}
-use Rattle.report.specs.Input.{coordinatesIn}
+use Rattle.report.specs.Input.{coordinatesIn, headerBytes, pointBytes}
 use Rattle.report.specs.Output.{markedText}
 
 length-16 : (bytes : List ℕ) → length (numbers16 bytes) ≡ length bytes / 2
@@ -50,31 +50,31 @@ fits-32 : (bytes : List ℕ) (k : ℕ) → length bytes ≡ 4 * k → fitting32 
 unfolding fitting32 whole32
 fits-32 bytes k h = rw (fitting32, le-leb (length bytes / 4) k (omega arith), whole32, eq-eqb (length bytes % 4) 0 (omega arith))
 
-pub coordinates-read : (n : ℕ) (file : List ℕ) {r : ℕ} {cs left : List ℕ} → 8 + 8 * n ≤ length file → length cs ≡ 2 * n
-    → Decoded (fitting32 (take (8 + 8 * n - 8) (drop 8 file)) (length cs)) cs r left → left ≡ coordinatesIn n file
+pub coordinates-read : (n : ℕ) (file : List ℕ) {r : ℕ} {cs left : List ℕ} → headerBytes + pointBytes * n ≤ length file → length cs ≡ 2 * n
+    → Decoded (fitting32 (take (headerBytes + pointBytes * n - headerBytes) (drop headerBytes file)) (length cs)) cs r left → left ≡ coordinatesIn n file
 unfolding coordinatesIn
 coordinates-read n file {r} {cs} {left} whole located d =
-    let e : 8 + 8 * n - 8 ≡ 8 * n = omega arith in
-    let l : length (take (8 + 8 * n - 8) (drop 8 file)) ≡ 4 * length cs =
-    omega (arith, length-take-le (8 + 8 * n - 8) (drop 8 file) (omega (arith, length-drop 8 file)), located) in
-    let f : fitting32 (take (8 + 8 * n - 8) (drop 8 file)) (length cs) ≡ numbers32 (take (8 + 8 * n - 8) (drop 8 file)) = fits-32 (take (8 + 8 * n - 8) (drop 8 file)) (length cs) l in
-    decoded-whole d (ap length f ∙ omega (arith, length-32 (take (8 + 8 * n - 8) (drop 8 file)), l)) ∙ f ∙ ap (λ (k : ℕ). numbers32 (take k (drop 8 file))) e
+    let e : headerBytes + pointBytes * n - headerBytes ≡ pointBytes * n = omega arith in
+    let l : length (take (headerBytes + pointBytes * n - headerBytes) (drop headerBytes file)) ≡ 4 * length cs =
+    omega (arith, length-take-le (headerBytes + pointBytes * n - headerBytes) (drop headerBytes file) (omega (arith, length-drop headerBytes file)), located) in
+    let f : fitting32 (take (headerBytes + pointBytes * n - headerBytes) (drop headerBytes file)) (length cs) ≡ numbers32 (take (headerBytes + pointBytes * n - headerBytes) (drop headerBytes file)) = fits-32 (take (headerBytes + pointBytes * n - headerBytes) (drop headerBytes file)) (length cs) l in
+    decoded-whole d (ap length f ∙ omega (arith, length-32 (take (headerBytes + pointBytes * n - headerBytes) (drop headerBytes file)), l)) ∙ f ∙ ap (λ (k : ℕ). numbers32 (take k (drop headerBytes file))) e
 
 pub fresh-left : {n : ℕ} {marks left : List ℕ} {answer : Fresh} → inRange n ≡ true → length marks ≡ edgeCount n → FreshAs n marks answer left → left ≡ freshMarks n
 unfolding freshAnswer
 fresh-left {n} {marks} range marked f = f .marks-left ∙ rw (freshAnswer, range, eq-eqb (length marks) (edgeCount n) marked)
 
--- more than 4,000 records are refused as none are
+-- more than `mostRecords` records are refused as none are
 and-false : (a b : Bool) → (a && (b && false)) ≡ false
 and-false true true = refl
 and-false true false = refl
 and-false false b = refl
 
-too-many : (numbers : ℕ) → 32000 < numbers → wholeSheet numbers ≡ false
+too-many : (numbers : ℕ) → mostNumbers < numbers → wholeSheet numbers ≡ false
 unfolding wholeSheet
-too-many numbers h = rw (wholeSheet, lt-leb numbers 32000 h) (and-false (not (eqb numbers 0)) (eqb (numbers % 8) 0))
+too-many numbers h = rw (wholeSheet, lt-leb numbers mostNumbers h) (and-false (not (eqb numbers 0)) (eqb (numbers % recordSize) 0))
 
-none-whole : (bytes : List ℕ) → 32000 < length bytes / 2 → wholeSheet (length (whole16 bytes)) ≡ false
+none-whole : (bytes : List ℕ) → mostNumbers < length bytes / 2 → wholeSheet (length (whole16 bytes)) ≡ false
 unfolding whole16 wholeSheet
 none-whole bytes h = go (eqb (length bytes % 2) 0) refl
   where
@@ -87,19 +87,19 @@ unfolding wholeSheet
 same-refusal (tests.Refused number) table marks s h = refl
 same-refusal (tests.Points n) table marks s h = rw h
 
-pub fitting-marked : (n : ℕ) (table marks bytes : List ℕ) → markSheet n table marks (fitting16 bytes 32000) ≡ markSheet n table marks (whole16 bytes)
+pub fitting-marked : (n : ℕ) (table marks bytes : List ℕ) → markSheet n table marks (fitting16 bytes mostNumbers) ≡ markSheet n table marks (whole16 bytes)
 unfolding markSheet fitting16
-fitting-marked n table marks bytes = go (leb (length bytes / 2) 32000) refl
+fitting-marked n table marks bytes = go (leb (length bytes / 2) mostNumbers) refl
   where
-    go : (b : Bool) → leb (length bytes / 2) 32000 ≡ b → markSheet n table marks (fitting16 bytes 32000) ≡ markSheet n table marks (whole16 bytes)
+    go : (b : Bool) → leb (length bytes / 2) mostNumbers ≡ b → markSheet n table marks (fitting16 bytes mostNumbers) ≡ markSheet n table marks (whole16 bytes)
     go true e = ap (markSheet n table marks) (rw (fitting16, e))
     go false e =
         ap (markSheet n table marks) (rw (fitting16, e))
-        ∙ same-refusal (tested n table marks) table marks (whole16 bytes) (none-whole bytes (leb-false (length bytes / 2) 32000 e))
+        ∙ same-refusal (tested n table marks) table marks (whole16 bytes) (none-whole bytes (leb-false (length bytes / 2) mostNumbers e))
 
 -- the text of the marked records
 pub marked-wrote : (n : ℕ) (table records : List ℕ) (v : Verdict) (left : List ℕ) {r : ℕ} {marks sheet out done : List ℕ} → resultOf v left ≡ markSheet n table marks sheet → marks ≡ freshMarks n
-    → sheet ≡ fitting16 records 32000 → Wrote out 0 (markedText n (resultOf v left)) r done
+    → sheet ≡ fitting16 records mostNumbers → Wrote out 0 (markedText n (resultOf v left)) r done
     → Wrote out 0 (markedText n (markSheet n table (freshMarks n) (whole16 records))) r done
 marked-wrote n table records v left {r} {marks} {sheet} {out} {done} is fresh decoded w =
     let e : resultOf v left ≡ markSheet n table (freshMarks n) (whole16 records) =

@@ -10,6 +10,7 @@ use lib.Seq.{drop-cons, length-take-le}
 use borrow.Author.Tests.{eq-eqb, ne-eqb}
 use Rattle.lengths.specs.Edge.{Edge, edge, edges, edgeCount, tri, placeUp, IsEdgeUp}
 use Rattle.lengths.proofs.Edges.{length-edges, edges-at, next-in-row, next-row}
+use Rattle.lengths.specs.Instance.{mostPoints}
 use Rattle.report.specs.Text.{Room, Wrote}
 use Rattle.report.specs.Lines.{struckLine, markLine, markLines, struckLines, StrikesAsked}
 use Rattle.report.proofs.Writing.{wrote-none, rest-on}
@@ -94,7 +95,7 @@ module _ {n at : ℕ} {marks out₀ out : List ℕ} {a b i next : ℕ} (p : Stri
     );
   }
 
-  pub row-small : (a + 1 ≤ 180) × (b ≤ 180)
+  pub row-small : (a + 1 ≤ mostPoints) × (b ≤ mostPoints)
   row-small = (omega (arith, p .few, at-edge .0), omega (arith, p .few, at-edge .0))
 
   module _ {r : ℕ} {left : List ℕ} (w : Wrote out next (markLine (getD marks i 0) a b) r left) where

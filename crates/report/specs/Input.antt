@@ -3,11 +3,22 @@ use Prim.Native.Nat.{ℕ, _+_, _*_, _≤_}
 use mathlib.Core.List.{List}
 use lib.Dec.{leb}
 use lib.ListN.{length, take, drop, getD}
-use Rattle.lengths.specs.Instance.{inRange}
+use Rattle.lengths.specs.Instance.{inRange, mostPoints}
 use Rattle.lengths.specs.Test.{unless}
+use Rattle.sheets.specs.Sheets.{mostNumbers}
 use Rattle.marking.specs.Bytes.{numbers32, whole16}
 use Rattle.report.specs.declared.header.Header.{Header}
 use Rattle.report.specs.declared.header.Header.the-variants.{Read, Refused}
+
+-- "rule and n (32 bits each), 2n coordinates (32 bits each, first all of point 1), then records to the end; at most 65,448 bytes"
+abbrev pub headerBytes : ℕ
+headerBytes = 8
+
+abbrev pub pointBytes : ℕ
+pointBytes = 8
+
+abbrev pub mostBytes : ℕ
+mostBytes = headerBytes + pointBytes * mostPoints + 2 * mostNumbers
 
 -- the 32-bit number whose four bytes, "all little-endian", begin at a place
 unfoldable pub number32 : List ℕ → ℕ → ℕ
@@ -21,19 +32,19 @@ pointsIn file = number32 file 4
 
 -- the 2n coordinates of 32 bits each
 unfoldable pub coordinatesIn : ℕ → List ℕ → List ℕ
-coordinatesIn n file = numbers32 (take (8 * n) (drop 8 file))
+coordinatesIn n file = numbers32 (take (pointBytes * n) (drop headerBytes file))
 
 -- what follows them to the end, as numbers of 16 bits: none where it is no whole number of them
 unfoldable pub recordsIn : ℕ → List ℕ → List ℕ
-recordsIn n file = whole16 (drop (8 + 8 * n) file)
+recordsIn n file = whole16 (drop (headerBytes + pointBytes * n) file)
 
 -- "A file under 8 bytes gets 7. Once n has passed test 1, a file that ends inside the coordinates or is longer than 65,448 bytes gets 7"
 unfoldable pub headerOf : List ℕ → Header
 headerOf file =
-    unless (leb 8 (length file)) (Refused 7)
+    unless (leb headerBytes (length file)) (Refused 7)
     (unless (inRange (pointsIn file)) (Refused 1)
-    (unless (leb (8 + 8 * pointsIn file) (length file)) (Refused 7)
-    (unless (leb (length file) 65448) (Refused 7)
+    (unless (leb (headerBytes + pointBytes * pointsIn file) (length file)) (Refused 7)
+    (unless (leb (length file) mostBytes) (Refused 7)
     (Read (ruleIn file) (pointsIn file)))))
 
 -- what `number32` asks

@@ -6,6 +6,7 @@ use mathlib.Core.List.{List, [], _∷_, _++_}
 use lib.Dec.{eqb}
 use lib.ListN.{length}
 use Rattle.lengths.specs.Edge.{Edge, edge, edges, edgeCount}
+use Rattle.lengths.specs.Instance.{mostPoints}
 use Rattle.rules.specs.EdgeSet.{count}
 use Rattle.report.specs.Text.{field, pointsWord, edgesWord, struckWord, space, verdictWord, recordWord, openWord, lineEnd, Room}
 
@@ -43,21 +44,24 @@ lastLine number = verdictLine number 0 0
 unfoldable pub allLines : ℕ → ℕ → ℕ → List ℕ → List ℕ
 allLines n number rec marks = pointsLine n ++ struckLines n marks ++ verdictLine number rec (count 1 marks)
 
--- the room that every text of the program fits
+-- the room that every text of the program fits: `mostEdges` lines of at most 15 bytes, and two more
+abbrev pub textRoom : ℕ
+textRoom = 262144
+
 abbrev pub Large : List ℕ → Type 0
-Large out = 262144 ≤ length out
+Large out = textRoom ≤ length out
 
 -- what the lines of the strikes ask: a mark for each edge, and room
 pub record StrikesAsked (n : ℕ) (marks out : List ℕ) (at : ℕ) : Type 0 where
   pub some : 2 ≤ n
-  pub few : n ≤ 180
+  pub few : n ≤ mostPoints
   pub marked : length marks ≡ edgeCount n
   pub room : Room out at (struckLines n marks)
 
 -- what all lines ask
 pub record LinesAsked (n : ℕ) (marks out : List ℕ) : Type 0 where
   pub some : 2 ≤ n
-  pub few : n ≤ 180
+  pub few : n ≤ mostPoints
   pub marked : length marks ≡ edgeCount n
   pub large : Large out
 

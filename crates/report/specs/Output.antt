@@ -6,7 +6,7 @@ use mathlib.Core.List.{List, _++_}
 use lib.ListN.{length, take, drop}
 use Rattle.lengths.specs.Distance.{ruleOf}
 use Rattle.lengths.specs.Edge.{edgeCount}
-use Rattle.lengths.specs.Instance.{inRange}
+use Rattle.lengths.specs.Instance.{inRange, mostCoordinate}
 use Rattle.lengths.specs.Measure.{measuredTable}
 use Rattle.lengths.specs.Test.{unless, allAtMost}
 use Rattle.lengths.specs.declared.distance.NamedRule.{NamedRule}
@@ -15,7 +15,7 @@ use Rattle.argument.specs.Verdict.{Verdict, accepted, refused}
 use Rattle.argument.specs.Sheet.{Result}
 use Rattle.marking.specs.Fresh.{freshMarks}
 use Rattle.marking.specs.Marking.{markSheet}
-use Rattle.report.specs.Input.{headerOf, coordinatesIn, recordsIn}
+use Rattle.report.specs.Input.{headerBytes, pointBytes, headerOf, coordinatesIn, recordsIn}
 use Rattle.report.specs.Lines.{lastLine, allLines, Large}
 use Rattle.report.specs.declared.header.Header.{Header}
 use Rattle.report.specs.declared.header.Header.the-variants.{Read, Refused}
@@ -32,7 +32,7 @@ markedText n result = linesFor n (result .verdict) (result .marks)
 abbrev pub textBy : NamedRule → ℕ → List ℕ → List ℕ → List ℕ
 textBy Unknown n coordinates records = lastLine 3
 textBy (Known rule) n coordinates records =
-    unless (allAtMost 1000000 coordinates) (lastLine 4)
+    unless (allAtMost mostCoordinate coordinates) (lastLine 4)
     (markedText n (markSheet n (measuredTable rule coordinates n) (freshMarks n) records))
 
 unfoldable pub measuredText : ℕ → ℕ → List ℕ → List ℕ → List ℕ
@@ -57,7 +57,7 @@ pub record MarkingAsked (n : ℕ) (table marks out : List ℕ) : Type 0 where
 -- what an instance whose header was read asks: its bytes, a place for each coordinate and each edge, and room
 pub record InstanceAsked (n : ℕ) (file out : List ℕ) : Type 0 where
   pub range : inRange n ≡ true
-  pub whole : 8 + 8 * n ≤ length file
+  pub whole : headerBytes + pointBytes * n ≤ length file
   pub large : Large out
 
 pub record Places (n : ℕ) (coordinates table marks : List ℕ) : Type 0 where

@@ -2,6 +2,7 @@
 use lengths::instance::Admission;
 use lengths::instance::Instance;
 use lengths::refusal;
+use sheets::sheet::Sheet;
 ghost use mathlib.Core.Path.{_≡_};
 ghost use Rattle.marking.specs.Bytes.{ByteIs};
 ghost use Rattle.report.specs.Input.{Four, headerOf};
@@ -37,8 +38,10 @@ impl Header {
     // How many bytes the coordinates of a point have.
     pub const POINT_BYTES: usize = 8;
 
-    // The header, the coordinates of 180 points and 4,000 records.
-    pub const MOST_BYTES: usize = 65_448;
+    // The header, the coordinates of most points and the numbers of most records.
+    pub const MOST_BYTES: usize = Header::BYTES
+        + Header::POINT_BYTES * Instance::MOST_POINTS as usize
+        + 2 * Sheet::MOST_NUMBERS;
 
     // The tests of the file: whole header, n, whole coordinates, not too long.
     pub fn read(file: &[u8]) -> Header

@@ -5,12 +5,13 @@ use lengths::edge;
 use lengths::refusal;
 ghost use Prim.Native.Nat.{_≤_};
 ghost use lib.ListN.{length};
+ghost use Rattle.lengths.specs.Instance.{mostEdges, mostPoints};
 ghost use Rattle.report.specs.Text.{Room, Wrote};
 ghost use Rattle.report.specs.Lines.{pointsLine, struckLine, markLine, struckLines, verdictLine, lastLine, allLines, Large, StrikesAsked, LinesAsked, OpenIs};
 
 // Line one: n and the edge count.
 fn put_points(n: u16, out: &mut [u8], at: usize) -> usize
-    requires { ⌜ (n ≤ 180) × Room (now out) at (pointsLine n) ⌝ }
+    requires { ⌜ (n ≤ mostPoints) × Room (now out) at (pointsLine n) ⌝ }
     ensures { λ r. ⌜ Wrote (now (out .entry)) at (pointsLine n) r (now (out .exit)) ⌝ }
 {
     let edges = edge::count(n) as u16;
@@ -64,7 +65,7 @@ fn put_strikes(n: u16, marks: &[u8], out: &mut [u8], at: usize) -> usize
 
 // How many edges are open.
 fn open_edges(marks: &[u8]) -> u16
-    requires { ⌜ length (now marks) ≤ 16110 ⌝ }
+    requires { ⌜ length (now marks) ≤ mostEdges ⌝ }
     ensures { λ r. ⌜ OpenIs (now (marks .entry)) r ⌝ }
 {
     let mut opens: u16 = 0;

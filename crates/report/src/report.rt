@@ -3,6 +3,7 @@ use crate::header::Header;
 use crate::lines::put_all;
 use crate::lines::put_refusal;
 use lengths::edge;
+use lengths::instance::Instance;
 use lengths::measure::Measured;
 use lengths::measure::measure;
 use lengths::refusal;
@@ -21,12 +22,10 @@ ghost use Rattle.report.specs.Text.{Wrote};
 ghost use Rattle.report.specs.Lines.{LinesAsked};
 ghost use Rattle.report.specs.Output.{markedText, measuredText, MarkingAsked, InstanceAsked, Places, Reported};
 
-// Room for the coordinates and the edges of 180 points.
-const COORDINATES: usize = 360;
+// Room for the coordinates of most points.
+const COORDINATES: usize = 2 * Instance::MOST_POINTS as usize;
 
-const EDGES: usize = 16_110;
-
-// Room for every text: 16,110 lines of at most 15 bytes, and two more.
+// Room for every text: MOST_EDGES lines of at most 15 bytes, and two more.
 pub const TEXT: usize = 262_144;
 
 // All lines for a verdict: its number and record, or 0 and 0.
@@ -50,7 +49,7 @@ fn mark_records(n: u16, table: &[u32], records: &[u8], marks: &mut [u8], out: &m
     ensures { λ r. ⌜ Wrote (now (out .entry)) 0 (markedText n (markSheet n (now (table .entry)) (freshMarks n) (whole16 (now (records .entry))))) r (now (out .exit)) ⌝ }
 {
     fresh_marks(n as u32, marks);
-    let mut sheet = [0u16; Sheet::MOST_RECORDS * Sheet::RECORD_SIZE];
+    let mut sheet = [0u16; Sheet::MOST_NUMBERS];
     let size = decode16(records, &mut sheet);
     let verdict = mark_sheet(n as u32, table, marks, &sheet[..size]);
     put_marked(n, verdict, marks, out)
@@ -84,8 +83,8 @@ fn report_instance(rule: u32, n: u16, file: &[u8], out: &mut [u8]) -> usize
     ensures { λ r. ⌜ Wrote (now (out .entry)) 0 (measuredText rule n (coordinatesIn n (now (file .entry))) (recordsIn n (now (file .entry)))) r (now (out .exit)) ⌝ }
 {
     let mut coordinates = [0u32; COORDINATES];
-    let mut table = [0u32; EDGES];
-    let mut marks = [0u8; EDGES];
+    let mut table = [0u32; Instance::MOST_EDGES];
+    let mut marks = [0u8; Instance::MOST_EDGES];
     let numbers = 2 * (n as usize);
     let edges = edge::count(n);
     measure_file(

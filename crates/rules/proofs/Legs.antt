@@ -10,30 +10,31 @@ use lib.ListN.{length, getD, set, replicate, length-set, length-replicate, getD-
 use lib.Seq.{getD-set-same, getD-set-other}
 use Rattle.lengths.specs.Edge.{Point, IsEdgeUp, Placed, tri, place, placeUp}
 use Rattle.lengths.proofs.Edges.{tri-row, placeUp-sum, placeUp-below, edgeCount-tri, edges-fit, place-up, place-down}
-use Rattle.rules.specs.Split.{legOf, narrowedBy, LegList, rowOf, OpenAsked, OpenFrom, OpenBelow, OpenLegs, NarrowAsked, Narrowed}
+use Rattle.lengths.specs.Instance.{mostLength, mostPoints, pointPlaces}
+use Rattle.rules.specs.Split.{legOf, narrowedBy, LegList, rowOf, OpenAsked, OpenFrom, OpenBelow, OpenLegs, NarrowAsked, Narrowed, far}
 use Rattle.rules.specs.Mark.{openIn}
 use Rattle.rules.proofs.Splits.{legOf-self, legOf-open, legOf-shut, narrowed-near}
 
 -- lists of legs
 
-pub far-legs : LegList (replicate 181 10000000)
-far-legs = record { size = length-replicate {A = ℕ} 181 10000000; near = near }
+pub far-legs : LegList (replicate pointPlaces far)
+far-legs = record { size = length-replicate {A = ℕ} pointPlaces far; near = near }
   where
-    near : (x : ℕ) → getD (replicate 181 10000000) x 0 ≤ 10000000
-    near x = elim (decLt x 181) [
-      | yes h ↦ omega (arith, getD-replicate {A = ℕ} 181 x 10000000 0 h)
-      | no h ↦ omega (arith, List·getD-eq-default {A = ℕ} (replicate 181 10000000) 0 {n = x} (omega (arith, length-replicate {A = ℕ} 181 10000000)))
+    near : (x : ℕ) → getD (replicate pointPlaces far) x 0 ≤ far
+    near x = elim (decLt x pointPlaces) [
+      | yes h ↦ omega (arith, getD-replicate {A = ℕ} pointPlaces x far 0 h)
+      | no h ↦ omega (arith, List·getD-eq-default {A = ℕ} (replicate pointPlaces far) 0 {n = x} (omega (arith, length-replicate {A = ℕ} pointPlaces far)))
     ]
 
 -- storing a leg
-module _ {legs : List ℕ} (s : LegList legs) (x m : ℕ) (inside : x ≤ 180) where
+module _ {legs : List ℕ} (s : LegList legs) (x m : ℕ) (inside : x ≤ mostPoints) where
   stored-here : getD (set legs x m) x 0 ≡ m
   stored-here = getD-set-same legs x m 0 (omega (arith, s .size))
 
-  stored-list : m ≤ 10000000 → LegList (set legs x m)
+  stored-list : m ≤ far → LegList (set legs x m)
   stored-list near = record { size = length-set legs x m ∙ s .size; near = below }
     where
-      below : (i : ℕ) → getD (set legs x m) i 0 ≤ 10000000
+      below : (i : ℕ) → getD (set legs x m) i 0 ≤ far
       below i = elim (ℕ-discrete i x) [
         | yes q ↦ omega (arith, ap (λ (j : ℕ). getD (set legs x m) j 0) q, stored-here)
         | no q ↦ omega (arith, getD-set-other legs x i m 0 q, s .near i)
@@ -47,16 +48,16 @@ module _ {legs : List ℕ} (s : LegList legs) (x m : ℕ) (inside : x ≤ 180) w
 
 -- legs where K is empty
 
-choice : (t : Bool) {m : ℕ} → m ≤ 2000000 → cond t m 10000000 ≤ 10000000
+choice : (t : Bool) {m : ℕ} → m ≤ mostLength → cond t m far ≤ far
 choice true h = omega arith
 choice false h = omega arith
 
 away-leg : (rows : List ℕ) (n : ℕ) (marks : List ℕ) (c at x : ℕ) → (x ≡ c → ⊥)
-    → cond (eqb (getD marks (place n c x) 0) 1) (getD rows (at + x) 0) 10000000 ≡ legOf (rowOf rows at) (openIn n marks) [] c x
+    → cond (eqb (getD marks (place n c x) 0) 1) (getD rows (at + x) 0) far ≡ legOf (rowOf rows at) (openIn n marks) [] c x
 unfolding openIn rowOf
 away-leg rows n marks c at x h = go (openIn n marks c x) refl
   where
-    go : (t : Bool) → openIn n marks c x ≡ t → cond (openIn n marks c x) (rowOf rows at c x) 10000000 ≡ legOf (rowOf rows at) (openIn n marks) [] c x
+    go : (t : Bool) → openIn n marks c x ≡ t → cond (openIn n marks c x) (rowOf rows at c x) far ≡ legOf (rowOf rows at) (openIn n marks) [] c x
     go true e = rw e (sym (legOf-open (rowOf rows at) (openIn n marks) c x h e))
     go false e = rw e (sym (legOf-shut (rowOf rows at) (openIn n marks) c x h e))
 
@@ -70,10 +71,10 @@ open-self {n} {marks} {rows} {c} {at} {legs} a s = record {
   rest = λ i g k. s .rest i (omega arith) k;
 }
 
-pub open-start : {n : ℕ} {marks rows : List ℕ} {c at : ℕ} → OpenAsked n marks rows c at → OpenFrom n marks rows c at (replicate 181 10000000) 1
+pub open-start : {n : ℕ} {marks rows : List ℕ} {c at : ℕ} → OpenAsked n marks rows c at → OpenFrom n marks rows c at (replicate pointPlaces far) 1
 open-start a = record {
   asked = a;
-  below = record { list = far-legs; done = λ i g k. absurd (omega arith); rest = λ i g k. getD-replicate {A = ℕ} 181 i 10000000 0 (omega arith) };
+  below = record { list = far-legs; done = λ i g k. absurd (omega arith); rest = λ i g k. getD-replicate {A = ℕ} pointPlaces i far 0 (omega arith) };
 }
 
 pub open-middle : {n : ℕ} {marks rows : List ℕ} {c at : ℕ} {legs : List ℕ} → OpenAsked n marks rows c at → OpenBelow n marks rows c at legs c → OpenFrom n marks rows c at legs (c + 1)
@@ -84,20 +85,20 @@ open-end s = record { list = s .list; each = λ x p. s .done x (p .low) (omega (
 
 -- one more leg, of a point that is not c, by the mark that stands at the place of its edge to c
 open-on : {n : ℕ} {marks rows : List ℕ} {c at : ℕ} {legs : List ℕ} {x spot m : ℕ} → OpenAsked n marks rows c at → OpenBelow n marks rows c at legs x → Point n x → (x ≡ c → ⊥)
-    → spot ≡ place n c x → m ≡ cond (eqb (getD marks spot 0) 1) (getD rows (at + x) 0) 10000000 → OpenBelow n marks rows c at (set legs x m) (x + 1)
+    → spot ≡ place n c x → m ≡ cond (eqb (getD marks spot 0) 1) (getD rows (at + x) 0) far → OpenBelow n marks rows c at (set legs x m) (x + 1)
 open-on {n} {marks} {rows} {c} {at} {legs} {x} {spot} {m} a s p away e is = record {
   list = stored-list (s .list) x m inside near;
   done = stored-below (s .list) x m inside (s .done) leg;
   rest = λ i g k. getD-set-other legs x i m 0 (λ r. omega arith) ∙ s .rest i (omega arith) k;
 }
   where
-    inside : x ≤ 180
+    inside : x ≤ mostPoints
     inside = omega (arith, p .high, a .few)
 
     leg : m ≡ legOf (rowOf rows at) (openIn n marks) [] c x
-    leg = is ∙ ap (λ (j : ℕ). cond (eqb (getD marks j 0) 1) (getD rows (at + x) 0) 10000000) e ∙ away-leg rows n marks c at x away
+    leg = is ∙ ap (λ (j : ℕ). cond (eqb (getD marks j 0) 1) (getD rows (at + x) 0) far) e ∙ away-leg rows n marks c at x away
 
-    near : m ≤ 10000000
+    near : m ≤ far
     near = rw is (choice (eqb (getD marks spot 0) 1) (a .row .small x p))
 
 -- the points below c: `next` is one more than the place of the edge xc
@@ -129,7 +130,7 @@ module _ {n : ℕ} {marks rows : List ℕ} {c at : ℕ} {legs : List ℕ} {next 
   pub below-small : next < 2 ^ 32
   below-small = omega (arith, below-place, placeUp-below below-edge, edges-fit {n = n} (omega (arith, s .asked .few)))
 
-  pub below-on : {m : ℕ} → m ≡ cond (eqb (getD marks (next - 1) 0) 1) (getD rows (at + x) 0) 10000000
+  pub below-on : {m : ℕ} → m ≡ cond (eqb (getD marks (next - 1) 0) 1) (getD rows (at + x) 0) far
       → OpeningBelow n marks rows c at (set legs x m) (next + (n - x - 1)) (x + 1)
   below-on is =
       let t : n + 1 - (x + 1) ≡ n - x = omega arith in
@@ -176,7 +177,7 @@ module _ {n : ℕ} {marks rows : List ℕ} {c at : ℕ} {legs : List ℕ} {first
   pub above-inside : first + i < length marks
   above-inside = omega (arith, above-place, placeUp-below above-here, s .asked .marked, edgeCount-tri n)
 
-  pub above-on : {m : ℕ} → m ≡ cond (eqb (getD marks (first + i) 0) 1) (getD rows (at + (c + 1 + i)) 0) 10000000
+  pub above-on : {m : ℕ} → m ≡ cond (eqb (getD marks (first + i) 0) 1) (getD rows (at + (c + 1 + i)) 0) far
       → OpeningAbove n marks rows c at (set legs (c + 1 + i) m) first (i + 1)
   above-on {m} is =
       let t : c + 1 + i + 1 ≡ c + 1 + (i + 1) = omega arith in
@@ -227,7 +228,7 @@ module _ {n : ℕ} {rows legs₀ : List ℕ} {ps qs pq cp cq : ℕ} {legs : List
   pub narrowing-on : {m : ℕ} → m ≡ narrowedBy (getD legs x 0) (getD legs x 0 + pq) (cp + getD rows (qs + x) 0) (cq + getD rows (ps + x) 0)
       → Narrowing n rows legs₀ ps qs pq cp cq (set legs x m) (x + 1)
   narrowing-on {m} e =
-      let inside : x ≤ 180 = omega (arith, a .few) in
+      let inside : x ≤ mostPoints = omega (arith, a .few) in
       record {
         low = omega arith;
         within = omega arith;

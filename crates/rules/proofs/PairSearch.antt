@@ -9,6 +9,7 @@ use native.Mathlib.Omega.{arith}
 use native.Mathlib.Numerals.{add-one}
 use lib.ListN.{getD}
 use Rattle.lengths.specs.Edge.{Edge, edge, Point, IsEdgeUp, row, rows}
+use Rattle.lengths.specs.Instance.{mostPoints}
 use Rattle.lengths.specs.Table.{lengthOf}
 use Rattle.rules.specs.PairTest.{feasible?}
 use Rattle.rules.specs.Near.{neighbours, within?, beyond}
@@ -114,7 +115,7 @@ module _ {n : ℕ} {table legs near rank : List ℕ} {bound : ℕ} {ways : List 
         stored = w .asked .stored;
       }
 
-  pub walk-rank : getD rank (a + 1) 0 ≤ 180
+  pub walk-rank : getD rank (a + 1) 0 ≤ mostPoints
   walk-rank = omega (arith, w .asked .row .listed .inside (a + 1) (omega arith) (omega arith), w .asked .row .lengths .few)
 
   -- the next near row

@@ -14,7 +14,8 @@ use Rattle.lengths.specs.Edge.{Edge, edge, Point}
 use Rattle.lengths.specs.Table.{lengthOf}
 use Rattle.lengths.specs.Rows.{RowAt, RowFilled}
 use Rattle.lengths.proofs.Tables.{length-symmetric}
-use Rattle.rules.specs.Split.{Lengths, legOf, narrowed, tightened, tightenedBy, boundOf, Prepared, Bounded, LegList, LegsOf, RowLent, rowOf, OpenAsked, OpenLegs, Short, NarrowAsked, Narrowed, TriangleAsked, TriangleIn, SplitAsked, SplitOf, TakeAsked, TakenIn, EdgeAsked, EdgeRowsAsked, EdgeRows, EdgeTriangle, EdgeLegsAsked, EdgeLegs, SingleAsked}
+use Rattle.lengths.specs.Instance.{mostLength, pointPlaces}
+use Rattle.rules.specs.Split.{Lengths, legOf, narrowed, tightened, tightenedBy, boundOf, Prepared, Bounded, LegList, LegsOf, RowLent, rowOf, OpenAsked, OpenLegs, Short, NarrowAsked, Narrowed, TriangleAsked, TriangleIn, SplitAsked, SplitOf, TakeAsked, TakenIn, EdgeAsked, EdgeRowsAsked, EdgeRows, EdgeTriangle, EdgeLegsAsked, EdgeLegs, SingleAsked, far, loose}
 use Rattle.rules.specs.Mark.{openIn}
 use Rattle.rules.specs.PairTest.{leg?}
 use Rattle.rules.specs.Stored.{edgesOf, edgeList, Held}
@@ -95,7 +96,7 @@ pub record Taking (n : ℕ) (table rows marks : List ℕ) (k : EdgeSet) (c : ℕ
   pub prepared : Prepared n (lengthOf n table) (openIn n marks) (edgesOf (k .from) (k .to) i) c legs bound
 
 pub take-start : {n : ℕ} {table rows marks : List ℕ} {k : EdgeSet} {c at : ℕ} {legs : List ℕ} → SplitAsked n table rows marks k c → at ≡ (n + 1) * c
-    → OpenLegs n marks rows c at legs → Taking n table rows marks k c legs 6000000 0
+    → OpenLegs n marks rows c at legs → Taking n table rows marks k c legs loose 0
 unfolding edgesOf boundOf
 take-start a e o = record {
   asked = a;
@@ -111,10 +112,10 @@ touched : (l : ℕ → ℕ → ℕ) → ((x y : ℕ) → l x y ≡ l y x) → (o
 unfolding narrowed legOf
 touched l symmetric open? K c p q t x = go (leg? l open? K c x) t
   where
-    go : (s : Bool) → (p ≡ c) ⊎ (q ≡ c) → cond (leb (cond s (l c x) 10000000 + l p q) (max (l c p + l x q) (l c q + l x p))) (cond s (l c x) 10000000) 10000000 ≡ cond s (l c x) 10000000
+    go : (s : Bool) → (p ≡ c) ⊎ (q ≡ c) → cond (leb (cond s (l c x) far + l p q) (max (l c p + l x q) (l c q + l x p))) (cond s (l c x) far) far ≡ cond s (l c x) far
     go true (inl e) = rw (le-leb (l c x + l p q) (max (l c p + l x q) (l c q + l x p)) (omega (arith, symmetric c x, ap (λ (y : ℕ). l y q) e, ap (λ (y : ℕ). l x y) e)))
     go true (inr e) = rw (le-leb (l c x + l p q) (max (l c p + l x q) (l c q + l x p)) (omega (arith, symmetric c x, symmetric c p, ap (λ (y : ℕ). l p y) e, ap (λ (y : ℕ). l x y) e)))
-    go false t = either 10000000 (leb (10000000 + l p q) (max (l c p + l x q) (l c q + l x p)))
+    go false t = either far (leb (far + l p q) (max (l c p + l x q) (l c q + l x p)))
       where
         either : (m : ℕ) (s : Bool) → cond s m m ≡ m
         either m true = refl
@@ -125,7 +126,7 @@ unfolding tightened
 untightened l c u v b (inl e) = rw (eq-eqb u c e)
 untightened l c u v b (inr e) = go (eqb u c)
   where
-    go : (s : Bool) → cond s b (cond (eqb v c) b (min (l u c + l v c + 2000000 - l u v) b)) ≡ b
+    go : (s : Bool) → cond s b (cond (eqb v c) b (min (l u c + l v c + mostLength - l u v) b)) ≡ b
     go true = refl
     go false = rw (eq-eqb v c e)
 
@@ -214,7 +215,7 @@ row-kept : {n : ℕ} {table rows : List ℕ} {at u behind v : ℕ} {r : List ℕ
 row-kept {at = at} o f h = record { room = omega (arith, o .room, f .size); each = λ x p. f .kept (at + x) (inl (omega (arith, p .high))) ∙ o .each x p }
 
 pub edge-rows : {n : ℕ} {table : List ℕ} {a b c : ℕ} {rows r s t : List ℕ} → EdgeRowsAsked n table a b c rows
-    → RowFilled n table rows 0 c r → RowFilled n table r 181 a s → RowFilled n table s 362 b t → EdgeRows n table a b c t
+    → RowFilled n table rows 0 c r → RowFilled n table r pointPlaces a s → RowFilled n table s (2 * pointPlaces) b t → EdgeRows n table a b c t
 edge-rows {n} q f g h =
     let few = q .asked .lengths .few in
     record {
@@ -228,9 +229,9 @@ module _ {n : ℕ} {table : List ℕ} {a b c : ℕ} {t : Triangle} (q : EdgeAske
   pub edge-short : Short (t .pq) (t .cp) (t .cq)
   edge-short = short-of (q .lengths) a b c (i .is-ab) (i .is-ca) (i .is-cb)
 
-  pub edge-bound : {r : ℕ} → r ≡ tightenedBy c a b (t .pq) (t .cp) (t .cq) 6000000 → r ≡ boundOf (lengthOf n table) (edge a b ∷ []) c
+  pub edge-bound : {r : ℕ} → r ≡ tightenedBy c a b (t .pq) (t .cp) (t .cq) loose → r ≡ boundOf (lengthOf n table) (edge a b ∷ []) c
   unfolding boundOf
-  edge-bound e = e ∙ tightened-sides n table c a b 6000000 (i .is-ab) (i .is-ca) (i .is-cb)
+  edge-bound e = e ∙ tightened-sides n table c a b loose (i .is-ab) (i .is-ca) (i .is-cb)
 
 module _ {n : ℕ} {table marks rows : List ℕ} {a b c : ℕ} (q : EdgeLegsAsked n table marks a b c) (s : EdgeRows n table a b c rows) where
   pub edge-open : OpenAsked n marks rows c 0
@@ -273,9 +274,9 @@ module _ {n : ℕ} {table marks : List ℕ} {k : EdgeSet} {c : ℕ} (g : SingleA
   unfolding edgeList edgesOf
   single-list = ap (edgesOf (k .from) (k .to)) (g .one)
 
-  single-tight : boundOf (lengthOf n table) (edge (getD (k .from) 0 0) (getD (k .to) 0 0) ∷ []) c ≤ 6000000
+  single-tight : boundOf (lengthOf n table) (edge (getD (k .from) 0 0) (getD (k .to) 0 0) ∷ []) c ≤ loose
   unfolding boundOf
-  single-tight = tightened-le (lengthOf n table) c (getD (k .from) 0 0) (getD (k .to) 0 0) 6000000
+  single-tight = tightened-le (lengthOf n table) c (getD (k .from) 0 0) (getD (k .to) 0 0) loose
 
   pub single-split : {legs : List ℕ} {bound : ℕ} → EdgeLegs n table marks (getD (k .from) 0 0) (getD (k .to) 0 0) c legs
       → bound ≡ boundOf (lengthOf n table) (edge (getD (k .from) 0 0) (getD (k .to) 0 0) ∷ []) c → SplitOf n table marks k c (record { legs = legs; bound = bound })

@@ -11,19 +11,21 @@ use lib.Dec.{eqb}
 use lib.ListN.{length, getD, set, replicate, length-set, length-replicate}
 use lib.Seq.{getD-set-same, getD-set-other}
 use borrow.Author.Tests.{eqb-true, not-true, not-false}
-use Rattle.rules.specs.Nearby.{near?, firstFrom, NearbyAsked, NearbyOf}
+use Rattle.lengths.specs.Instance.{mostPoints}
+use Rattle.rules.specs.Nearby.{near?, firstFrom, NearbyAsked, NearbyOf, nearPlaces}
 use Rattle.rules.proofs.FirstFrom.{firstFrom-yes, firstFrom-no, firstFrom-stays, firstFrom-ends}
+use Rattle.rules.specs.Split.{far}
 
 -- a point that is not near has a FAR leg
-pub far-leg : (legs : List ℕ) (x : ℕ) → near? legs x ≡ false → getD legs x 0 ≡ 10000000
+pub far-leg : (legs : List ℕ) (x : ℕ) → near? legs x ≡ false → getD legs x 0 ≡ far
 unfolding near?
-far-leg legs x h = eqb-true (getD legs x 0) 10000000 (not-false (eqb (getD legs x 0) 10000000) h)
+far-leg legs x h = eqb-true (getD legs x 0) far (not-false (eqb (getD legs x 0) far) h)
 
 -- the points below x are taken in: `near` has x behind those that are near, and x has their number for its rank
 pub record Ranked (n : ℕ) (legs near rank : List ℕ) (count x : ℕ) : Type 0 where
-  pub few : n ≤ 180
-  pub near-size : length near ≡ 182
-  pub rank-size : length rank ≡ 182
+  pub few : n ≤ mostPoints
+  pub near-size : length near ≡ nearPlaces
+  pub rank-size : length rank ≡ nearPlaces
   pub low : 1 ≤ x
   pub high : x ≤ n + 1
   pub fewer : count < x
@@ -178,16 +180,16 @@ pub one-small : (t : Bool) {m : ℕ} → m ≡ cond t 0 1 → m ≤ 1
 one-small true e = omega arith
 one-small false e = omega arith
 
-pub ranked-on : {n : ℕ} {legs near rank : List ℕ} {count x : ℕ} → Ranked n legs near rank count x → x ≤ n → {m : ℕ} → m ≡ cond (eqb (getD legs x 0) 10000000) 0 1
+pub ranked-on : {n : ℕ} {legs near rank : List ℕ} {count x : ℕ} → Ranked n legs near rank count x → x ≤ n → {m : ℕ} → m ≡ cond (eqb (getD legs x 0) far) 0 1
     → Ranked n legs (set near (count + m) (x + 1)) (set rank (x + 1) (count + m)) (count + m) (x + 1)
 unfolding near?
 ranked-on {n} {legs} {near} {rank} {count} {x} r h {m} e = ranked-step r h (count + m) up stay
   where
-    up : not (eqb (getD legs x 0) 10000000) ≡ true → count + m ≡ count + 1
-    up g = let f : m ≡ 1 = e ∙ ap (λ (t : Bool). cond t 0 1) (not-true (eqb (getD legs x 0) 10000000) g) in omega arith
+    up : not (eqb (getD legs x 0) far) ≡ true → count + m ≡ count + 1
+    up g = let f : m ≡ 1 = e ∙ ap (λ (t : Bool). cond t 0 1) (not-true (eqb (getD legs x 0) far) g) in omega arith
 
-    stay : not (eqb (getD legs x 0) 10000000) ≡ false → count + m ≡ count
-    stay g = let f : m ≡ 0 = e ∙ ap (λ (t : Bool). cond t 0 1) (not-false (eqb (getD legs x 0) 10000000) g) in omega arith
+    stay : not (eqb (getD legs x 0) far) ≡ false → count + m ≡ count
+    stay g = let f : m ≡ 0 = e ∙ ap (λ (t : Bool). cond t 0 1) (not-false (eqb (getD legs x 0) far) g) in omega arith
 
 pub ranked-end : {n : ℕ} {legs near rank : List ℕ} {count x : ℕ} → Ranked n legs near rank count x → n < x → NearbyOf n legs near rank
 ranked-end {n} {legs} {near} {rank} {count} {x} r h =

@@ -14,10 +14,11 @@ use Rattle.lengths.specs.Edge.{IsEdgeUp, place, placeUp}
 use Rattle.lengths.specs.Table.{lengthOf}
 use Rattle.lengths.proofs.Edges.{placeUp-below, edgeCount-tri, place-up, edges-fit}
 use Rattle.lengths.proofs.Tables.{length-up}
+use Rattle.lengths.specs.Instance.{mostLength, mostPoints}
 use Rattle.rules.specs.Near.{either?, within?}
 use Rattle.rules.specs.Nearby.{near?, firstFrom}
 use Rattle.rules.specs.NextPair.{passes?, allowed?, RowAsked}
-use Rattle.rules.specs.Split.{Lengths, Bounded}
+use Rattle.rules.specs.Split.{Lengths, Bounded, far}
 use Rattle.rules.specs.declared.near.Near.{Near}
 use Rattle.rules.specs.declared.near.Near.the-variants.{None, One, Two, More}
 use Rattle.rules.proofs.FirstFrom.{firstFrom-yes, firstFrom-no, firstFrom-low, firstFrom-high, firstFrom-found, firstFrom-none, firstFrom-at, firstFrom-same, firstFrom-skip}
@@ -27,9 +28,9 @@ use Rattle.rules.proofs.Splits.{length-small}
 -- a pair with a point that is not near fails the comparison: its leg alone costs more than any pair may
 
 module _ {n : ℕ} {table legs : List ℕ} {bound : ℕ} (lengths : Lengths n table) (bounded : Bounded legs bound) (x y : ℕ) where
-  fails : 10000000 ≤ getD legs x 0 + getD legs y 0 → passes? n table legs bound x y ≡ false
+  fails : far ≤ getD legs x 0 + getD legs y 0 → passes? n table legs bound x y ≡ false
   unfolding passes?
-  fails h = lt-leb (getD legs x 0 + 2000000 + getD legs y 0) (lengthOf n table x y + bound) (omega (arith, length-small lengths x y, bounded .tight))
+  fails h = lt-leb (getD legs x 0 + mostLength + getD legs y 0) (lengthOf n table x y + bound) (omega (arith, length-small lengths x y, bounded .tight))
 
   pub far-row-fails : near? legs x ≡ false → passes? n table legs bound x y ≡ false
   far-row-fails h = fails (omega (arith, far-leg legs x h))
@@ -46,7 +47,7 @@ placeUp-add n a b i h = omega arith
 -- the near point z is the next to try, and stands at the place `at`; the row of x begins at the place `first`
 pub record Scanning (n : ℕ) (table legs near rank : List ℕ) (bound x y cost first at z : ℕ) : Type 0 where
   pub asked : RowAsked n table legs near rank bound x y
-  pub is-cost : cost ≡ getD legs x 0 + 2000000
+  pub is-cost : cost ≡ getD legs x 0 + mostLength
   pub is-first : first ≡ placeUp n x (x + 1)
   pub is-at : at ≡ getD rank z 0
   pub is-near : z ≤ n → near? legs z ≡ true
@@ -59,7 +60,7 @@ module _ {n : ℕ} {table legs near rank : List ℕ} {bound x y : ℕ} (r : RowA
   row-end = omega (arith, r .high)
 
   -- a row whose leg is FAR has no pair that passes
-  pub row-far : getD legs x 0 ≡ 10000000 → n + 1 ≡ firstFrom (passes? n table legs bound x) (suc y) (n - y)
+  pub row-far : getD legs x 0 ≡ far → n + 1 ≡ firstFrom (passes? n table legs bound x) (suc y) (n - y)
   row-far h = row-end ∙ sym (firstFrom-none (passes? n table legs bound x) (suc y) (n - y) (λ i g g′. fails (r .lengths) (r .bounded) x i (omega arith)))
 
   pub row-over : n ≤ y → n + 1 ≡ firstFrom (passes? n table legs bound x) (suc y) (n - y)
@@ -70,11 +71,11 @@ module _ {n : ℕ} {table legs near rank : List ℕ} {bound x y : ℕ} (r : RowA
       f ∙ ap (firstFrom (passes? n table legs bound x) (suc y)) (sym e)
 
   -- the place of the first near point after y
-  pub row-rank : getD rank (y + 1) 0 ≤ 180
+  pub row-rank : getD rank (y + 1) 0 ≤ mostPoints
   row-rank = omega (arith, r .listed .inside (y + 1) (omega arith) (omega (arith, r .high)), r .lengths .few)
 
   -- where the search may begin at w, it may begin at the first near point from w on
-  scan-from : (cost first w at : ℕ) → cost ≡ getD legs x 0 + 2000000 → first ≡ placeUp n x (x + 1) → at ≡ getD rank w 0 → y < w → w ≤ n + 1
+  scan-from : (cost first w at : ℕ) → cost ≡ getD legs x 0 + mostLength → first ≡ placeUp n x (x + 1) → at ≡ getD rank w 0 → y < w → w ≤ n + 1
       → firstFrom (passes? n table legs bound x) w (n + 1 - w) ≡ firstFrom (passes? n table legs bound x) (suc y) (n - y)
       → Scanning n table legs near rank bound x y cost first at (getD near at 0)
   scan-from cost first w at e f g up high same =
@@ -96,11 +97,11 @@ module _ {n : ℕ} {table legs near rank : List ℕ} {bound x y : ℕ} (r : RowA
             ∙ same;
       }
 
-  pub scan-start : {first : ℕ} → first ≡ place n x (x + 1) → Scanning n table legs near rank bound x y (getD legs x 0 + 2000000) first (getD rank (y + 1) 0) (getD near (getD rank (y + 1) 0) 0)
+  pub scan-start : {first : ℕ} → first ≡ place n x (x + 1) → Scanning n table legs near rank bound x y (getD legs x 0 + mostLength) first (getD rank (y + 1) 0) (getD near (getD rank (y + 1) 0) 0)
   scan-start {first} p =
       let e : y + 1 ≡ suc y = omega arith in
       let f : n + 1 - (y + 1) ≡ n - y = omega arith in
-      scan-from (getD legs x 0 + 2000000) first (y + 1) (getD rank (y + 1) 0) refl (p ∙ place-up n x (x + 1) (omega arith)) refl (omega arith) (omega (arith, r .high))
+      scan-from (getD legs x 0 + mostLength) first (y + 1) (getD rank (y + 1) 0) refl (p ∙ place-up n x (x + 1) (omega arith)) refl (omega arith) (omega (arith, r .high))
       (ap₂ (firstFrom (passes? n table legs bound x)) e f)
 
 module _ {n : ℕ} {table legs near rank : List ℕ} {bound x y cost first at z : ℕ} (s : Scanning n table legs near rank bound x y cost first at z) where
@@ -128,7 +129,7 @@ module _ {n : ℕ} {table legs near rank : List ℕ} {bound x y cost first at z 
   scan-next : z ≤ n → at + 1 ≡ getD rank (z + 1) 0
   scan-next h = sym (s .asked .listed .next z (omega (arith, scan-below)) h (s .is-near h) ∙ ap (λ (i : ℕ). i + 1) (sym (s .is-at)))
 
-  pub scan-room : z ≤ n → at + 1 ≤ 180
+  pub scan-room : z ≤ n → at + 1 ≤ mostPoints
   scan-room h = omega (arith, scan-next h, s .asked .listed .inside (z + 1) (omega arith) (omega arith), s .asked .lengths .few)
 
   pub scan-rises : z ≤ n → z < getD near (at + 1) 0
@@ -140,8 +141,8 @@ module _ {n : ℕ} {table legs near rank : List ℕ} {bound x y cost first at z 
   unfolding passes?
   scan-found h g =
       let e : n + 1 - z ≡ suc (n - z) = omega arith in
-      let t : leb (getD legs x 0 + 2000000 + getD legs z 0) (lengthOf n table x z + bound) ≡ true =
-      le-leb (getD legs x 0 + 2000000 + getD legs z 0) (lengthOf n table x z + bound) (omega (arith, s .is-cost, scan-length h)) in
+      let t : leb (getD legs x 0 + mostLength + getD legs z 0) (lengthOf n table x z + bound) ≡ true =
+      le-leb (getD legs x 0 + mostLength + getD legs z 0) (lengthOf n table x z + bound) (omega (arith, s .is-cost, scan-length h)) in
       sym (firstFrom-yes (passes? n table legs bound x) z (n - z) t)
       ∙ ap (firstFrom (passes? n table legs bound x) z) (sym e)
       ∙ s .same
@@ -152,8 +153,8 @@ module _ {n : ℕ} {table legs near rank : List ℕ} {bound x y cost first at z 
   scan-on h g =
       let e : n + 1 - z ≡ suc (n - z) = omega arith in
       let f : n + 1 - (z + 1) ≡ n - z = omega arith in
-      let t : leb (getD legs x 0 + 2000000 + getD legs z 0) (lengthOf n table x z + bound) ≡ false =
-      lt-leb (getD legs x 0 + 2000000 + getD legs z 0) (lengthOf n table x z + bound) (omega (arith, s .is-cost, scan-length h)) in
+      let t : leb (getD legs x 0 + mostLength + getD legs z 0) (lengthOf n table x z + bound) ≡ false =
+      lt-leb (getD legs x 0 + mostLength + getD legs z 0) (lengthOf n table x z + bound) (omega (arith, s .is-cost, scan-length h)) in
       scan-from (s .asked) cost first (z + 1) (at + 1) (s .is-cost) (s .is-first) (scan-next h) (omega (arith, s .above)) (omega arith)
       (ap₂ (firstFrom (passes? n table legs bound x)) (add-one z) f
       ∙ sym (firstFrom-no (passes? n table legs bound x) z (n - z) t)
@@ -203,21 +204,21 @@ module _ {n : ℕ} {table legs near rank : List ℕ} {bound x y : ℕ} (r : RowA
     pub with-over : n < a → n + 1 ≡ firstFrom (allowed? n table legs bound (One a) x) (suc y) (n - y)
     with-over h = row-none (One a) (λ i l u. with-other i (λ e. omega (arith, r .high)))
 
-    pub with-found : y < a → a ≤ n → {m : ℕ} → m ≡ lengthOf n table x a → getD legs x 0 + 2000000 + getD legs a 0 ≤ m + bound
+    pub with-found : y < a → a ≤ n → {m : ℕ} → m ≡ lengthOf n table x a → getD legs x 0 + mostLength + getD legs a 0 ≤ m + bound
         → a ≡ firstFrom (allowed? n table legs bound (One a) x) (suc y) (n - y)
     unfolding passes?
     with-found h g {m} e k =
-        let t : leb (getD legs x 0 + 2000000 + getD legs a 0) (lengthOf n table x a + bound) ≡ true =
-        le-leb (getD legs x 0 + 2000000 + getD legs a 0) (lengthOf n table x a + bound) (omega arith) in
+        let t : leb (getD legs x 0 + mostLength + getD legs a 0) (lengthOf n table x a + bound) ≡ true =
+        le-leb (getD legs x 0 + mostLength + getD legs a 0) (lengthOf n table x a + bound) (omega arith) in
         sym (firstFrom-at (allowed? n table legs bound (One a) x) (suc y) (n - y) a (omega arith) (omega (arith, r .high))
         (λ i l u. with-other i (λ q. omega arith)) (with-this ∙ t))
 
-    pub with-refused : {m : ℕ} → m ≡ lengthOf n table x a → m + bound < getD legs x 0 + 2000000 + getD legs a 0
+    pub with-refused : {m : ℕ} → m ≡ lengthOf n table x a → m + bound < getD legs x 0 + mostLength + getD legs a 0
         → n + 1 ≡ firstFrom (allowed? n table legs bound (One a) x) (suc y) (n - y)
     unfolding passes?
     with-refused {m} e k =
-        let t : leb (getD legs x 0 + 2000000 + getD legs a 0) (lengthOf n table x a + bound) ≡ false =
-        lt-leb (getD legs x 0 + 2000000 + getD legs a 0) (lengthOf n table x a + bound) (omega arith) in
+        let t : leb (getD legs x 0 + mostLength + getD legs a 0) (lengthOf n table x a + bound) ≡ false =
+        lt-leb (getD legs x 0 + mostLength + getD legs a 0) (lengthOf n table x a + bound) (omega arith) in
         row-none (One a) (λ i l u. elim (ℕ-discrete a i) [
           | yes q ↦ ap (allowed? n table legs bound (One a) x) (sym q) ∙ with-this ∙ t
           | no q ↦ with-other i q

@@ -10,28 +10,29 @@ use borrow.Author.Tests.{eq-eqb, ne-eqb, le-leb, lt-leb, leb-true, leb-false, lt
 use Rattle.lengths.specs.Edge.{Edge, edge, Point, place}
 use Rattle.lengths.specs.Table.{lengthOf}
 use Rattle.lengths.proofs.Tables.{length-symmetric}
+use Rattle.lengths.specs.Instance.{mostLength}
 use Rattle.rules.specs.PairTest.{every, compatible?, leg?, stays?, unmoved?, feasible?}
 use Rattle.rules.specs.Shape.{shape?}
-use Rattle.rules.specs.Split.{Lengths, legOf, narrowed, narrowedBy, tightened, tightenedBy, boundOf, Prepared}
+use Rattle.rules.specs.Split.{Lengths, legOf, narrowed, narrowedBy, tightened, tightenedBy, boundOf, Prepared, far, loose}
 use Rattle.rules.specs.NextPair.{passes?}
 
 -- no length is above 2,000,000
-pub length-small : {n : ℕ} {table : List ℕ} → Lengths n table → (a b : ℕ) → lengthOf n table a b ≤ 2000000
+pub length-small : {n : ℕ} {table : List ℕ} → Lengths n table → (a b : ℕ) → lengthOf n table a b ≤ mostLength
 unfolding lengthOf
 length-small {n} {table} h a b = go (eqb a b) refl
   where
-    go : (t : Bool) → eqb a b ≡ t → lengthOf n table a b ≤ 2000000
+    go : (t : Bool) → eqb a b ≡ t → lengthOf n table a b ≤ mostLength
     go true e = rw (lengthOf, e) (omega arith)
     go false e = rw (lengthOf, e) (h .small (place n a b))
 
 -- legs
 
 module _ (l : ℕ → ℕ → ℕ) (open? : ℕ → ℕ → Bool) (c x : ℕ) where
-  pub legOf-self : x ≡ c → legOf l open? [] c x ≡ 10000000
+  pub legOf-self : x ≡ c → legOf l open? [] c x ≡ far
   unfolding legOf leg?
   legOf-self h = rw (legOf, leg?, eq-eqb x c h)
 
-  pub legOf-shut : (x ≡ c → ⊥) → open? c x ≡ false → legOf l open? [] c x ≡ 10000000
+  pub legOf-shut : (x ≡ c → ⊥) → open? c x ≡ false → legOf l open? [] c x ≡ far
   unfolding legOf leg?
   legOf-shut h o = rw (legOf, leg?, ne-eqb x c h, o)
 
@@ -42,7 +43,7 @@ module _ (l : ℕ → ℕ → ℕ) (open? : ℕ → ℕ → Bool) (c x : ℕ) wh
 -- without edges of K a leg looks at one length only
 pub legOf-by : (l m : ℕ → ℕ → ℕ) (open? : ℕ → ℕ → Bool) (c x : ℕ) → l c x ≡ m c x → legOf l open? [] c x ≡ legOf m open? [] c x
 unfolding legOf leg? every
-legOf-by l m open? c x e = ap (λ (d : ℕ). cond (not (eqb x c) && (open? c x && true)) d 10000000) e
+legOf-by l m open? c x e = ap (λ (d : ℕ). cond (not (eqb x c) && (open? c x && true)) d far) e
 
 same : (t : Bool) (m : ℕ) → cond t m m ≡ m
 same true m = refl
@@ -74,7 +75,7 @@ legOf-narrowed l open? K c x p q =
     (every (compatible? l c x) K)
     (λ (m : ℕ). leb (m + l p q) (max (l c p + l x q) (l c q + l x p)))
     (l c x)
-    10000000
+    far
 
 module _ (m both one other : ℕ) where
   pub narrowed-first : both ≤ one → m ≡ narrowedBy m both one other
@@ -85,15 +86,15 @@ module _ (m both one other : ℕ) where
   unfolding narrowedBy
   narrowed-second h = rw (narrowedBy, le-leb both (max one other) (omega arith))
 
-  pub narrowed-neither : one < both → other < both → 10000000 ≡ narrowedBy m both one other
+  pub narrowed-neither : one < both → other < both → far ≡ narrowedBy m both one other
   unfolding narrowedBy
   narrowed-neither h g = rw (narrowedBy, lt-leb both (max one other) (omega arith))
 
-  pub narrowed-near : m ≤ 10000000 → narrowedBy m both one other ≤ 10000000
+  pub narrowed-near : m ≤ far → narrowedBy m both one other ≤ far
   unfolding narrowedBy
   narrowed-near h = go (leb both (max one other))
     where
-      go : (t : Bool) → cond t m 10000000 ≤ 10000000
+      go : (t : Bool) → cond t m far ≤ far
       go true = h
       go false = omega arith
 
@@ -113,14 +114,14 @@ module _ (c u v uv cu cv b : ℕ) where
   unfolding tightenedBy
   tightened-second g h = rw (tightenedBy, ne-eqb u c g, eq-eqb v c h)
 
-  tightened-free : (u ≡ c → ⊥) → (v ≡ c → ⊥) → tightenedBy c u v uv cu cv b ≡ min (cu + cv + 2000000 - uv) b
+  tightened-free : (u ≡ c → ⊥) → (v ≡ c → ⊥) → tightenedBy c u v uv cu cv b ≡ min (cu + cv + mostLength - uv) b
   unfolding tightenedBy
   tightened-free g h = rw (tightenedBy, ne-eqb u c g, ne-eqb v c h)
 
-  pub tightened-room : (u ≡ c → ⊥) → (v ≡ c → ⊥) → cu + cv + 2000000 - uv < b → cu + cv + 2000000 - uv ≡ tightenedBy c u v uv cu cv b
+  pub tightened-room : (u ≡ c → ⊥) → (v ≡ c → ⊥) → cu + cv + mostLength - uv < b → cu + cv + mostLength - uv ≡ tightenedBy c u v uv cu cv b
   tightened-room g h k = sym (tightened-free g h ∙ omega arith)
 
-  pub tightened-over : (u ≡ c → ⊥) → (v ≡ c → ⊥) → b ≤ cu + cv + 2000000 - uv → b ≡ tightenedBy c u v uv cu cv b
+  pub tightened-over : (u ≡ c → ⊥) → (v ≡ c → ⊥) → b ≤ cu + cv + mostLength - uv → b ≡ tightenedBy c u v uv cu cv b
   tightened-over g h k = sym (tightened-free g h ∙ omega arith)
 
 pub tightened-by : (l : ℕ → ℕ → ℕ) (c u v b : ℕ) {uv cu cv : ℕ} → uv ≡ l u v → cu ≡ l u c → cv ≡ l v c → tightenedBy c u v uv cu cv b ≡ tightened l c u v b
@@ -132,12 +133,12 @@ module _ (l : ℕ → ℕ → ℕ) (c u v b : ℕ) where
   unfolding tightened
   tightened-le = go (eqb u c) (eqb v c)
     where
-      go : (s t : Bool) → cond s b (cond t b (min (l u c + l v c + 2000000 - l u v) b)) ≤ b
+      go : (s t : Bool) → cond s b (cond t b (min (l u c + l v c + mostLength - l u v) b)) ≤ b
       go true t = omega arith
       go false true = omega arith
       go false false = omega arith
 
-pub boundOf-le : (l : ℕ → ℕ → ℕ) (K : List Edge) (c : ℕ) → boundOf l K c ≤ 6000000
+pub boundOf-le : (l : ℕ → ℕ → ℕ) (K : List Edge) (c : ℕ) → boundOf l K c ≤ loose
 unfolding boundOf
 boundOf-le l [] c = omega arith
 boundOf-le l (edge u v ∷ es) c = omega (arith, tightened-le l c u v (boundOf l es c), boundOf-le l es c)
@@ -157,45 +158,45 @@ min-test a x r b = go (leb a (x + r)) (leb a (x + b)) refl refl
     go true false e f = lt-leb a (x + min r b) (omega (arith, leb-false a (x + b) f))
     go false t e f = lt-leb a (x + min r b) (omega (arith, leb-false a (x + r) e))
 
-module _ (l : ℕ → ℕ → ℕ) (symmetric : (a b : ℕ) → l a b ≡ l b a) (small : (a b : ℕ) → l a b ≤ 2000000) (c x y : ℕ) where
+module _ (l : ℕ → ℕ → ℕ) (symmetric : (a b : ℕ) → l a b ≡ l b a) (small : (a b : ℕ) → l a b ≤ mostLength) (c x y : ℕ) where
   -- condition 5 at one edge that does not touch c
-  room-test : (u v : ℕ) → not (ltb (l x y + l u c + l v c) (l u v + l x c + l y c)) ≡ leb (l c x + 2000000 + l c y) (l x y + (l u c + l v c + 2000000 - l u v))
+  room-test : (u v : ℕ) → not (ltb (l x y + l u c + l v c) (l u v + l x c + l y c)) ≡ leb (l c x + mostLength + l c y) (l x y + (l u c + l v c + mostLength - l u v))
   room-test u v = go (ltb (l x y + l u c + l v c) (l u v + l x c + l y c)) refl
     where
-      go : (s : Bool) → ltb (l x y + l u c + l v c) (l u v + l x c + l y c) ≡ s → not s ≡ leb (l c x + 2000000 + l c y) (l x y + (l u c + l v c + 2000000 - l u v))
-      go true e = sym (lt-leb (l c x + 2000000 + l c y) (l x y + (l u c + l v c + 2000000 - l u v))
+      go : (s : Bool) → ltb (l x y + l u c + l v c) (l u v + l x c + l y c) ≡ s → not s ≡ leb (l c x + mostLength + l c y) (l x y + (l u c + l v c + mostLength - l u v))
+      go true e = sym (lt-leb (l c x + mostLength + l c y) (l x y + (l u c + l v c + mostLength - l u v))
           (omega (arith, ltb-true (l x y + l u c + l v c) (l u v + l x c + l y c) e, symmetric c x, symmetric c y, small u v)))
-      go false e = sym (le-leb (l c x + 2000000 + l c y) (l x y + (l u c + l v c + 2000000 - l u v))
+      go false e = sym (le-leb (l c x + mostLength + l c y) (l x y + (l u c + l v c + mostLength - l u v))
           (omega (arith, ltb-false (l x y + l u c + l v c) (l u v + l x c + l y c) e, symmetric c x, symmetric c y, small u v)))
 
-  step-test : (u v b : ℕ) → stays? l c x y u v && leb (l c x + 2000000 + l c y) (l x y + b) ≡ leb (l c x + 2000000 + l c y) (l x y + tightened l c u v b)
+  step-test : (u v b : ℕ) → stays? l c x y u v && leb (l c x + mostLength + l c y) (l x y + b) ≡ leb (l c x + mostLength + l c y) (l x y + tightened l c u v b)
   unfolding stays? tightened
   step-test u v b = go (eqb u c) (eqb v c)
     where
-      go : (s t : Bool) → (s || (t || not (ltb (l x y + l u c + l v c) (l u v + l x c + l y c)))) && leb (l c x + 2000000 + l c y) (l x y + b)
-          ≡ leb (l c x + 2000000 + l c y) (l x y + cond s b (cond t b (min (l u c + l v c + 2000000 - l u v) b)))
+      go : (s t : Bool) → (s || (t || not (ltb (l x y + l u c + l v c) (l u v + l x c + l y c)))) && leb (l c x + mostLength + l c y) (l x y + b)
+          ≡ leb (l c x + mostLength + l c y) (l x y + cond s b (cond t b (min (l u c + l v c + mostLength - l u v) b)))
       go true t = refl
       go false true = refl
-      go false false = ap (λ (r : Bool). r && leb (l c x + 2000000 + l c y) (l x y + b)) (room-test u v)
-          ∙ sym (min-test (l c x + 2000000 + l c y) (l x y) (l u c + l v c + 2000000 - l u v) b)
+      go false false = ap (λ (r : Bool). r && leb (l c x + mostLength + l c y) (l x y + b)) (room-test u v)
+          ∙ sym (min-test (l c x + mostLength + l c y) (l x y) (l u c + l v c + mostLength - l u v) b)
 
   -- condition 5 is one comparison with the bound
-  pub unmoved-bound : (K : List Edge) → unmoved? l K c x y ≡ leb (l c x + 2000000 + l c y) (l x y + boundOf l K c)
+  pub unmoved-bound : (K : List Edge) → unmoved? l K c x y ≡ leb (l c x + mostLength + l c y) (l x y + boundOf l K c)
   unfolding unmoved? every boundOf
-  unmoved-bound [] = sym (le-leb (l c x + 2000000 + l c y) (l x y + 6000000) (omega (arith, small c x, small c y)))
+  unmoved-bound [] = sym (le-leb (l c x + mostLength + l c y) (l x y + loose) (omega (arith, small c x, small c y)))
   unmoved-bound (edge u v ∷ es) = ap (λ (t : Bool). stays? l c x y u v && t) (unmoved-bound es) ∙ step-test u v (boundOf l es c)
 
   -- conditions 1, 4 and 5 are one comparison of the legs with the bound
   pub legs-bound : (open? : ℕ → ℕ → Bool) (K : List Edge)
-      → leb (legOf l open? K c x + 2000000 + legOf l open? K c y) (l x y + boundOf l K c) ≡ leg? l open? K c x && (leg? l open? K c y && unmoved? l K c x y)
+      → leb (legOf l open? K c x + mostLength + legOf l open? K c y) (l x y + boundOf l K c) ≡ leg? l open? K c x && (leg? l open? K c y && unmoved? l K c x y)
   unfolding legOf
   legs-bound open? K = go (leg? l open? K c x) (leg? l open? K c y)
     where
-      go : (s t : Bool) → leb (cond s (l c x) 10000000 + 2000000 + cond t (l c y) 10000000) (l x y + boundOf l K c) ≡ s && (t && unmoved? l K c x y)
+      go : (s t : Bool) → leb (cond s (l c x) far + mostLength + cond t (l c y) far) (l x y + boundOf l K c) ≡ s && (t && unmoved? l K c x y)
       go true true = sym (unmoved-bound K)
-      go true false = lt-leb (l c x + 2000000 + 10000000) (l x y + boundOf l K c) (omega (arith, small x y, boundOf-le l K c))
-      go false true = lt-leb (10000000 + 2000000 + l c y) (l x y + boundOf l K c) (omega (arith, small x y, boundOf-le l K c))
-      go false false = lt-leb (10000000 + 2000000 + 10000000) (l x y + boundOf l K c) (omega (arith, small x y, boundOf-le l K c))
+      go true false = lt-leb (l c x + mostLength + far) (l x y + boundOf l K c) (omega (arith, small x y, boundOf-le l K c))
+      go false true = lt-leb (far + mostLength + l c y) (l x y + boundOf l K c) (omega (arith, small x y, boundOf-le l K c))
+      go false false = lt-leb (far + mostLength + far) (l x y + boundOf l K c) (omega (arith, small x y, boundOf-le l K c))
 
 regroup : (a b u s : Bool) → a && (b && (u && s)) ≡ a && (b && u) && s
 regroup true true u s = refl
@@ -211,7 +212,7 @@ feasible-passes {n} {table} {open?} {K} {c} {legs} {bound} h p x y px py =
     regroup (leg? (lengthOf n table) open? K c x) (leg? (lengthOf n table) open? K c y) (unmoved? (lengthOf n table) K c x y) (shape? n K c x y)
     ∙ ap (λ (t : Bool). t && shape? n K c x y) (sym one-comparison)
   where
-    one-comparison : leb (getD legs x 0 + 2000000 + getD legs y 0) (lengthOf n table x y + bound)
+    one-comparison : leb (getD legs x 0 + mostLength + getD legs y 0) (lengthOf n table x y + bound)
         ≡ leg? (lengthOf n table) open? K c x && (leg? (lengthOf n table) open? K c y && unmoved? (lengthOf n table) K c x y)
     one-comparison =
         rw (p .each x px, p .each y py, p .least)

@@ -11,10 +11,11 @@ use lib.ListN.{length, getD, set, replicate, length-set, length-replicate, getD-
 use lib.Seq.{getD-set-same, getD-set-other}
 use borrow.Author.Tests.{eqb-true, eqb-false, eq-eqb, ne-eqb}
 use Rattle.lengths.specs.Edge.{Edge, Point}
+use Rattle.lengths.specs.Instance.{mostPoints, pointPlaces}
 use Rattle.rules.specs.Shape.{reaches?, shuts?}
 use Rattle.rules.specs.Near.{withPoint, seen, neighbours, beyond}
-use Rattle.rules.specs.Stored.{edgesOf, edgeList, Held}
-use Rattle.rules.specs.Ways.{wayOf, joined, further, passing, Named, PassAsked, Passed, WaysAsked, Ways, Scouted, Fit}
+use Rattle.rules.specs.Stored.{edgesOf, edgeList, Held, mostKnown}
+use Rattle.rules.specs.Ways.{wayOf, joined, further, passing, Named, PassAsked, Passed, WaysAsked, Ways, Scouted, Fit, fork}
 use Rattle.rules.specs.declared.edge_set.EdgeSet.{EdgeSet}
 use Rattle.rules.specs.declared.near.Near.{Near}
 use Rattle.rules.specs.declared.near.Near.the-variants.{None, One, Two, More}
@@ -29,13 +30,13 @@ pub way-none : (m : ℕ) → m ≡ 0 → wayOf m ≡ Stop
 unfolding wayOf
 way-none m e = rw (eq-eqb m 0 e)
 
-pub way-fork : (m : ℕ) → m ≡ 65535 → wayOf m ≡ Fork
+pub way-fork : (m : ℕ) → m ≡ fork → wayOf m ≡ Fork
 unfolding wayOf
 way-fork m e = rw e
 
-pub way-one : (m : ℕ) → (m ≡ 0 → ⊥) → (m ≡ 65535 → ⊥) → wayOf m ≡ On m
+pub way-one : (m : ℕ) → (m ≡ 0 → ⊥) → (m ≡ fork → ⊥) → wayOf m ≡ On m
 unfolding wayOf
-way-one m h g = rw (ne-eqb m 0 h, ne-eqb m 65535 g)
+way-one m h g = rw (ne-eqb m 0 h, ne-eqb m fork g)
 
 module _ (m u c : ℕ) (named : Named u) where
   way-named : wayOf u ≡ On u
@@ -53,11 +54,11 @@ module _ (m u c : ℕ) (named : Named u) where
   unfolding further joined
   further-same h e = let w : wayOf m ≡ On u = ap wayOf e ∙ way-named in rw (ne-eqb u c h, w, eq-eqb u u refl)
 
-  pub further-fork : (u ≡ c → ⊥) → (m ≡ 0 → ⊥) → (m ≡ u → ⊥) → wayOf 65535 ≡ further (wayOf m) u c
+  pub further-fork : (u ≡ c → ⊥) → (m ≡ 0 → ⊥) → (m ≡ u → ⊥) → wayOf fork ≡ further (wayOf m) u c
   unfolding further joined
-  further-fork h z e = elim (ℕ-discrete m 65535) [
-    | yes q ↦ way-fork 65535 refl ∙ rw (ne-eqb u c h, way-fork m q)
-    | no q ↦ way-fork 65535 refl ∙ rw (ne-eqb u c h, way-one m z q, ne-eqb m u e)
+  further-fork h z e = elim (ℕ-discrete m fork) [
+    | yes q ↦ way-fork fork refl ∙ rw (ne-eqb u c h, way-fork m q)
+    | no q ↦ way-fork fork refl ∙ rw (ne-eqb u c h, way-one m z q, ne-eqb m u e)
   ]
 
 -- `beyond` takes in a neighbour as `further` does
@@ -159,21 +160,21 @@ module _ {ways : List ℕ} {p q : ℕ} (c m : ℕ) (a : PassAsked ways p q) (e :
 
 pub record Gathering (from to : List ℕ) (count c : ℕ) (ways : List ℕ) (i : ℕ) : Type 0 where
   pub within : i ≤ count
-  pub few : count ≤ 13
+  pub few : count ≤ mostKnown
   pub known : Ways (edgesOf from to i) c ways
 
-pub gather-start : {k : EdgeSet} (c : ℕ) → WaysAsked k → Gathering (k .from) (k .to) (k .count) c (replicate {A = ℕ} 181 0) 0
+pub gather-start : {k : EdgeSet} (c : ℕ) → WaysAsked k → Gathering (k .from) (k .to) (k .count) c (replicate {A = ℕ} pointPlaces 0) 0
 unfolding edgesOf neighbours beyond
 gather-start c a = record {
   within = omega arith;
   few = a .stored .few;
-  known = record { size = length-replicate {A = ℕ} 181 0; each = λ v. way-none (getD (replicate {A = ℕ} 181 0) v 0) (zeros v) };
+  known = record { size = length-replicate {A = ℕ} pointPlaces 0; each = λ v. way-none (getD (replicate {A = ℕ} pointPlaces 0) v 0) (zeros v) };
 }
   where
-    zeros : (v : ℕ) → getD (replicate {A = ℕ} 181 0) v 0 ≡ 0
-    zeros v = elim (decLt v 181) [
-      | yes h ↦ getD-replicate {A = ℕ} 181 v 0 0 h
-      | no h ↦ List·getD-eq-default {A = ℕ} (replicate {A = ℕ} 181 0) 0 {n = v} (omega (arith, length-replicate {A = ℕ} 181 0))
+    zeros : (v : ℕ) → getD (replicate {A = ℕ} pointPlaces 0) v 0 ≡ 0
+    zeros v = elim (decLt v pointPlaces) [
+      | yes h ↦ getD-replicate {A = ℕ} pointPlaces v 0 0 h
+      | no h ↦ List·getD-eq-default {A = ℕ} (replicate {A = ℕ} pointPlaces 0) 0 {n = v} (omega (arith, length-replicate {A = ℕ} pointPlaces 0))
     ]
 
 pub gather-on : {from to : List ℕ} {count c : ℕ} {ways : List ℕ} {i : ℕ} {r : List ℕ} → Gathering from to count c ways i → i < count
@@ -203,29 +204,29 @@ gather-end {k} {c} {ways} {i} g h =
 -- the test of a cycle, by the numbers
 
 module _ (n : ℕ) (K : List Edge) (x y at-x at-y : ℕ) where
-  pub shuts-first : at-x ≡ 65535 → true ≡ shuts? n K x y (wayOf at-x) (wayOf at-y)
+  pub shuts-first : at-x ≡ fork → true ≡ shuts? n K x y (wayOf at-x) (wayOf at-y)
   unfolding shuts?
   shuts-first e = rw (way-fork at-x e)
 
-  pub shuts-second : (at-x ≡ 65535 → ⊥) → at-y ≡ 65535 → true ≡ shuts? n K x y (wayOf at-x) (wayOf at-y)
+  pub shuts-second : (at-x ≡ fork → ⊥) → at-y ≡ fork → true ≡ shuts? n K x y (wayOf at-x) (wayOf at-y)
   unfolding shuts?
   shuts-second h e = elim (ℕ-discrete at-x 0) [
     | yes z ↦ rw (way-none at-x z, way-fork at-y e)
     | no z ↦ rw (way-one at-x z h, way-fork at-y e)
   ]
 
-  pub open-first : (at-y ≡ 65535 → ⊥) → at-x ≡ 0 → false ≡ shuts? n K x y (wayOf at-x) (wayOf at-y)
+  pub open-first : (at-y ≡ fork → ⊥) → at-x ≡ 0 → false ≡ shuts? n K x y (wayOf at-x) (wayOf at-y)
   unfolding shuts?
   open-first h e = elim (ℕ-discrete at-y 0) [
     | yes z ↦ rw (way-none at-x e, way-none at-y z)
     | no z ↦ rw (way-none at-x e, way-one at-y z h)
   ]
 
-  pub open-second : (at-x ≡ 65535 → ⊥) → (at-x ≡ 0 → ⊥) → at-y ≡ 0 → false ≡ shuts? n K x y (wayOf at-x) (wayOf at-y)
+  pub open-second : (at-x ≡ fork → ⊥) → (at-x ≡ 0 → ⊥) → at-y ≡ 0 → false ≡ shuts? n K x y (wayOf at-x) (wayOf at-y)
   unfolding shuts?
   open-second h z e = rw (way-one at-x z h, way-none at-y e)
 
-  pub shuts-both : (at-x ≡ 65535 → ⊥) → (at-x ≡ 0 → ⊥) → (at-y ≡ 65535 → ⊥) → (at-y ≡ 0 → ⊥)
+  pub shuts-both : (at-x ≡ fork → ⊥) → (at-x ≡ 0 → ⊥) → (at-y ≡ fork → ⊥) → (at-y ≡ 0 → ⊥)
       → reaches? (n - 3) K x at-x y ≡ shuts? n K x y (wayOf at-x) (wayOf at-y)
   unfolding shuts?
   shuts-both h z g w = rw (way-one at-x z h, way-one at-y w g)
@@ -239,7 +240,7 @@ fit-of {K} {c} {ways} {centre} s = record { size = s .each .size; apart = λ a b
     around a b e h = subst (Around K c) e h .apart
 
 -- the points of a set are places of the array of ways
-pub ways-asked : {n : ℕ} {k : EdgeSet} → n ≤ 180 → Held n k → WaysAsked k
+pub ways-asked : {n : ℕ} {k : EdgeSet} → n ≤ mostPoints → Held n k → WaysAsked k
 ways-asked {n} few h = record {
   stored = h .stored;
   from-named = λ i l. named (h .points .from-point i l);

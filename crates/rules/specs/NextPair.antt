@@ -7,6 +7,7 @@ use mathlib.Core.List.{List, [], _∷_}
 use lib.Dec.{leb}
 use lib.ListN.{getD}
 use Rattle.lengths.specs.Edge.{Edge, edge}
+use Rattle.lengths.specs.Instance.{mostLength}
 use Rattle.lengths.specs.Table.{lengthOf}
 use Rattle.rules.specs.Near.{within?}
 use Rattle.rules.specs.Nearby.{NearbyOf}
@@ -22,7 +23,7 @@ use Rattle.rules.specs.declared.pairs.NextPair.the-variants.{Pair, End}
 
 -- the pair x, y passes the one comparison
 unfoldable pub passes? : ℕ → List ℕ → List ℕ → ℕ → ℕ → ℕ → Bool
-passes? n table legs bound x y = leb (getD legs x 0 + 2000000 + getD legs y 0) (lengthOf n table x y + bound)
+passes? n table legs bound x y = leb (getD legs x 0 + mostLength + getD legs y 0) (lengthOf n table x y + bound)
 
 -- the same, and condition 2 at c: all the neighbours that c has are x or y
 unfoldable pub allowed? : ℕ → List ℕ → List ℕ → ℕ → Near → ℕ → ℕ → Bool

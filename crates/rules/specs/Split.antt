@@ -1,5 +1,5 @@
 -- What a split point's search looks up for every pair, computed once: the length of each leg, and how much a pair may cost.
--- A leg that conditions 1 and 4 rule out is FAR, 10,000,000: more than any pair may cost.
+-- A leg that conditions 1 and 4 rule out is `far`: more than any pair may cost.
 use Prim.Native.Nat.{ℕ, _+_, _-_, _*_, _≤_, _<_, min, max}
 use mathlib.Core.Path.{_≡_}
 use mathlib.Core.Bool.{Bool, cond}
@@ -7,6 +7,7 @@ use mathlib.Core.List.{List, [], _∷_}
 use lib.Dec.{eqb, leb}
 use lib.ListN.{length, getD}
 use Rattle.lengths.specs.Edge.{Edge, edge, Point, edgeCount}
+use Rattle.lengths.specs.Instance.{mostLength, mostPoints, pointPlaces}
 use Rattle.lengths.specs.Rows.{RowAt, Rows}
 use Rattle.lengths.specs.Table.{lengthOf}
 use Rattle.rules.specs.PairTest.{leg?}
@@ -16,36 +17,44 @@ use Rattle.rules.specs.declared.edge_set.EdgeSet.{EdgeSet}
 use Rattle.rules.specs.declared.split.Split.{Split}
 use Rattle.rules.specs.declared.split.Triangle.{Triangle}
 
--- a table of at most 180 points, no length above 2,000,000 (01, "Points, lengths, marks")
+-- more than any pair may cost
+abbrev pub far : ℕ
+far = 5 * mostLength
+
+-- the bound where no edge of K asks for less: two legs that are not far always meet it
+abbrev pub loose : ℕ
+loose = 3 * mostLength
+
+-- a table of an instance's size, no length above its limit (01, "Points, lengths, marks")
 pub record Lengths (n : ℕ) (table : List ℕ) : Type 0 where
-  pub few : n ≤ 180
+  pub few : n ≤ mostPoints
   pub whole : length table ≡ edgeCount n
-  pub small : (i : ℕ) → getD table i 0 ≤ 2000000
+  pub small : (i : ℕ) → getD table i 0 ≤ mostLength
 
--- the length from c to x where cx meets conditions 1 and 4, else FAR
+-- the length from c to x where cx meets conditions 1 and 4, else far
 unfoldable pub legOf : (ℕ → ℕ → ℕ) → (ℕ → ℕ → Bool) → List Edge → ℕ → ℕ → ℕ
-legOf l open? K c x = cond (leg? l open? K c x) (l c x) 10000000
+legOf l open? K c x = cond (leg? l open? K c x) (l c x) far
 
--- the leg m of x with the edge pq taken in: FAR where the two are not compatible
+-- the leg m of x with the edge pq taken in: far where the two are not compatible
 unfoldable pub narrowed : (ℕ → ℕ → ℕ) → ℕ → ℕ → ℕ → ℕ → ℕ → ℕ
-narrowed l c p q x m = cond (leb (m + l p q) (max (l c p + l x q) (l c q + l x p))) m 10000000
+narrowed l c p q x m = cond (leb (m + l p q) (max (l c p + l x q) (l c q + l x p))) m far
 
 -- the same by numbers: a leg m that is `both` with the edge, and the two exchanges
 unfoldable pub narrowedBy : ℕ → ℕ → ℕ → ℕ → ℕ
-narrowedBy m both one other = cond (leb both (max one other)) m 10000000
+narrowedBy m both one other = cond (leb both (max one other)) m far
 
 -- the bound b with the edge uv taken in: by condition 5 a pair x, y has l(xc) + l(yc) - l(xy) at most l(uc) + l(vc) - l(uv).
--- 2,000,000 is added on both sides, so that nothing is negative.
+-- The longest length is added on both sides, so that nothing is negative.
 unfoldable pub tightened : (ℕ → ℕ → ℕ) → ℕ → ℕ → ℕ → ℕ → ℕ
-tightened l c u v b = cond (eqb u c) b (cond (eqb v c) b (min (l u c + l v c + 2000000 - l u v) b))
+tightened l c u v b = cond (eqb u c) b (cond (eqb v c) b (min (l u c + l v c + mostLength - l u v) b))
 
 -- the same by the lengths uv, cu and cv
 unfoldable pub tightenedBy : ℕ → ℕ → ℕ → ℕ → ℕ → ℕ → ℕ → ℕ
-tightenedBy c u v uv cu cv b = cond (eqb u c) b (cond (eqb v c) b (min (cu + cv + 2000000 - uv) b))
+tightenedBy c u v uv cu cv b = cond (eqb u c) b (cond (eqb v c) b (min (cu + cv + mostLength - uv) b))
 
--- the least of these over the edges of K that do not touch c; 6,000,000 where there is none, which every pair meets
+-- the least of these over the edges of K that do not touch c; `loose` where there is none, which every pair meets
 unfoldable pub boundOf : (ℕ → ℕ → ℕ) → List Edge → ℕ → ℕ
-boundOf l [] c = 6000000
+boundOf l [] c = loose
 boundOf l (edge u v ∷ es) c = tightened l c u v (boundOf l es c)
 
 -- the legs are those of 1 to n
@@ -57,15 +66,15 @@ pub record Prepared (n : ℕ) (l : ℕ → ℕ → ℕ) (open? : ℕ → ℕ →
   pub each : LegsOf n l open? K c legs
   pub least : bound ≡ boundOf l K c
 
--- an array of legs: a place for each point and for 0, none above FAR
+-- an array of legs: a place for each point and for 0, none above far
 pub record LegList (legs : List ℕ) : Type 0 where
-  pub size : length legs ≡ 181
-  pub near : (x : ℕ) → getD legs x 0 ≤ 10000000
+  pub size : length legs ≡ pointPlaces
+  pub near : (x : ℕ) → getD legs x 0 ≤ far
 
 -- such an array, and a bound that is at most that of no edge
 pub record Bounded (legs : List ℕ) (bound : ℕ) : Type 0 where
   pub list : LegList legs
-  pub tight : bound ≤ 6000000
+  pub tight : bound ≤ loose
 
 -- what the legs are asked about: a table, the marks, and the split point
 pub record LegsAsked (n : ℕ) (table marks : List ℕ) (c : ℕ) : Type 0 where
@@ -73,10 +82,10 @@ pub record LegsAsked (n : ℕ) (table marks : List ℕ) (c : ℕ) : Type 0 where
   pub marked : length marks ≡ edgeCount n
   pub centre : Point n c
 
--- a row of lengths stands in `rows` from `at` on, none above 2,000,000
+-- a row of lengths stands in `rows` from `at` on, none above the limit
 pub record RowLent (n : ℕ) (rows : List ℕ) (at : ℕ) : Type 0 where
   pub room : at + n < length rows
-  pub small : (x : ℕ) → Point n x → getD rows (at + x) 0 ≤ 2000000
+  pub small : (x : ℕ) → Point n x → getD rows (at + x) 0 ≤ mostLength
 
 -- the lengths to the points by the row that stands at `at`
 unfoldable pub rowOf : List ℕ → ℕ → ℕ → ℕ → ℕ
@@ -84,16 +93,16 @@ rowOf rows at c x = getD rows (at + x) 0
 
 -- what the legs are asked about where K is empty: the marks, and c with its row
 pub record OpenAsked (n : ℕ) (marks rows : List ℕ) (c at : ℕ) : Type 0 where
-  pub few : n ≤ 180
+  pub few : n ≤ mostPoints
   pub marked : length marks ≡ edgeCount n
   pub centre : Point n c
   pub row : RowLent n rows at
 
--- the legs of the points below x are those where K is empty, the others are FAR
+-- the legs of the points below x are those where K is empty, the others are far
 pub record OpenBelow (n : ℕ) (marks rows : List ℕ) (c at : ℕ) (legs : List ℕ) (x : ℕ) : Type 0 where
   pub list : LegList legs
   pub done : (i : ℕ) → 1 ≤ i → i < x → getD legs i 0 ≡ legOf (rowOf rows at) (openIn n marks) [] c i
-  pub rest : (i : ℕ) → x ≤ i → i ≤ 180 → getD legs i 0 ≡ 10000000
+  pub rest : (i : ℕ) → x ≤ i → i ≤ mostPoints → getD legs i 0 ≡ far
 
 -- what filling in the legs from x on is asked about
 pub record OpenFrom (n : ℕ) (marks rows : List ℕ) (c at : ℕ) (legs : List ℕ) (x : ℕ) : Type 0 where
@@ -105,15 +114,15 @@ pub record OpenLegs (n : ℕ) (marks rows : List ℕ) (c at : ℕ) (legs : List 
   pub list : LegList legs
   pub each : LegsOf n (rowOf rows at) (openIn n marks) [] c legs
 
--- three lengths, none above 2,000,000
+-- three lengths, none above the limit
 pub record Short (pq cp cq : ℕ) : Type 0 where
-  pub first : pq ≤ 2000000
-  pub second : cp ≤ 2000000
-  pub third : cq ≤ 2000000
+  pub first : pq ≤ mostLength
+  pub second : cp ≤ mostLength
+  pub third : cq ≤ mostLength
 
 -- what taking pq into all legs is asked about: the rows of p and q, which begin at ps and qs, and the lengths pq, cp and cq
 pub record NarrowAsked (n : ℕ) (rows legs : List ℕ) (ps qs pq cp cq : ℕ) : Type 0 where
-  pub few : n ≤ 180
+  pub few : n ≤ mostPoints
   pub list : LegList legs
   pub row-p : RowLent n rows ps
   pub row-q : RowLent n rows qs
@@ -165,22 +174,22 @@ pub record TakenIn (n : ℕ) (table : List ℕ) (c u v : ℕ) (legs : List ℕ) 
   pub each : (open? : ℕ → ℕ → Bool) (K : List Edge) → LegsOf n (lengthOf n table) open? K c legs → LegsOf n (lengthOf n table) open? (edge u v ∷ K) c left
   pub least : r ≡ tightened (lengthOf n table) c u v bound
 
--- what writing three rows is asked about: an edge and a point, and room for rows of 181 places
+-- what writing three rows is asked about: an edge and a point, and room for three rows
 pub record EdgeRowsAsked (n : ℕ) (table : List ℕ) (a b c : ℕ) (rows : List ℕ) : Type 0 where
   pub asked : EdgeAsked n table a b c
-  pub size : length rows ≡ 543
+  pub size : length rows ≡ 3 * pointPlaces
 
 -- the rows of c, a and b
 pub record EdgeRows (n : ℕ) (table : List ℕ) (a b c : ℕ) (rows : List ℕ) : Type 0 where
   pub row-c : RowAt n table rows 0 c
-  pub row-a : RowAt n table rows 181 a
-  pub row-b : RowAt n table rows 362 b
-  pub size : length rows ≡ 543
+  pub row-a : RowAt n table rows pointPlaces a
+  pub row-b : RowAt n table rows (2 * pointPlaces) b
+  pub size : length rows ≡ 3 * pointPlaces
 
 -- where these rows begin, and the lengths ab, ca and cb
 pub record EdgeTriangle (n : ℕ) (table : List ℕ) (a b c : ℕ) (t : Triangle) : Type 0 where
-  pub start-a : t .ps ≡ 181
-  pub start-b : t .qs ≡ 362
+  pub start-a : t .ps ≡ pointPlaces
+  pub start-b : t .qs ≡ 2 * pointPlaces
   pub is-ab : t .pq ≡ lengthOf n table a b
   pub is-ca : t .cp ≡ lengthOf n table c a
   pub is-cb : t .cq ≡ lengthOf n table c b

@@ -1,12 +1,16 @@
--- The edges that an EdgeSet stores, last in first, and what its functions keep: arrays of 13, a count that fits, points of 1 to n.
+-- The edges that an EdgeSet stores, last in first, and what its functions keep: arrays of its size, a count that fits, points of 1 to n.
 -- These are the readings that the contracts of src/edge_set.rt cite.
-use Prim.Native.Nat.{ℕ, zero, suc, _+_, _≤_, _<_}
+use Prim.Native.Nat.{ℕ, zero, suc, _+_, _*_, _≤_, _<_}
 use mathlib.Core.Path.{_≡_}
 use mathlib.Core.List.{List, [], _∷_}
 use lib.ListN.{length, getD}
 use Rattle.lengths.specs.Edge.{Edge, edge, Point}
 use Rattle.rules.specs.Pair.{withPair}
 use Rattle.rules.specs.declared.edge_set.EdgeSet.{EdgeSet}
+
+-- the most edges that K has: the edge to be struck, and two for each of six splits
+abbrev pub mostKnown : ℕ
+mostKnown = 1 + 2 * 6
 
 -- the first m stored edges as a list, the last one in first
 unfoldable pub edgesOf : List ℕ → List ℕ → ℕ → List Edge
@@ -17,11 +21,11 @@ edgesOf f t (suc m) = edge (getD f m 0) (getD t m 0) ∷ edgesOf f t m
 unfoldable pub edgeList : EdgeSet → List Edge
 edgeList k = edgesOf (k .from) (k .to) (k .count)
 
--- the arrays have their 13 places, and the edges fit in
+-- the arrays have their places, and the edges fit in
 pub record Stored (k : EdgeSet) : Type 0 where
-  pub from-size : length (k .from) ≡ 13
-  pub to-size : length (k .to) ≡ 13
-  pub few : k .count ≤ 13
+  pub from-size : length (k .from) ≡ mostKnown
+  pub to-size : length (k .to) ≡ mostKnown
+  pub few : k .count ≤ mostKnown
 
 -- every stored point is one of 1 to n
 pub record Pointed (n : ℕ) (k : EdgeSet) : Type 0 where

@@ -1,8 +1,8 @@
 // The edge set K, passed by value.
 ghost use mathlib.Core.Path.{_≡_};
-ghost use Prim.Native.Nat.{_≤_};
+ghost use Prim.Native.Nat.{_+_, _≤_};
 ghost use Rattle.rules.specs.Joined.{joins?, has?};
-ghost use Rattle.rules.specs.Stored.{edgeList, Stored, Single, Added};
+ghost use Rattle.rules.specs.Stored.{mostKnown, edgeList, Stored, Single, Added};
 
 // The i-th edge taken in joins from[i] and to[i], for i below count. An edge may stand twice.
 pub struct EdgeSet {
@@ -28,7 +28,7 @@ fn joins(p: u16, q: u16, a: u16, b: u16) -> bool
 
 impl EdgeSet {
     // The most edges that a set holds: the edge to be struck, and two for each of six splits.
-    pub const MOST: usize = 13;
+    pub const MOST: usize = 1 + 2 * 6;
 
     // The set of the one edge ab.
     pub fn single(a: u16, b: u16) -> EdgeSet
@@ -44,7 +44,7 @@ impl EdgeSet {
     // The set with the edges cx and cy added.
     pub fn with_pair(self, c: u16, x: u16, y: u16) -> EdgeSet
         requires { ⌜ Stored self ⌝ }
-        requires { ⌜ self .count ≤ 11 ⌝ }
+        requires { ⌜ self .count + 2 ≤ mostKnown ⌝ }
         ensures { λ r. ⌜ Added self c x y r ⌝ }
     {
         let count = self.count;

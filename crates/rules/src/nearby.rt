@@ -1,16 +1,18 @@
 // The points whose leg is not FAR: the only ones that the search for a pair visits.
 use crate::split::Split;
+use lengths::instance::Instance;
 ghost use mathlib.Core.Path.{_≡_};
 ghost use mathlib.Core.Bool.{cond};
 ghost use lib.Dec.{eqb};
+ghost use Rattle.rules.specs.Split.{far};
 ghost use Rattle.rules.specs.Nearby.{NearbyAsked, NearbyOf};
 
 // A place for each point, one for 0, which is no point, and one for n + 1.
-pub const PLACES: usize = Split::PLACES + 1;
+pub const PLACES: usize = Instance::PLACES + 1;
 
 // 1 for a leg that is not FAR, else 0: no branch.
 fn one_if_near(leg: u32) -> u16
-    ensures { λ r. ⌜ r ≡ cond (eqb leg 10000000) 0 1 ⌝ }
+    ensures { λ r. ⌜ r ≡ cond (eqb leg far) 0 1 ⌝ }
 {
     (leg != Split::FAR) as u16
 }
@@ -18,7 +20,7 @@ fn one_if_near(leg: u32) -> u16
 // Lists the points whose leg is not FAR in `near`, rising, and behind them n + 1. rank[w] is the place there of the first that is w or above.
 pub fn list_nearby(
     n: u16,
-    legs: &[u32; Split::PLACES],
+    legs: &[u32; Instance::PLACES],
     near: &mut [u16; PLACES],
     rank: &mut [u16; PLACES],
 )

@@ -22,7 +22,7 @@ pub enum NextPair {
 fn next_in_row(
     n: u16,
     table: &[u32],
-    legs: &[u32; Split::PLACES],
+    legs: &[u32; Instance::PLACES],
     near: &[u16; nearby::PLACES],
     rank: &[u16; nearby::PLACES],
     bound: u32,
@@ -58,7 +58,7 @@ fn next_in_row(
 fn next_with(
     n: u16,
     table: &[u32],
-    legs: &[u32; Split::PLACES],
+    legs: &[u32; Instance::PLACES],
     near: &[u16; nearby::PLACES],
     rank: &[u16; nearby::PLACES],
     bound: u32,
@@ -89,7 +89,7 @@ fn next_with(
 fn next_beside(
     n: u16,
     table: &[u32],
-    legs: &[u32; Split::PLACES],
+    legs: &[u32; Instance::PLACES],
     near: &[u16; nearby::PLACES],
     rank: &[u16; nearby::PLACES],
     bound: u32,
@@ -120,11 +120,11 @@ fn next_beside(
 pub fn next_pair(
     n: u16,
     table: &[u32],
-    legs: &[u32; Split::PLACES],
+    legs: &[u32; Instance::PLACES],
     near: &[u16; nearby::PLACES],
     rank: &[u16; nearby::PLACES],
     bound: u32,
-    ways: &[u16; Split::PLACES],
+    ways: &[u16; Instance::PLACES],
     centre: Near,
     k: EdgeSet,
     x: u16,

@@ -10,21 +10,18 @@ ghost use mathlib.Core.Bool.{cond};
 ghost use mathlib.Core.List.{[], _∷_};
 ghost use lib.Dec.{eqb};
 ghost use lib.ListN.{length, getD};
-ghost use Rattle.rules.specs.Split.{TakeAsked, TakenIn, narrowedBy, tightenedBy, OpenAsked, OpenFrom, OpenBelow, OpenLegs, Short, NarrowAsked, Narrowed, TriangleAsked, TriangleIn, SingleAsked, SplitAsked, SplitOf, boundOf, EdgeAsked, EdgeRowsAsked, EdgeRows, EdgeTriangle, EdgeLegsAsked, EdgeLegs};
+ghost use Rattle.rules.specs.Split.{far, TakeAsked, TakenIn, narrowedBy, tightenedBy, OpenAsked, OpenFrom, OpenBelow, OpenLegs, Short, NarrowAsked, Narrowed, TriangleAsked, TriangleIn, SingleAsked, SplitAsked, SplitOf, boundOf, EdgeAsked, EdgeRowsAsked, EdgeRows, EdgeTriangle, EdgeLegsAsked, EdgeLegs};
 ghost use Rattle.lengths.specs.Edge.{edge};
 ghost use Rattle.lengths.specs.Table.{lengthOf};
 
 // legs[x] is the length from the split point c to x where cx is open and compatible with every edge of K, else FAR.
 // A pair x, y meets conditions 1, 4 and 5 exactly when legs[x] + legs[y] + MOST_LENGTH is at most l(xy) + bound.
 pub struct Split {
-    pub legs: [u32; Split::PLACES],
+    pub legs: [u32; Instance::PLACES],
     pub bound: u32,
 }
 
 impl Split {
-    // A place for each point, and one for 0, which is no point.
-    pub const PLACES: usize = 181;
-
     // More than any pair may cost.
     pub const FAR: u32 = 5 * Instance::MOST_LENGTH;
 
@@ -46,7 +43,7 @@ struct Triangle {
 
 // The leg where K is empty of a point that is not c, by the mark of its edge to c and the length.
 fn open_leg(mark: u8, length: u32) -> u32
-    ensures { λ r. ⌜ r ≡ cond (eqb mark 1) length 10000000 ⌝ }
+    ensures { λ r. ⌜ r ≡ cond (eqb mark 1) length far ⌝ }
 {
     if mark == 1 {
         return length;
@@ -61,7 +58,7 @@ fn open_below(
     c: u16,
     rows: &[u32],
     at: usize,
-    legs: &mut [u32; Split::PLACES],
+    legs: &mut [u32; Instance::PLACES],
 )
     requires { ⌜ OpenFrom n (now marks) (now rows) c at (now legs) 1 ⌝ }
     ensures { λ _. ⌜ OpenBelow n (now (marks .entry)) (now (rows .entry)) c at (now (legs .exit)) c ⌝ }
@@ -84,7 +81,7 @@ fn open_above(
     c: u16,
     rows: &[u32],
     at: usize,
-    legs: &mut [u32; Split::PLACES],
+    legs: &mut [u32; Instance::PLACES],
 )
     requires { ⌜ OpenFrom n (now marks) (now rows) c at (now legs) (c + 1) ⌝ }
     ensures { λ _. ⌜ OpenBelow n (now (marks .entry)) (now (rows .entry)) c at (now (legs .exit)) (n + 1) ⌝ }
@@ -104,11 +101,11 @@ fn open_above(
 }
 
 // The legs of all points where K is empty, by the row of c that stands at `at`.
-fn open_legs(n: u16, marks: &[u8], c: u16, rows: &[u32], at: usize) -> [u32; Split::PLACES]
+fn open_legs(n: u16, marks: &[u8], c: u16, rows: &[u32], at: usize) -> [u32; Instance::PLACES]
     requires { ⌜ OpenAsked n (now marks) (now rows) c at ⌝ }
     ensures { λ r. ⌜ OpenLegs n (now (marks .entry)) (now (rows .entry)) c at r ⌝ }
 {
-    let mut legs = [Split::FAR; Split::PLACES];
+    let mut legs = [Split::FAR; Instance::PLACES];
     open_below(n, marks, c, rows, at, &mut legs);
     open_above(n, marks, c, rows, at, &mut legs);
     legs
@@ -131,7 +128,7 @@ fn narrow_leg(leg: u32, both: u32, one: u32, other: u32) -> u32
 fn narrow(
     n: u16,
     rows: &[u32],
-    legs: &mut [u32; Split::PLACES],
+    legs: &mut [u32; Instance::PLACES],
     ps: usize,
     qs: usize,
     pq: u32,
@@ -211,7 +208,7 @@ fn take_in(
     c: u16,
     u: u16,
     v: u16,
-    legs: &mut [u32; Split::PLACES],
+    legs: &mut [u32; Instance::PLACES],
     bound: u32,
 ) -> u32
     requires { ⌜ TakeAsked n (now table) (now rows) c u v (now legs) bound ⌝ }
@@ -256,8 +253,8 @@ fn fill_edge_rows(n: u16, table: &[u32], a: u16, b: u16, c: u16, rows: &mut [u32
     ensures { λ _. ⌜ EdgeRows n (now (table .entry)) a b c (now (rows .exit)) ⌝ }
 {
     fill_row(n, table, c, rows, 0);
-    fill_row(n, table, a, rows, Split::PLACES);
-    fill_row(n, table, b, rows, 2 * Split::PLACES);
+    fill_row(n, table, a, rows, Instance::PLACES);
+    fill_row(n, table, b, rows, 2 * Instance::PLACES);
 }
 
 // The triangle of c and the edge ab, by the table and these rows.
@@ -269,8 +266,8 @@ fn edge_triangle(n: u16, table: &[u32], a: u16, b: u16, c: u16) -> Triangle
     let ca = length_between(n, table, c, a) as u32;
     let cb = length_between(n, table, c, b) as u32;
     Triangle {
-        ps: Split::PLACES,
-        qs: 2 * Split::PLACES,
+        ps: Instance::PLACES,
+        qs: 2 * Instance::PLACES,
         pq: ab,
         cp: ca,
         cq: cb,
@@ -285,11 +282,11 @@ fn legs_for_edge(
     a: u16,
     b: u16,
     c: u16,
-) -> [u32; Split::PLACES]
+) -> [u32; Instance::PLACES]
     requires { ⌜ EdgeLegsAsked n (now table) (now marks) a b c ⌝ }
     ensures { λ r. ⌜ EdgeLegs n (now (table .entry)) (now (marks .entry)) a b c r ⌝ }
 {
-    let mut rows = [0u32; 3 * Split::PLACES];
+    let mut rows = [0u32; 3 * Instance::PLACES];
     fill_edge_rows(n, table, a, b, c, &mut rows);
     let mut legs = open_legs(n, marks, c, &rows, 0);
     let t = edge_triangle(n, table, a, b, c);

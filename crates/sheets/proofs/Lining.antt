@@ -12,6 +12,7 @@ use Rattle.rules.specs.Mark.{openIn}
 use Rattle.rules.specs.Mark as mark
 use Rattle.rules.specs.Stored.{edgeList, Single}
 use Rattle.rules.specs.declared.edge_set.EdgeSet.{EdgeSet}
+use Rattle.argument.specs.Argument.{splitLimit}
 use Rattle.argument.specs.Verdict.{Verdict, accepted, refused, andThen}
 use Rattle.argument.specs.Record.{splits, line, records, recordAt, fits}
 use Rattle.argument.specs.Layout.{Enters}
@@ -27,7 +28,7 @@ use Rattle.argument.proofs.Sheet.{turn-over, turn-8, turn-9, turn-stops, turn-s
 use Rattle.sheets.specs.Lines.{LineAsked, TurnedAs, judgedOf, placeOf, turnedOf, marksAfter}
 use Rattle.sheets.specs.Results.{resultOf}
 use Rattle.sheets.specs.Rules.{rulesOf, markingOf, strikeIn}
-use Rattle.sheets.specs.Sheets.{recordOf}
+use Rattle.sheets.specs.Sheets.{recordOf, mostRecords}
 use Rattle.sheets.specs.Walks.{walkedOf, Tried, ChainAsked}
 use Rattle.sheets.specs.declared.line.Judged.{Judged}
 use Rattle.sheets.specs.declared.line.Judged.the-variants as judging
@@ -75,7 +76,7 @@ module _ {n : ℕ} {table rows marks s : List ℕ} {i : ℕ} (asked : LineAsked 
       record { is-edge = record { first = t .point-a; second = t .point-b; apart = t .apart }; whole = asked .tried .admitted .marked }
 
   -- the first split: five more may lie inside it
-  pub line-chain : {k : EdgeSet} → Single a b k → ChainAsked n table rows marks s k 5 c
+  pub line-chain : {k : EdgeSet} → Single a b k → ChainAsked n table rows marks s k (splitLimit - 1) c
   line-chain one =
       let t = fits-means n a b (splits c first) f in
       record { tried = asked .tried; held = one .held n (t .point-a) (t .point-b); room = omega (arith, one .one); centre = t .how-fits }
@@ -177,7 +178,7 @@ module _ {n : ℕ} {table rows marks₀ s marks : List ℕ} {lines last index hi
     risen : Enters s high index × (index ≤ reached)
     risen = turn-rises (markingOf n table) s here (placeOf left (suc lines) index next reached) (turns g)
 
-    pub lines-few : lines + 1 ≤ 4000
+    pub lines-few : lines + 1 ≤ mostRecords
     lines-few = omega (arith, risen .0, p .tried .admitted .few, p .counted)
 
     pub lines-fall : records s - reached < records s - high

@@ -11,7 +11,7 @@ use lib.ListN.{length, getD}
 use borrow.Author.Tests.{eq-eqb, ne-eqb, le-leb, lt-leb, leb-true, eqb-true, eqb-false, not-true}
 use Rattle.lengths.proofs.Bools.{and-left, and-right}
 use Rattle.argument.specs.Record.{Record, line, case, other, splits, crosses, records, field, bare, content, recordAt}
-use Rattle.sheets.specs.Sheets.{wholeSheet, sheetAdmission, Readable}
+use Rattle.sheets.specs.Sheets.{wholeSheet, sheetAdmission, Readable, mostNumbers, mostRecords, recordSize}
 use Rattle.sheets.specs.declared.sheet.Sheet.{Sheet}
 use Rattle.sheets.specs.declared.sheet.SheetAdmission.the-variants.{Admitted, Refused}
 
@@ -21,37 +21,37 @@ module _ (numbers : ℕ) where
   unfolding wholeSheet
   whole-none h = rw (wholeSheet, eq-eqb numbers 0 h)
 
-  pub whole-broken : (numbers % 8 ≡ 0 → ⊥) → wholeSheet numbers ≡ false
+  pub whole-broken : (numbers % recordSize ≡ 0 → ⊥) → wholeSheet numbers ≡ false
   unfolding wholeSheet
-  whole-broken h = rw (wholeSheet, ne-eqb numbers 0 (λ e. h (omega arith)), ne-eqb (numbers % 8) 0 h)
+  whole-broken h = rw (wholeSheet, ne-eqb numbers 0 (λ e. h (omega arith)), ne-eqb (numbers % recordSize) 0 h)
 
-  pub whole-long : 32000 < numbers → wholeSheet numbers ≡ false
+  pub whole-long : mostNumbers < numbers → wholeSheet numbers ≡ false
   unfolding wholeSheet
-  whole-long h = go (eqb (numbers % 8) 0)
+  whole-long h = go (eqb (numbers % recordSize) 0)
     where
-      go : (b : Bool) → not (eqb numbers 0) && (b && leb numbers (4000 * 8)) ≡ false
-      go true = rw (ne-eqb numbers 0 (λ e. omega arith), lt-leb numbers 32000 h)
+      go : (b : Bool) → not (eqb numbers 0) && (b && leb numbers (mostRecords * recordSize)) ≡ false
+      go true = rw (ne-eqb numbers 0 (λ e. omega arith), lt-leb numbers mostNumbers h)
       go false = rw (ne-eqb numbers 0 (λ e. omega arith))
 
-  pub whole-passed : (numbers ≡ 0 → ⊥) → numbers % 8 ≡ 0 → numbers ≤ 32000 → wholeSheet numbers ≡ true
+  pub whole-passed : (numbers ≡ 0 → ⊥) → numbers % recordSize ≡ 0 → numbers ≤ mostNumbers → wholeSheet numbers ≡ true
   unfolding wholeSheet
-  whole-passed h g l = rw (wholeSheet, ne-eqb numbers 0 h, eq-eqb (numbers % 8) 0 g, le-leb numbers 32000 l)
+  whole-passed h g l = rw (wholeSheet, ne-eqb numbers 0 h, eq-eqb (numbers % recordSize) 0 g, le-leb numbers mostNumbers l)
 
-  -- what test 7 says: 1 to 4,000 whole records
+  -- what test 7 says: whole records, within the limits
   pub record WholeSheet : Type 0 where
-    pub exact : numbers ≡ 8 * (numbers / 8)
-    pub some : 1 ≤ numbers / 8
-    pub few : numbers / 8 ≤ 4000
+    pub exact : numbers ≡ recordSize * (numbers / recordSize)
+    pub some : 1 ≤ numbers / recordSize
+    pub few : numbers / recordSize ≤ mostRecords
 
   pub whole-sheet : wholeSheet numbers ≡ true → WholeSheet
   unfolding wholeSheet
   whole-sheet h =
       let none : Bool = not (eqb numbers 0) in
-      let even : Bool = eqb (numbers % 8) 0 in
-      let short : Bool = leb numbers 32000 in
+      let even : Bool = eqb (numbers % recordSize) 0 in
+      let short : Bool = leb numbers mostNumbers in
       let rest : (even && short) ≡ true = and-right none (even && short) h in
-      let whole : numbers % 8 ≡ 0 = eqb-true (numbers % 8) 0 (and-left even short rest) in
-      let few : numbers ≤ 32000 = leb-true numbers 32000 (and-right even short rest) in
+      let whole : numbers % recordSize ≡ 0 = eqb-true (numbers % recordSize) 0 (and-left even short rest) in
+      let few : numbers ≤ mostNumbers = leb-true numbers mostNumbers (and-right even short rest) in
       let some : numbers ≡ 0 → ⊥ = eqb-false numbers 0 (not-true (eqb numbers 0) (and-left none (even && short) h)) in
       record { exact = omega arith; some = omega (arith, some); few = omega arith }
 
@@ -59,14 +59,14 @@ module _ (numbers : ℕ) where
   unfolding sheetAdmission
   refused-sheet h = rw (sheetAdmission, h)
 
-  pub admitted-sheet : wholeSheet numbers ≡ true → Admitted (record { records = numbers / 8 }) ≡ sheetAdmission numbers
+  pub admitted-sheet : wholeSheet numbers ≡ true → Admitted (record { records = numbers / recordSize }) ≡ sheetAdmission numbers
   unfolding sheetAdmission
   admitted-sheet h = rw (sheetAdmission, h)
 
--- the sheet s has so many numbers, which are 1 to 4,000 whole records
+-- the sheet s has so many numbers, which are whole records within the limits
 pub record SheetIs (numbers : ℕ) (s : Sheet) : Type 0 where
   pub passed : wholeSheet numbers ≡ true
-  pub counted : s .records ≡ numbers / 8
+  pub counted : s .records ≡ numbers / recordSize
   pub whole : WholeSheet numbers
 
 pub sheet-admitted : {numbers : ℕ} {s : Sheet} → sheetAdmission numbers ≡ Admitted s → SheetIs numbers s
@@ -78,7 +78,7 @@ sheet-admitted {numbers} {s} h = go (wholeSheet numbers) refl
 
     go : (b : Bool) → wholeSheet numbers ≡ b → SheetIs numbers s
     go true e =
-        let g : Admitted (record { records = numbers / 8 }) ≡ Admitted s = rw (sheetAdmission, e) at h in
+        let g : Admitted (record { records = numbers / recordSize }) ≡ Admitted s = rw (sheetAdmission, e) at h in
         record { passed = e; counted = sym (records-of g); whole = whole-sheet numbers e }
     go false e =
         let g : Refused ≡ Admitted s = rw (sheetAdmission, e) at h in
@@ -90,22 +90,22 @@ sheet-refused numbers h = go (wholeSheet numbers) refl
   where
     go : (b : Bool) → wholeSheet numbers ≡ b → wholeSheet numbers ≡ false
     go true e =
-        let g : Admitted (record { records = numbers / 8 }) ≡ Refused = rw (sheetAdmission, e) at h in
+        let g : Admitted (record { records = numbers / recordSize }) ≡ Refused = rw (sheetAdmission, e) at h in
         absurd (let z : _≡_ {A = ℕ} 0 1 = cc in omega arith)
     go false e = e
 
 -- a sheet that passes test 7, by its records
 pub record SheetRecords (s : List ℕ) : Type 0 where
-  pub whole : length s ≡ 8 * records s
+  pub whole : length s ≡ recordSize * records s
   pub some : 1 ≤ records s
-  pub few : records s ≤ 4000
+  pub few : records s ≤ mostRecords
 
 pub sheet-records : (s : List ℕ) → wholeSheet (length s) ≡ true → SheetRecords s
 unfolding records
 sheet-records s h = let w = whole-sheet (length s) h in record { whole = w .exact; some = w .some; few = w .few }
 
 -- the eight numbers of a record lie in the sheet
-pub record-inside : {sheet : List ℕ} {i : ℕ} → Readable sheet i → (i - 1) * 8 + 7 < length sheet
+pub record-inside : {sheet : List ℕ} {i : ℕ} → Readable sheet i → (i - 1) * recordSize + 7 < length sheet
 unfolding records
 record-inside {sheet} {i} r = omega (arith, r .high)
 
@@ -142,36 +142,36 @@ module _ (kind a b u v c d next : ℕ) (h : kind ≡ 3 → ⊥) where
 
 -- `recordAt` by the kind and by u and v
 module _ (s : List ℕ) (i : ℕ) where
-  kind-at : field s i 0 ≡ getD s ((i - 1) * 8) 0
+  kind-at : field s i 0 ≡ getD s ((i - 1) * recordSize) 0
   unfolding field
   kind-at = rw add-zero
 
-  content-at : {k : ℕ} → getD s ((i - 1) * 8) 0 ≡ k
+  content-at : {k : ℕ} → getD s ((i - 1) * recordSize) 0 ≡ k
       → recordAt s i ≡ content k (field s i 1) (field s i 2) (field s i 3) (field s i 4) (field s i 5) (field s i 6) (field s i 7)
   unfolding recordAt
   content-at h = rw (recordAt, kind-at, h)
 
-  pub crossing-record : getD s ((i - 1) * 8) 0 ≡ 3
+  pub crossing-record : getD s ((i - 1) * recordSize) 0 ≡ 3
       → case (field s i 1) (field s i 2) (crosses (field s i 3) (field s i 4) (field s i 5) (field s i 6)) (field s i 7) ≡ recordAt s i
   unfolding content
   crossing-record h = sym (content-at h)
 
-  pub other-u : (getD s ((i - 1) * 8) 0 ≡ 3 → ⊥) → (field s i 3 ≡ 0 → ⊥) → other ≡ recordAt s i
+  pub other-u : (getD s ((i - 1) * recordSize) 0 ≡ 3 → ⊥) → (field s i 3 ≡ 0 → ⊥) → other ≡ recordAt s i
   other-u h u = sym (content-at refl ∙ content-not _ _ _ _ _ _ _ _ h (rw (ne-eqb (field s i 3) 0 u)))
 
-  pub other-v : (getD s ((i - 1) * 8) 0 ≡ 3 → ⊥) → field s i 3 ≡ 0 → (field s i 4 ≡ 0 → ⊥) → other ≡ recordAt s i
+  pub other-v : (getD s ((i - 1) * recordSize) 0 ≡ 3 → ⊥) → field s i 3 ≡ 0 → (field s i 4 ≡ 0 → ⊥) → other ≡ recordAt s i
   other-v h u v = sym (content-at refl ∙ content-not _ _ _ _ _ _ _ _ h (rw (u, ne-eqb (field s i 4) 0 v)))
 
   module _ (u : field s i 3 ≡ 0) (v : field s i 4 ≡ 0) where
-    pub line-record : getD s ((i - 1) * 8) 0 ≡ 1 → line (field s i 1) (field s i 2) (field s i 5) (field s i 6) (field s i 7) ≡ recordAt s i
+    pub line-record : getD s ((i - 1) * recordSize) 0 ≡ 1 → line (field s i 1) (field s i 2) (field s i 5) (field s i 6) (field s i 7) ≡ recordAt s i
     unfolding content
     line-record h = sym (content-at h ∙ bare-is _ _ _ u v)
 
-    pub split-record : getD s ((i - 1) * 8) 0 ≡ 2
+    pub split-record : getD s ((i - 1) * recordSize) 0 ≡ 2
         → case (field s i 1) (field s i 2) (splits (field s i 5) (field s i 6)) (field s i 7) ≡ recordAt s i
     unfolding content
     split-record h = sym (content-at h ∙ bare-is _ _ _ u v)
 
-  pub other-kind : (getD s ((i - 1) * 8) 0 ≡ 1 → ⊥) → (getD s ((i - 1) * 8) 0 ≡ 2 → ⊥) → (getD s ((i - 1) * 8) 0 ≡ 3 → ⊥)
+  pub other-kind : (getD s ((i - 1) * recordSize) 0 ≡ 1 → ⊥) → (getD s ((i - 1) * recordSize) 0 ≡ 2 → ⊥) → (getD s ((i - 1) * recordSize) 0 ≡ 3 → ⊥)
       → other ≡ recordAt s i
   other-kind h g k = sym (content-at refl ∙ content-other _ _ _ _ _ _ _ _ k h g)

@@ -1,7 +1,7 @@
 -- The chain of a split and the closing of a case, in code. A chain's loop stands at the spot whose pairs are the feasible ones after the
 -- last pair taken, and `Following` says that the walk from there is the walk from the chain's opening; there is one lemma for each way
 -- on and each way out. Assumes nothing.
-use Prim.Native.Nat.{ℕ, suc, _-_, _≤_, _<_}
+use Prim.Native.Nat.{ℕ, suc, _+_, _-_, _≤_, _<_}
 use mathlib.Core.Path.{_≡_, sym, _∙_, ap, ap₂}
 use mathlib.Core.Bool.{true}
 use mathlib.Core.List.{List}
@@ -15,7 +15,7 @@ use Rattle.rules.specs.Near.{neighbours}
 use Rattle.rules.specs.Nearby.{NearbyOf}
 use Rattle.rules.specs.NextPair.{Searchable, Next}
 use Rattle.rules.specs.Split.{Bounded, Prepared, SplitAsked, SplitOf}
-use Rattle.rules.specs.Stored.{edgeList, Added}
+use Rattle.rules.specs.Stored.{edgeList, Added, mostKnown}
 use Rattle.rules.specs.Ways.{Scouted, Ways}
 use Rattle.rules.specs.ClosingTest.{crossedBy, refusalOf, Crossable}
 use Rattle.rules.specs.declared.edge_set.EdgeSet.{EdgeSet}
@@ -102,7 +102,7 @@ module _ {n : ℕ} {table rows marks sheet : List ℕ} {k : EdgeSet} {left i c f
   pub follow-search : Searchable n table legs near rank bound ways centre k x y
   follow-search = record { row = record { lengths = f .asked .tried .admitted .lengths; bounded = f .bounded; listed = f .listed; low = f .low; up = f .up; high = f .top }; fit = fit-of (f .scouted); stored = f .asked .held .stored }
 
-  pub follow-few : k .count ≤ 11
+  pub follow-few : k .count + 2 ≤ mostKnown
   follow-few = omega (arith, f .asked .room)
 
   -- what the code's look answers is what the walk looks at

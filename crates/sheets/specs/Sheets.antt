@@ -12,12 +12,26 @@ use Rattle.sheets.specs.declared.sheet.Closing.the-variants.{Split, Cros
 use Rattle.sheets.specs.declared.sheet.Record.{Record}
 use Rattle.sheets.specs.declared.sheet.Record.the-variants.{Line, Case, Other}
 
--- test 7: so many numbers are 1 to 4,000 whole records
+-- "A sheet has 1 to 4,000 records numbered from 1, each of eight 16-bit numbers"
+abbrev pub mostRecords : ℕ
+mostRecords = 4000
+
+abbrev pub recordSize : ℕ
+recordSize = 8
+
+abbrev pub mostNumbers : ℕ
+mostNumbers = mostRecords * recordSize
+
+-- up to so many records a call from C uses a small array
+abbrev pub fewRecords : ℕ
+fewRecords = 1000
+
+-- test 7: so many numbers are whole records, within the limits
 unfoldable pub wholeSheet : ℕ → Bool
-wholeSheet numbers = not (eqb numbers 0) && (eqb (numbers % 8) 0 && leb numbers (4000 * 8))
+wholeSheet numbers = not (eqb numbers 0) && (eqb (numbers % recordSize) 0 && leb numbers mostNumbers)
 
 unfoldable pub sheetAdmission : ℕ → SheetAdmission
-sheetAdmission numbers = elim (wholeSheet numbers) [ true ↦ Admitted (record { records = numbers / 8 }) | false ↦ Refused ]
+sheetAdmission numbers = elim (wholeSheet numbers) [ true ↦ Admitted (record { records = numbers / recordSize }) | false ↦ Refused ]
 
 -- the declared closing and record, as the argument's layer has them
 abbrev pub howOf : Closing → R.How

@@ -5,9 +5,10 @@ use mathlib.Core.Bool.{true}
 use mathlib.Core.List.{List, [], _∷_}
 use lib.ListN.{length}
 use Rattle.lengths.specs.Edge.{Edge, edge, Point, edgeCount}
+use Rattle.lengths.specs.Instance.{leastPoints}
 use Rattle.lengths.specs.Rows.{Rows}
 use Rattle.rules.specs.Split.{Lengths}
-use Rattle.rules.specs.Stored.{Held}
+use Rattle.rules.specs.Stored.{Held, mostKnown}
 use Rattle.rules.specs.declared.edge_set.EdgeSet.{EdgeSet}
 use Rattle.rules.specs.declared.pairs.NextPair.{NextPair}
 use Rattle.rules.specs.declared.pairs.NextPair.the-variants.{Pair, End}
@@ -15,7 +16,7 @@ use Rattle.argument.specs.Record.{records, howFits}
 use Rattle.argument.specs.Verdict.{Verdict, accepted, refused}
 use Rattle.argument.specs.Rules.{Rules}
 use Rattle.argument.specs.Walk.{Step, ends, takes, Spot}
-use Rattle.sheets.specs.Sheets.{howOf}
+use Rattle.sheets.specs.Sheets.{howOf, mostRecords, recordSize}
 use Rattle.sheets.specs.declared.sheet.Closing.{Closing}
 use Rattle.sheets.specs.declared.walk.Walked.{Walked}
 use Rattle.sheets.specs.declared.walk.Walked.the-variants as walked
@@ -46,11 +47,11 @@ spotOf next last index high = record { left = 0; known = []; point = 0; pairs = 
 
 -- an instance with its marks and a sheet, as the tests leave them
 pub record Admitted (n : ℕ) (table marks sheet : List ℕ) : Type 0 where
-  pub least : 4 ≤ n
+  pub least : leastPoints ≤ n
   pub lengths : Lengths n table
   pub marked : length marks ≡ edgeCount n
-  pub whole : length sheet ≡ 8 * records sheet
-  pub few : records sheet ≤ 4000
+  pub whole : length sheet ≡ recordSize * records sheet
+  pub few : records sheet ≤ mostRecords
 
 -- the same, with the lengths in rows
 pub record Tried (n : ℕ) (table rows marks sheet : List ℕ) : Type 0 where
@@ -61,12 +62,12 @@ pub record Tried (n : ℕ) (table rows marks sheet : List ℕ) : Type 0 where
 pub record ChainAsked (n : ℕ) (table rows marks sheet : List ℕ) (k : EdgeSet) (left c : ℕ) : Type 0 where
   pub tried : Tried n table rows marks sheet
   pub held : Held n k
-  pub room : k .count + 2 * left + 2 ≤ 13
+  pub room : k .count + 2 * left + 2 ≤ mostKnown
   pub centre : Point n c
 
 -- what a case is asked about: its points are among 1 to n, and K has its pair
 pub record CaseAsked (n : ℕ) (table rows marks sheet : List ℕ) (k : EdgeSet) (left : ℕ) (closing : Closing) : Type 0 where
   pub tried : Tried n table rows marks sheet
   pub held : Held n k
-  pub room : k .count + 2 * left ≤ 13
+  pub room : k .count + 2 * left ≤ mostKnown
   pub points : howFits n (howOf closing) ≡ true

@@ -3,7 +3,7 @@ ghost use mathlib.Core.Path.{_≡_};
 ghost use Rattle.sheets.specs.Sheets.{sheetAdmission, recordOf, Readable};
 ghost use Rattle.argument.specs.Record.{recordAt};
 
-// A sheet of 1 to 4,000 whole records.
+// A sheet of 1 to MOST_RECORDS whole records.
 pub struct Sheet {
     pub records: u16,
 }
@@ -51,7 +51,14 @@ impl Sheet {
     // How many numbers a record has.
     pub const RECORD_SIZE: usize = 8;
 
-    // The sheet of so many numbers, where they are 1 to 4,000 whole records.
+    pub const MOST_NUMBERS: usize = Sheet::MOST_RECORDS * Sheet::RECORD_SIZE;
+
+    // Up to so many records a call from C uses a small array.
+    pub const FEW_RECORDS: usize = 1000;
+
+    pub const FEW_NUMBERS: usize = Sheet::FEW_RECORDS * Sheet::RECORD_SIZE;
+
+    // The sheet of so many numbers, where they are 1 to MOST_RECORDS whole records.
     pub fn admit(numbers: usize) -> SheetAdmission
         ensures { λ r. ⌜ r ≡ sheetAdmission numbers ⌝ }
     {
@@ -61,7 +68,7 @@ impl Sheet {
         if numbers % Sheet::RECORD_SIZE != 0 {
             return SheetAdmission::Refused;
         }
-        if Sheet::MOST_RECORDS * Sheet::RECORD_SIZE < numbers {
+        if Sheet::MOST_NUMBERS < numbers {
             return SheetAdmission::Refused;
         }
         SheetAdmission::Admitted(Sheet {

@@ -21,7 +21,7 @@ ghost use Rattle.rules.specs.Stored.{edgeList};
 ghost use Rattle.argument.specs.Record.{records, isPoint, howFits, fits};
 ghost use Rattle.argument.specs.Walk.{readCase, opening, close, walk};
 ghost use Rattle.argument.specs.Walk as walking;
-ghost use Rattle.sheets.specs.Sheets.{howOf, recordOf};
+ghost use Rattle.sheets.specs.Sheets.{howOf, recordOf, recordSize};
 ghost use Rattle.sheets.specs.Rules.{rulesOf};
 ghost use Rattle.sheets.specs.Walks.{walkedOf, lookedOf, pointsOnly, spotOf, ChainAsked, CaseAsked};
 
@@ -107,7 +107,7 @@ fn look_at_case(n: u16, case: Case, last: u16, index: u16, high: u16, next: Next
 
 // What a chain does at its index, which the record `last` has; `high` is the highest record entered.
 fn look(n: u16, sheet: &[u16], next: NextPair, last: u16, index: u16, high: u16) -> Looked
-    requires { ⌜ length (now sheet) ≡ 8 * records (now sheet) ⌝ }
+    requires { ⌜ length (now sheet) ≡ recordSize * records (now sheet) ⌝ }
     ensures { λ r. ⌜ lookedOf r ≡ walking.look (pointsOnly n) (now (sheet .entry)) (spotOf next last index high) ⌝ }
 {
     if index == 0 {

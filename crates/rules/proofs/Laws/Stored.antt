@@ -16,7 +16,7 @@ use Rattle.rules.specs.EdgeSet.{Has}
 use Rattle.rules.specs.Joined.{joins?, has?}
 use Rattle.rules.specs.Near.{neighbours, seen}
 use Rattle.rules.specs.Pair.{withPair}
-use Rattle.rules.specs.Stored.{edgesOf, edgeList, Stored, Held, Added, Single}
+use Rattle.rules.specs.Stored.{edgesOf, edgeList, Stored, Held, Added, Single, mostKnown}
 use Rattle.rules.specs.declared.edge_set.EdgeSet.{EdgeSet}
 
 -- one edge more
@@ -108,7 +108,7 @@ points-pair P f m u v i h old pu pv hi = by-cases (ℕ-discrete i (m + 1)) last 
     other ne = subst⁻¹ P (getD-set-other (set f m u) (m + 1) i v 0 ne) (by-cases (ℕ-discrete i m) (inner ne) (below ne))
 
 -- it is the set with the pair's two edges
-pub added : (k : EdgeSet) (c x y : ℕ) → Stored k → k .count ≤ 11 → Added k c x y (grown k c x y)
+pub added : (k : EdgeSet) (c x y : ℕ) → Stored k → k .count + 2 ≤ mostKnown → Added k c x y (grown k c x y)
 unfolding edgeList withPair
 added k c x y s h =
     record {
@@ -139,7 +139,7 @@ added k c x y s h =
 
 -- the set of one edge
 abbrev pub lone : ℕ → ℕ → EdgeSet
-lone a b = record { from = replicate 13 a; to = replicate 13 b; count = 1 }
+lone a b = record { from = replicate mostKnown a; to = replicate mostKnown b; count = 1 }
 
 pub single : (a b : ℕ) → Single a b (lone a b)
 unfolding edgeList edgesOf
@@ -153,8 +153,8 @@ single a b =
             stored = st;
             points =
                 record {
-                  from-point = λ i h. subst⁻¹ (Point n) (getD-replicate 13 i a 0 (omega arith)) pa;
-                  to-point = λ i h. subst⁻¹ (Point n) (getD-replicate 13 i b 0 (omega arith)) pb;
+                  from-point = λ i h. subst⁻¹ (Point n) (getD-replicate mostKnown i a 0 (omega arith)) pa;
+                  to-point = λ i h. subst⁻¹ (Point n) (getD-replicate mostKnown i b 0 (omega arith)) pb;
                 };
           };
     }

@@ -8,6 +8,7 @@ use Rattle.lengths.proofs.Products.{product-fits}
 use borrow.Author.Needs.{needs}
 use Rattle.lengths.proofs.measure.between.Statement.{statement}
 use Rattle.lengths.proofs.measure.between.Tie as tie
+use Rattle.lengths.specs.Instance.{mostCoordinate}
 
 sub-i : tie.Need-sub-i
 sub-i c = search needs
@@ -61,13 +62,13 @@ mul-s : tie.Need-mul-s
 unfolding xOf yOf
 mul-s c =
     let g = gaps (c .before .before .before .before .before .before .before .pre) (c .before .before .before .gap .ensures) (c .gap2 .ensures) in
-    product-fits 1000000 1000000 (g .x) (g .x) tt
+    product-fits mostCoordinate mostCoordinate (g .x) (g .x) tt
 
 mul-s-2 : tie.Need-mul-s-2
 unfolding xOf yOf
 mul-s-2 c =
     let g = gaps (c .before .before .before .before .before .before .before .pre) (c .before .before .before .gap .ensures) (c .gap2 .ensures) in
-    product-fits 1000000 1000000 (g .y) (g .y) tt
+    product-fits mostCoordinate mostCoordinate (g .y) (g .y) tt
 
 add-s : tie.Need-add-s
 unfolding xOf yOf

@@ -2,6 +2,7 @@
 -- Assumes nothing.
 use Prim.Native.Nat.{ℕ}
 use lib.ListN.{length-replicate}
+use Rattle.lengths.specs.Instance.{mostPoints}
 use Rattle.marking.proofs.CApiSizes.{handed-length, checked-in-c}
 use borrow.Author.Needs.{needs}
 use Rattle.marking.proofs.c_api.check_decoded.Statement.{statement}
@@ -45,7 +46,7 @@ returns c =
     (d .decode32 .ensures)
     (e .decode16 .ensures)
     (d .before .before .before .before .before .before .pre)
-    (length-replicate {A = ℕ} 180 0)
+    (length-replicate {A = ℕ} mostPoints 0)
     (c .before .check-tour .ensures .answered)
     (c .checked-number .ensures)
 

@@ -5,6 +5,7 @@ use native.Mathlib.Omega.{arith}
 use lib.ListN.{length}
 use lib.Seq.{lt-length-set}
 use borrow.Author.Needs.{needs}
+use Rattle.lengths.specs.Instance.{mostEdges}
 use Rattle.lengths.specs.Table.{lengthOf}
 use Rattle.rules.specs.Mark.{openIn}
 use Rattle.rules.specs.Pairs.{feasibleAfter}
@@ -21,7 +22,7 @@ abbrev μ-loop : tie.MeasureT-loop
 μ-loop n table marks k c found₀ legs bound ways centre near rank x₀ y₀ count₀ found x y count = length (feasibleAfter n (lengthOf n table) (openIn n marks) (edgeList k) c x y)
 
 -- there is room for the pair at hand
-room : (c : tie.After-known-told Inv-loop μ-loop) → let s = c .before .before .before .before .before .before .before .before .loop in (s .count < 16110) × (2 * s .count + 1 < length (s .found))
+room : (c : tie.After-known-told Inv-loop μ-loop) → let s = c .before .before .before .before .before .before .before .before .loop in (s .count < mostEdges) × (2 * s .count + 1 < length (s .found))
 room c = search-room (c .before .before .before .before .before .before .before .before .loop .inv) (c .before .before .before .next-pair .ensures) (c .before .next .given .1)
 
 prepare-single-requires : tie.Need-prepare-single-requires Inv-loop μ-loop

@@ -2,8 +2,9 @@
 use mathlib.Core.Path.{sym, _∙_}
 use denote.Ref.{now}
 use borrow.Author.Tests.{not-true, not-false}
-use Prim.Native.Nat.{ℕ}
+use Prim.Native.Nat.{ℕ, _*_}
 use lib.ListN.{length-replicate}
+use Rattle.lengths.specs.Instance.{fewEdges, mostEdges}
 use Rattle.marking.proofs.Tested.{Passed, passed}
 use Rattle.marking.proofs.ListingAnswers.{Fitted, Listable, markable, findable-small, findable-large, refused-tests, refused-points, refused-struck, listed-as}
 use borrow.Author.Needs.{needs}
@@ -53,7 +54,7 @@ slice-aggregate-list-into : tie.Need-slice-aggregate-list-into
 slice-aggregate-list-into c = search needs
 
 list-into-requires : tie.Need-list-into-requires
-list-into-requires c κs = findable-small (listable (c .before .before .before)) (c .before .before .if3 .taken) (length-replicate {A = ℕ} 3540 0)
+list-into-requires c κs = findable-small (listable (c .before .before .before)) (c .before .before .if3 .taken) (length-replicate {A = ℕ} (2 * fewEdges) 0)
 
 same-length : tie.Need-same-length
 same-length c = search needs
@@ -65,7 +66,7 @@ slice-aggregate-list-into-2 : tie.Need-slice-aggregate-list-into-2
 slice-aggregate-list-into-2 c = search needs
 
 list-into-requires-2 : tie.Need-list-into-requires-2
-list-into-requires-2 c κs = findable-large (listable (c .before .before .before)) (length-replicate {A = ℕ} 32220 0)
+list-into-requires-2 c κs = findable-large (listable (c .before .before .before)) (length-replicate {A = ℕ} (2 * mostEdges) 0)
 
 same-length-2 : tie.Need-same-length-2
 same-length-2 c = search needs

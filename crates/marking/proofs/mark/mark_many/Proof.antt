@@ -1,7 +1,8 @@
--- `marking::mark::mark_many` meets its contract: its array has room for the rows of 180 points. Assumes nothing.
-use Prim.Native.Nat.{ℕ}
+-- `marking::mark::mark_many` meets its contract: its array has room for the rows of most points. Assumes nothing.
+use Prim.Native.Nat.{ℕ, _*_}
 use lib.ListN.{length-replicate}
 use borrow.Author.Needs.{needs}
+use Rattle.lengths.specs.Instance.{mostPoints, pointPlaces}
 use Rattle.marking.proofs.MarkingSheets.{rows-room}
 use Rattle.marking.proofs.mark.mark_many.Statement.{statement}
 use Rattle.marking.proofs.mark.mark_many.Tie as tie
@@ -10,7 +11,7 @@ slice-aggregate-mark-by-rows : tie.Need-slice-aggregate-mark-by-rows
 slice-aggregate-mark-by-rows c = search needs
 
 mark-by-rows-requires : tie.Need-mark-by-rows-requires
-mark-by-rows-requires c κs = rows-room 180 (c .before .before .before .before .before .pre) (c .before .before .before .before .before .pre .lengths .few) (length-replicate {A = ℕ} 32761 0)
+mark-by-rows-requires c κs = rows-room mostPoints (c .before .before .before .before .before .pre) (c .before .before .before .before .before .pre .lengths .few) (length-replicate {A = ℕ} (pointPlaces * pointPlaces) 0)
 
 same-length : tie.Need-same-length
 same-length c = search needs

@@ -7,6 +7,7 @@ use denote.Ref.{now}
 use Rattle.lengths.specs.Edge.{edgeCount}
 use Rattle.lengths.specs.Test.{allAtMost}
 use Rattle.lengths.proofs.Instances.{Admits, admitted}
+use Rattle.lengths.specs.Instance.{mostLength}
 use Rattle.marking.proofs.TestWays.{refused-points, refused-size, refused-length, refused-marks, refused-mark, passed-tests}
 use borrow.Author.Needs.{needs}
 use Rattle.marking.proofs.tests.test_instance.Statement.{statement}
@@ -22,7 +23,7 @@ whole : (c : tie.Else1) → let i = c .before .before .before in
 whole c = c .if1 .left ∙ c .before .count .ensures
 
 -- and no length is above the limit
-small : (c : tie.Else2) → allAtMost 2000000 (now (c .before .before .before .before .before .before .before .before .before .before .args .table)) ≡ true
+small : (c : tie.Else2) → allAtMost mostLength (now (c .before .before .before .before .before .before .before .before .before .before .args .table)) ≡ true
 small c = sym (c .before .all-at-most .ensures) ∙ not-false _ (c .if2 .left)
 
 -- and there are as many marks

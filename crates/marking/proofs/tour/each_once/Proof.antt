@@ -8,6 +8,7 @@ use denote.Ref.{now}
 use borrow.Author.Tests.{not-true, not-false}
 use borrow.Author.Needs.{needs}
 use Rattle.argument.specs.Record.{isPoint}
+use Rattle.lengths.specs.Instance.{pointPlaces}
 use Rattle.marking.proofs.TourSeen.{Seeing, wrong-length, seeing-start, not-point, flag-inside, seen-twice, seeing-on, all-seen}
 use Rattle.marking.proofs.tour.each_once.Statement.{statement}
 use Rattle.marking.proofs.tour.each_once.Tie as tie
@@ -22,7 +23,7 @@ abbrev μ-loop : tie.MeasureT-loop
 point : (c : tie.Else2 Inv-loop μ-loop) → isPoint (c .before .before .before .before .before .before .before .args .n) (getD (now (c .before .before .before .before .before .before .before .args .tour)) (c .before .before .before .before .loop .i) 0) ≡ true
 point c = sym (c .before .is-point .ensures) ∙ not-false _ (c .if2 .left)
 
-inside : (c : tie.Else2 Inv-loop μ-loop) → getD (now (c .before .before .before .before .before .before .before .args .tour)) (c .before .before .before .before .loop .i) 0 < 181
+inside : (c : tie.Else2 Inv-loop μ-loop) → getD (now (c .before .before .before .before .before .before .before .args .tour)) (c .before .before .before .before .loop .i) 0 < pointPlaces
 inside c = flag-inside (c .before .before .before .before .loop .inv) (c .before .before .before .before .before .before .before .pre) (c .before .before .before .loop-test .taken) (point c)
 
 returns : tie.Need-returns Inv-loop μ-loop

@@ -1,6 +1,8 @@
--- `report::report::report_instance` meets its contract: the places are enough for 180 points. Assumes nothing.
+-- `report::report::report_instance` meets its contract: the places are enough for most points. Assumes nothing.
+use Prim.Native.Nat.{_*_}
 use mathlib.Core.Path.{refl}
 use lib.ListN.{replicate}
+use Rattle.lengths.specs.Instance.{mostEdges, mostPoints}
 use Rattle.report.proofs.Reports.{numbers-few, count-few, part-length, places}
 use borrow.Author.Needs.{needs}
 use Rattle.report.proofs.report.report_instance.Statement.{statement}
@@ -34,7 +36,7 @@ measure-file-requires : tie.Need-measure-file-requires
 measure-file-requires c κs =
     let k = c .before .before .before .before in
     let s = k .before .before .before in
-    (s .pre, places (replicate 360 0) (replicate 16110 0) (replicate 16110 0) (s .pre) (k .count .ensures) refl refl refl)
+    (s .pre, places (replicate (2 * mostPoints) 0) (replicate mostEdges 0) (replicate mostEdges 0) (s .pre) (k .count .ensures) refl refl refl)
 
 same-length : tie.Need-same-length
 same-length c = search needs

@@ -5,14 +5,14 @@ use native.Mathlib.Omega.{arith}
 use mathlib.Core.Path.{_≡_, refl, _∙_}
 use borrow.Author.Needs.{needs}
 use Rattle.rules.specs.Near.{neighbours}
-use Rattle.rules.specs.Stored.{edgesOf, edgeList}
+use Rattle.rules.specs.Stored.{edgesOf, edgeList, mostKnown}
 use Rattle.rules.proofs.Laws.Stored.{neighbours-up}
 use Rattle.rules.proofs.near.neighbours.Statement.{statement}
 use Rattle.rules.proofs.near.neighbours.Tie as tie
 
 abbrev Inv-loop : tie.InvT-loop
 Inv-loop v from to count found₀ i₀ found i =
-    (i ≤ count) × (count ≤ 13) × (found ≡ neighbours (edgesOf from to i) v)
+    (i ≤ count) × (count ≤ mostKnown) × (found ≡ neighbours (edgesOf from to i) v)
 
 abbrev μ-loop : tie.MeasureT-loop
 μ-loop v from to count found₀ i₀ found i = count - i

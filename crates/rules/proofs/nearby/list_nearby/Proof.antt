@@ -8,6 +8,7 @@ use Rattle.rules.proofs.Ranks.{Ranked, ranked-start, one-small, ranked-
 use borrow.Author.Needs.{needs}
 use Rattle.rules.proofs.nearby.list_nearby.Statement.{statement}
 use Rattle.rules.proofs.nearby.list_nearby.Tie as tie
+use Rattle.rules.specs.Split.{far}
 
 abbrev Inv-loop : tie.InvT-loop
 Inv-loop n legs near₀ rank₀ count₀ x₀ near rank count x = Ranked n legs (set near count x) (set rank x count) count x
@@ -50,7 +51,7 @@ one-if-near-requires c κs = search needs
 
 add-count : tie.Need-add-count Inv-loop μ-loop
 add-count c =
-    let f = one-small (eqb (getD (c .before .before .before .before .args .legs .now) (c .before .before .before .loop .x) 0) 10000000) (c .one-if-near .ensures) in
+    let f = one-small (eqb (getD (c .before .before .before .before .args .legs .now) (c .before .before .before .loop .x) 0) far) (c .one-if-near .ensures) in
     omega (arith, c .before .before .before .loop .inv .fewer, c .before .before .before .loop .inv .high)
 
 add-x : tie.Need-add-x Inv-loop μ-loop

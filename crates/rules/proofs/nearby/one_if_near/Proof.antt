@@ -6,6 +6,7 @@ use mir.Val.{boolByte}
 use borrow.Author.Needs.{needs}
 use Rattle.rules.proofs.nearby.one_if_near.Statement.{statement}
 use Rattle.rules.proofs.nearby.one_if_near.Tie as tie
+use Rattle.rules.specs.Split.{far}
 
 byte-of-not : (t : Bool) → boolByte (not t) ≡ cond t 0 1
 byte-of-not true = refl
@@ -15,7 +16,7 @@ cast-result : tie.Need-cast-result
 cast-result c = search needs
 
 returns : tie.Need-returns
-returns c = byte-of-not (eqb (c .args .leg) 10000000)
+returns c = byte-of-not (eqb (c .args .leg) far)
 
 pub one-if-near-spec : {M : Type 1} → statement M
 one-if-near-spec = tie.close (tie.spec cast-result returns)

@@ -4,13 +4,13 @@ use Prim.Native.Nat.{_≤_}
 use mathlib.Core.Path.{_≡_, refl, _∙_, sym}
 use borrow.Author.Needs.{needs}
 use Rattle.rules.specs.Joined.{has?}
-use Rattle.rules.specs.Stored.{edgesOf, edgeList}
+use Rattle.rules.specs.Stored.{edgesOf, edgeList, mostKnown}
 use Rattle.rules.proofs.Laws.Stored.{has-here, has-below, has-none}
 use Rattle.rules.proofs.edge_set.EdgeSet.has.Statement.{statement}
 use Rattle.rules.proofs.edge_set.EdgeSet.has.Tie as tie
 
 abbrev Inv-loop : tie.InvT-loop
-Inv-loop a b from to i₀ i = (i ≤ 13) × (has? (edgesOf from to i) a b ≡ has? (edgesOf from to i₀) a b)
+Inv-loop a b from to i₀ i = (i ≤ mostKnown) × (has? (edgesOf from to i) a b ≡ has? (edgesOf from to i₀) a b)
 
 abbrev μ-loop : tie.MeasureT-loop
 μ-loop a b from to i₀ i = i

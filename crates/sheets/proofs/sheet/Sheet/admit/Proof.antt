@@ -1,4 +1,4 @@
--- `marking::sheet::Sheet::admit` meets its contract: each way out is one part of test 7. Assumes nothing.
+-- `sheets::sheet::Sheet::admit` meets its contract: each way out is one part of test 7. Assumes nothing.
 use Rattle.sheets.proofs.Records.{whole-none, whole-broken, whole-long, whole-passed, refused-sheet, admitted-sheet}
 use borrow.Author.Needs.{needs}
 use Rattle.sheets.proofs.sheet.Sheet.admit.Statement.{statement}
@@ -10,9 +10,6 @@ returns c = refused-sheet _ (whole-none _ (c .if1 .taken))
 returns-2 : tie.Need-returns-2
 returns-2 c = refused-sheet _ (whole-broken _ (c .if2 .taken))
 
-mul-if3 : tie.Need-mul-if3
-mul-if3 c = search needs
-
 returns-3 : tie.Need-returns-3
 returns-3 c = refused-sheet _ (whole-long _ (c .if3 .taken))
 
@@ -23,4 +20,4 @@ returns-4 : tie.Need-returns-4
 returns-4 c = admitted-sheet _ (whole-passed _ (c .before .before .if1 .left) (c .before .if2 .left) (c .if3 .left))
 
 pub admit-spec : {M : Type 1} → statement M
-admit-spec = tie.close (tie.spec returns returns-2 mul-if3 returns-3 cast-t4 returns-4)
+admit-spec = tie.close (tie.spec returns returns-2 returns-3 cast-t4 returns-4)
