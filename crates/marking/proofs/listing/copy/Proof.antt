@@ -22,7 +22,7 @@ shared-slice-read-list : tie.Need-shared-slice-read-list Inv-loop μ-loop
 shared-slice-read-list c = search needs
 
 mul-list-2 : tie.Need-mul-list-2 Inv-loop μ-loop
-mul-list-2 c = search needs
+mul-list-2 c = search (needs, copying-length (c .before .before .before .pre) (c .before .before .loop .inv), c .before .before .before .pre)
 
 slice-write-list : tie.Need-slice-write-list Inv-loop μ-loop
 slice-write-list c = omega (arith, copying-length (c .before .before .before .pre) (c .before .before .loop .inv), c .before .before .before .pre)

@@ -31,17 +31,17 @@ enum-told c = search needs
 turned-down-requires-2 : tie.Need-turned-down-requires-2
 turned-down-requires-2 c κs = search needs
 
-enum-told-2 : tie.Need-enum-told-2
-enum-told-2 c = search needs
-
-mark-admitted-requires : tie.Need-mark-admitted-requires
-mark-admitted-requires c κs = sheet-admits _ _ _ _ (c .before .before .before .before .before .before .before .test-instance .ensures) (c .before .before .before .before .before .points .given .1) (c .before .before .before .admit .ensures) (c .before .enum-told2 .given .1)
-
 same-length-2 : tie.Need-same-length-2
 same-length-2 c = search needs
 
 returns-2 : tie.Need-returns-2
 returns-2 c = sheet-not-whole _ _ _ _ (c .before .before .before .before .before .before .before .test-instance .ensures) (c .before .before .before .before .before .points .given .1) (c .before .before .before .admit .ensures) (c .before .enum-told .given .1) (c .turned-down2 .ensures)
+
+enum-told-2 : tie.Need-enum-told-2
+enum-told-2 c = search needs
+
+mark-admitted-requires : tie.Need-mark-admitted-requires
+mark-admitted-requires c κs = sheet-admits _ _ _ _ (c .before .before .before .before .before .before .before .test-instance .ensures) (c .before .before .before .before .before .points .given .1) (c .before .before .before .admit .ensures) (c .before .enum-told2 .given .1)
 
 same-length-3 : tie.Need-same-length-3
 same-length-3 c = search needs

@@ -24,6 +24,12 @@ single-requires c κs = search needs
 sub-chain : tie.Need-sub-chain
 sub-chain c = search needs
 
+returns-3 : tie.Need-returns-3
+returns-3 c = let o = c .before .before .before .before .before in let f = o .before .before in line-strikes _ _ _ _ _ _ _ _ _ (sym (f .before .points-fit .ensures) ∙ not-false _ (f .if1 .left)) (sym (o .before .is-open .ensures) ∙ not-false _ (o .if2 .left)) (c .before .before .before .before .single .ensures) (c .before .before .before .chain .ensures) (c .before .high .given .1)
+
+returns-4 : tie.Need-returns-4
+returns-4 c = let o = c .before .before .before .before .before in let f = o .before .before in line-stops _ _ _ _ _ _ _ _ _ (sym (f .before .points-fit .ensures) ∙ not-false _ (f .if1 .left)) (sym (o .before .is-open .ensures) ∙ not-false _ (o .if2 .left)) (c .before .before .before .before .single .ensures) (c .before .before .before .chain .ensures) (c .before .number .given .1)
+
 chain-requires : tie.Need-chain-requires
 chain-requires c κs = let f = c .before .before .before in line-chain (c .before .before .before .before .before .before .before .before .before .pre) _ _ _ _ (sym (f .before .points-fit .ensures) ∙ not-false _ (f .if1 .left)) (c .single .ensures)
 
@@ -32,12 +38,6 @@ enum-known-high c = search needs
 
 enum-known-number : tie.Need-enum-known-number
 enum-known-number c = search needs
-
-returns-3 : tie.Need-returns-3
-returns-3 c = let o = c .before .before .before .before .before in let f = o .before .before in line-strikes _ _ _ _ _ _ _ _ _ (sym (f .before .points-fit .ensures) ∙ not-false _ (f .if1 .left)) (sym (o .before .is-open .ensures) ∙ not-false _ (o .if2 .left)) (c .before .before .before .before .single .ensures) (c .before .before .before .chain .ensures) (c .before .high .given .1)
-
-returns-4 : tie.Need-returns-4
-returns-4 c = let o = c .before .before .before .before .before in let f = o .before .before in line-stops _ _ _ _ _ _ _ _ _ (sym (f .before .points-fit .ensures) ∙ not-false _ (f .if1 .left)) (sym (o .before .is-open .ensures) ∙ not-false _ (o .if2 .left)) (c .before .before .before .before .single .ensures) (c .before .before .before .chain .ensures) (c .before .number .given .1)
 
 pub judge-line-spec : {M : Type 1} → statement M
 judge-line-spec =
