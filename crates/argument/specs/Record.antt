@@ -7,8 +7,11 @@ use lib.Dec.{leb, eqb}
 use lib.ListN.{length, getD}
 
 -- "A sheet has .. records numbered from 1, each of eight 16-bit numbers"
+abbrev pub recordSize : ℕ
+recordSize = 8
+
 unfoldable pub records : List ℕ → ℕ
-records s = length s / 8
+records s = length s / recordSize
 
 -- i is the number of a record
 pub record Readable (s : List ℕ) (i : ℕ) : Type 0 where
@@ -17,7 +20,7 @@ pub record Readable (s : List ℕ) (i : ℕ) : Type 0 where
 
 -- number f of the record i: "kind, a, b, u, v, c, d, next", the kind being number 0
 unfoldable pub field : List ℕ → ℕ → ℕ → ℕ
-field s i f = getD s ((i - 1) * 8 + f) 0
+field s i f = getD s ((i - 1) * recordSize + f) 0
 
 -- how a case is closed: by a split at c whose first case is the record `first`, or by the crossing of pq with the centres r and s
 pub data How : Type 0 where

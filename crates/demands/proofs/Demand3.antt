@@ -10,7 +10,7 @@ use lib.ListN.{length, replicate, length-replicate, getD-replicate}
 use lib.Dec.{eqb}
 use borrow.Author.Tests.{le-leb, eq-eqb}
 use Rattle.lengths.specs.Edge.{edgeCount, place}
-use Rattle.lengths.specs.Instance.{inRange}
+use Rattle.lengths.specs.Instance.{leastPoints, mostPoints, inRange}
 use Rattle.lengths.specs.Table.{lengthOf}
 use Rattle.lengths.specs.Test.{unless}
 use Rattle.lengths.proofs.Edges.{edgeCount-tri, tri-suc, tri-mono, place-below, three-way}
@@ -42,7 +42,7 @@ edge-count-injective m n h g e =
     (⊎-elim (λ l. absurd (omega (arith, edge-count-rises n m g l))) (λ q. q))
     (three-way m n)
 
-module _ {n : ℕ} (table : List ℕ) {t : List ℕ} (some : 4 ≤ n) (whole : length table ≡ edgeCount n) (best : ThreeOptimal n (lengthOf n table) t) where
+module _ {n : ℕ} (table : List ℕ) {t : List ℕ} (some : leastPoints ≤ n) (whole : length table ≡ edgeCount n) (best : ThreeOptimal n (lengthOf n table) t) where
   -- what the tests come to: a refusal changes no mark, and a call that passes states the n of the table
   judged-kept : (m : ℕ) (s marks : List ℕ) → Kept n t marks → (r : Tested) → tested m table marks ≡ r → Kept n t (markTested r table marks s .marks)
   judged-kept m s marks kept (Refused k) e = kept
@@ -78,9 +78,9 @@ module _ {n : ℕ} (table : List ℕ) {t : List ℕ} (some : 4 ≤ n) (whole : l
       }
 
 -- what *fresh marks* leaves in a buffer of the right size
-pub fresh-left : (n : ℕ) (before : List ℕ) → 4 ≤ n → n ≤ 180 → length before ≡ edgeCount n → freshLeft (freshAnswer n (length before)) n before ≡ freshMarks n
+pub fresh-left : (n : ℕ) (before : List ℕ) → leastPoints ≤ n → n ≤ mostPoints → length before ≡ edgeCount n → freshLeft (freshAnswer n (length before)) n before ≡ freshMarks n
 unfolding freshAnswer inRange
-fresh-left n before some most whole = rw (freshAnswer, inRange, le-leb 4 n some, le-leb n 180 most, eq-eqb (length before) (edgeCount n) whole)
+fresh-left n before some most whole = rw (freshAnswer, inRange, le-leb leastPoints n some, le-leb n mostPoints most, eq-eqb (length before) (edgeCount n) whole)
 
 -- Take a tour of n points that no exchange of at most three edges shortens. On fresh marks all its edges are open. Suppose that they are
 -- open before a call. If the call is refused before its first line, no mark changes. If not, it states the n of the table, since
@@ -89,7 +89,7 @@ fresh-left n before some most whole = rw (freshAnswer, inRange, le-leb 4 n some,
 -- split or a crossing that settles it; going down, some crossing would settle a set of edges that the tour uses, and one of its two moves
 -- would shorten the tour. So ab is no edge of the tour, and striking it leaves the tour's edges open.
 pub three-optimal-open :
-    (n : ℕ) → 4 ≤ n → n ≤ 180 → (table : List ℕ) → length table ≡ edgeCount n → (before : List ℕ) → length before ≡ edgeCount n →
+    (n : ℕ) → leastPoints ≤ n → n ≤ mostPoints → (table : List ℕ) → length table ≡ edgeCount n → (before : List ℕ) → length before ≡ edgeCount n →
     (calls : List Call) (t : List ℕ) → ThreeOptimal n (lengthOf n table) t → (a b : ℕ) → Uses t a b →
     openIn n (runOf table calls (freshLeft (freshAnswer n (length before)) n before)) a b ≡ true
 three-optimal-open n some most table whole before sized calls t best a b u =
@@ -99,7 +99,7 @@ three-optimal-open n some most table whole before sized calls t best a b u =
 -- DEMAND 3: for every n from 4 to 180, every table of n(n - 1)/2 lengths, every list of calls and every shortest tour, each edge of
 -- the tour is open after the run that starts from the marks that *fresh marks* left in a buffer for this n.
 pub demand-3 :
-    (n : ℕ) → 4 ≤ n → n ≤ 180 → (table : List ℕ) → length table ≡ edgeCount n → (before : List ℕ) → length before ≡ edgeCount n →
+    (n : ℕ) → leastPoints ≤ n → n ≤ mostPoints → (table : List ℕ) → length table ≡ edgeCount n → (before : List ℕ) → length before ≡ edgeCount n →
     (calls : List Call) (t : List ℕ) → Shortest n (lengthOf n table) t → (a b : ℕ) → Uses t a b →
     openIn n (runOf table calls (freshLeft (freshAnswer n (length before)) n before)) a b ≡ true
 demand-3 n some most table whole before sized calls t best = three-optimal-open n some most table whole before sized calls t (shortest-optimal best)
@@ -116,7 +116,7 @@ run-decoded table (call ∷ calls) marks = run-decoded table calls _
 -- the same for runs of the function for C, from n(n - 1)/2 bytes of 1, which a C program writes: `table` and the sheets are bytes, and the
 -- lengths are those that the table's bytes are
 pub demand-3-in-C :
-    (n : ℕ) → 4 ≤ n → n ≤ 180 → (table : List ℕ) → length (whole32 table) ≡ edgeCount n →
+    (n : ℕ) → leastPoints ≤ n → n ≤ mostPoints → (table : List ℕ) → length (whole32 table) ≡ edgeCount n →
     (calls : List Call) (t : List ℕ) → Shortest n (lengthOf n (whole32 table)) t → (a b : ℕ) → Uses t a b →
     openIn n (runInC table calls (replicate (edgeCount n) 1)) a b ≡ true
 unfolding freshMarks

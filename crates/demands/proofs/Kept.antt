@@ -8,6 +8,7 @@ use mathlib.Core.List.{List, [], _∷_}
 use native.Mathlib.Omega.{arith}
 use lib.ListN.{length}
 use Rattle.lengths.specs.Edge.{Edge, edge, IsEdge, edgeCount}
+use Rattle.lengths.specs.Instance.{leastPoints}
 use Rattle.lengths.specs.Table.{lengthOf}
 use Rattle.lengths.proofs.Tables.{length-symmetric}
 use Rattle.rules.specs.EdgeSet.{Joins, Has, closedEdges}
@@ -31,7 +32,7 @@ pub record Kept (n : ℕ) (t marks : List ℕ) : Type 0 where
   pub whole : length marks ≡ edgeCount n
   pub all-open : (a b : ℕ) → Uses t a b → openIn n marks a b ≡ true
 
-module _ {n : ℕ} (table : List ℕ) {t : List ℕ} (some : 4 ≤ n) (best : ThreeOptimal n (lengthOf n table) t) where
+module _ {n : ℕ} (table : List ℕ) {t : List ℕ} (some : leastPoints ≤ n) (best : ThreeOptimal n (lengthOf n table) t) where
   symmetric : Symmetric (lengthOf n table)
   symmetric = length-symmetric n table
 

@@ -9,9 +9,11 @@ use lib.ListN.{length, drop, length-append, length-drop}
 use lib.Seq.{take-at, drop-at}
 use borrow.Author.Tests.{leb-true}
 use Rattle.lengths.specs.Edge.{Edge, edge}
+use Rattle.lengths.specs.Test.{unless}
 use Rattle.rules.specs.Mark.{openIn}
 use Rattle.argument.specs.Record.{splits, fits}
 use Rattle.argument.specs.Rules.{NamesFeasible, single}
+use Rattle.argument.proofs.Complete.{named-list}
 use Rattle.argument.proofs.Tests.{fits-means}
 use Rattle.sheets.specs.Rules.{rulesOf}
 use Rattle.marking.proofs.Tested.{passed}
@@ -77,3 +79,13 @@ module _ (n : ℕ) (table marks : List ℕ) (a b c : ℕ) where
               let found : listing.Pairs (length (pairsAt n table marks a b c)) ≡ listing.Pairs count = z3 .1 in
               let counted : count ≡ length (pairsAt n table marks a b c) = cc in
               pairs-written list count (pairs-feasible (z1 .0)) counted (omega (arith, leb-true (2 * length (pairsAt n table marks a b c)) (length list) (z3 .0)))
+
+  -- and what a call answers that passes tests 1 to 12: 18 where the list has fewer than twice as many places as there are feasible pairs, else
+  -- their number. Only one list has exactly the feasible pairs, rising (`named-list`).
+  pub demand-2-count : tested n table marks ≡ Points n → fits n a b (splits c 0) ≡ true → openIn n marks a b ≡ true → (pairs : List Edge) → NamesFeasible (rulesOf n table marks) (edge a b ∷ []) c pairs →
+      (size : ℕ) → listed n table marks a b c size ≡ unless (leb (2 * length pairs) size) (listing.Refused 18 0) (listing.Pairs (length pairs))
+  unfolding listed pairsAt
+  demand-2-count t f o pairs named size =
+      let p = fits-means n a b (splits c 0) f in
+      let e = named-list (rulesOf n table marks) (lawful n table marks) [] (edge a b ∷ []) c pairs (single (p .point-a) (p .point-b) (p .apart)) named in
+      rw (listed, t, f, o, e)

@@ -11,7 +11,7 @@ use lib.ListN.{length}
 use borrow.Author.Tests.{eqb-true, eqb-false}
 use Rattle.lengths.specs.Distance.{distanceBy, ruleOf, IsEuc2d, IsCeil2d}
 use Rattle.lengths.specs.Edge.{Point, edgeCount}
-use Rattle.lengths.specs.Instance.{inRange}
+use Rattle.lengths.specs.Instance.{mostCoordinate, mostSquares, inRange}
 use Rattle.lengths.specs.Measure.{xOf, yOf, gapOf, squares, measuredTable, known, measured, tableAfter, Located}
 use Rattle.lengths.specs.Table.{lengthOf}
 use Rattle.lengths.specs.Test.{allAtMost}
@@ -45,18 +45,18 @@ rule-known rule h = by (eqb rule 1) (eqb rule 2) refl refl
 record Placed (n : ℕ) (cs : List ℕ) : Type 0 where
   pub some : 1 ≤ n
   pub located : length cs ≡ 2 * n
-  pub small : allAtMost 1000000 cs ≡ true
+  pub small : allAtMost mostCoordinate cs ≡ true
 
 gap-self : (a : ℕ) → gapOf a a ≡ 0
 unfolding gapOf
 gap-self a = omega arith
 
 module _ (n : ℕ) (cs : List ℕ) (p : Placed n cs) where
-  -- S is at most 2,000,000,000,000, so every distance is what the rules' theorems say
-  sum-small : (a b : ℕ) → Point n a → Point n b → squares cs a b ≤ 2000000000000
+  -- S is at most `mostSquares`, so every distance is what the rules' theorems say
+  sum-small : (a b : ℕ) → Point n a → Point n b → squares cs a b ≤ mostSquares
   sum-small a b pa pb =
-      let at : Located cs a b = record { low-a = pa .low; high-a = omega (arith, pa .high, p .located); low-b = pb .low; high-b = omega (arith, pb .high, p .located); small = limit-each 1000000 cs (p .small) } in
-      subst (λ (s : ℕ). s ≤ 2000000000000) (squares-is at refl refl) (gaps at refl refl .sum)
+      let at : Located cs a b = record { low-a = pa .low; high-a = omega (arith, pa .high, p .located); low-b = pb .low; high-b = omega (arith, pb .high, p .located); small = limit-each mostCoordinate cs (p .small) } in
+      subst (λ (s : ℕ). s ≤ mostSquares) (squares-is at refl refl) (gaps at refl refl .sum)
 
   squares-self : (a : ℕ) → squares cs a a ≡ 0
   unfolding squares
@@ -102,7 +102,7 @@ demand-2-measure n rule cs table h =
     let z2 = answered (eqb (length cs) (2 * n)) _ _ Done not-done (z1 .1) in
     let z3 = answered (eqb (length table) (edgeCount n)) _ _ Done not-done (z2 .1) in
     let z4 = answered (known (ruleOf rule)) _ _ Done not-done (z3 .1) in
-    let z5 = answered (allAtMost 1000000 cs) _ _ Done not-done (z4 .1) in
+    let z5 = answered (allAtMost mostCoordinate cs) _ _ Done not-done (z4 .1) in
     by (record { some = omega (arith, range-admits n (z1 .0) .least); located = eqb-true (length cs) (2 * n) (z2 .0); small = z5 .0 }) (rule-known rule (z4 .0))
   where
     by : Placed n cs → ((rule ≡ 1) × (ruleOf rule ≡ Known Euc2d)) ⊎ ((rule ≡ 2) × (ruleOf rule ≡ Known Ceil2d)) → Measures n rule cs (tableAfter n rule cs table)

@@ -3,7 +3,7 @@ use Prim.Native.Nat.{ℕ, _*_, _/_, _%_, _≤_}
 use mathlib.Core.Bool.{Bool, true, false, not, _&&_}
 use mathlib.Core.List.{List}
 use lib.Dec.{leb, eqb}
-use Rattle.argument.specs.Record.{records}
+pub use Rattle.argument.specs.Record.{recordSize, Readable}
 use Rattle.argument.specs.Record as R
 use Rattle.sheets.specs.declared.sheet.SheetAdmission.{SheetAdmission}
 use Rattle.sheets.specs.declared.sheet.SheetAdmission.the-variants.{Admitted, Refused}
@@ -15,9 +15,6 @@ use Rattle.sheets.specs.declared.sheet.Record.the-variants.{Line, Case, 
 -- "A sheet has 1 to 4,000 records numbered from 1, each of eight 16-bit numbers"
 abbrev pub mostRecords : ℕ
 mostRecords = 4000
-
-abbrev pub recordSize : ℕ
-recordSize = 8
 
 abbrev pub mostNumbers : ℕ
 mostNumbers = mostRecords * recordSize
@@ -42,8 +39,3 @@ abbrev pub recordOf : Record → R.Record
 recordOf (Line l) = R.line (l .a) (l .b) (l .point) (l .first) (l .next)
 recordOf (Case c) = R.case (c .a) (c .b) (howOf (c .closing)) (c .next)
 recordOf Other = R.other
-
--- i is the number of a record
-pub record Readable (sheet : List ℕ) (i : ℕ) : Type 0 where
-  pub low : 1 ≤ i
-  pub high : i ≤ records sheet
