@@ -31,11 +31,11 @@ enum-told c = search needs
 turned-down-requires-2 : tie.Need-turned-down-requires-2
 turned-down-requires-2 c κs = search needs
 
-enum-told-2 : tie.Need-enum-told-2
-enum-told-2 c = search needs
+enum-known-admitted : tie.Need-enum-known-admitted
+enum-known-admitted c = search needs
 
 mark-admitted-requires : tie.Need-mark-admitted-requires
-mark-admitted-requires c κs = sheet-admits _ _ _ _ (c .before .before .before .before .before .before .before .test-instance .ensures) (c .before .before .before .before .before .points .given .1) (c .before .before .before .admit .ensures) (c .before .enum-told2 .given .1)
+mark-admitted-requires c κs = sheet-admits _ _ _ _ (c .before .before .before .before .before .before .before .before .test-instance .ensures) (c .before .before .before .before .before .before .points .given .1) (c .before .before .before .before .admit .ensures) (c .before .before .admitted .given .1)
 
 same-length-2 : tie.Need-same-length-2
 same-length-2 c = search needs
@@ -47,7 +47,7 @@ same-length-3 : tie.Need-same-length-3
 same-length-3 c = search needs
 
 returns-3 : tie.Need-returns-3
-returns-3 c = sheet-marked _ _ _ _ (c .before .before .before .before .before .before .before .before .before .before .test-instance .ensures) (c .before .before .before .before .before .before .before .before .points .given .1) (c .before .before .before .before .before .before .admit .ensures) (c .before .before .before .before .enum-told2 .given .1) (c .before .before .mark-admitted .ensures)
+returns-3 c = sheet-marked _ _ _ _ (c .before .before .before .before .before .before .before .before .before .before .before .test-instance .ensures) (c .before .before .before .before .before .before .before .before .before .points .given .1) (c .before .before .before .before .before .before .before .admit .ensures) (c .before .before .before .before .before .admitted .given .1) (c .before .before .mark-admitted .ensures)
 
 pub mark-sheet-spec : {M : Type 1} → statement M
 mark-sheet-spec =
@@ -62,7 +62,7 @@ mark-sheet-spec =
     admit-requires
     enum-told
     turned-down-requires-2
-    enum-told-2
+    enum-known-admitted
     mark-admitted-requires
     same-length-2
     returns-2
