@@ -8,6 +8,7 @@ use native.Mathlib.Nat.{mul-le-mul}
 use native.Mathlib.Omega.{arith}
 use lib.ListN.{length}
 use Rattle.lengths.specs.Test.{unless}
+use Rattle.argument.specs.Record.{records}
 use Rattle.argument.specs.Sheet.{Result, sheet}
 use Rattle.sheets.proofs.Records.{sheet-records, sheet-admitted, sheet-refused}
 use Rattle.sheets.specs.Lines.{RowsAsked}
@@ -27,7 +28,7 @@ use Rattle.marking.specs.declared.tests.Tested.{Tested}
 use Rattle.marking.specs.declared.tests.Tested.the-variants.{Points, Refused}
 
 -- an array for the rows of `most` points has room for those of fewer
-pub rows-room : {n : ℕ} {table rows marks s : List ℕ} (most : ℕ) → Admitted n table marks s → n ≤ most → length rows ≡ (most + 1) * (most + 1) → RowsAsked n table rows marks s
+pub rows-room : {n : ℕ} {table rows marks s : List ℕ} {count : ℕ} (most : ℕ) → Admitted n table marks s count → n ≤ most → length rows ≡ (most + 1) * (most + 1) → RowsAsked n table rows marks s count
 rows-room {n} most a h e =
     let up : n + 1 ≤ most + 1 = omega arith in
     record { admitted = a; room = omega (arith, mul-le-mul up up) }
@@ -53,11 +54,13 @@ module _ (n : ℕ) (table marks s : List ℕ) {r : Tested} (e : r ≡ tested n t
     sheet-not-whole z h = turns-down marks h ∙ as-whole false (sheet-refused (length s) (sym w ∙ z))
 
     module _ {x : declared.Sheet} (z : a ≡ admitting.Admitted x) where
-      pub sheet-admits : Admitted p table marks s
+      pub sheet-admits : Admitted p table marks s (x .records)
+      unfolding records
       sheet-admits =
           let t = passed (sym e ∙ g) in
-          let h = sheet-records s (sheet-admitted (sym w ∙ z) .passed) in
-          record { least = t .least; lengths = t .lengths; marked = t .marked; whole = h .whole; few = h .few }
+          let i = sheet-admitted (sym w ∙ z) in
+          let h = sheet-records s (i .passed) in
+          record { least = t .least; lengths = t .lengths; marked = t .marked; whole = record { exact = h .whole; counted = i .counted }; few = h .few }
 
       pub sheet-marked : {v : Result (List ℕ)} → v ≡ sheet (markingOf p table) s marks → v ≡ markSheet n table marks s
       sheet-marked q = q ∙ as-whole true (sheet-admitted (sym w ∙ z) .passed)

@@ -25,41 +25,48 @@ const FEW_ROWS: usize = Instance::FEW_PLACES * Instance::FEW_PLACES;
 const MOST_ROWS: usize = Instance::PLACES * Instance::PLACES;
 
 // Writes the rows of lengths, and marks the lines by them.
-fn mark_by_rows(n: u16, table: &[u32], rows: &mut [u32], marks: &mut [u8], sheet: &[u16]) -> Verdict
-    requires { ⌜ RowsAsked n (now table) (now rows) (now marks) (now sheet) ⌝ }
+fn mark_by_rows(
+    n: u16,
+    table: &[u32],
+    rows: &mut [u32],
+    marks: &mut [u8],
+    sheet: &[u16],
+    count: u16,
+) -> Verdict
+    requires { ⌜ RowsAsked n (now table) (now rows) (now marks) (now sheet) count ⌝ }
     ensures { λ r. ⌜ resultOf r (now (marks .exit)) ≡ lines.sheet (markingOf n (now (table .entry))) (now (sheet .entry)) (now (marks .entry)) ⌝ }
 {
     fill_rows(n, table, rows);
-    mark_lines(n, table, rows, marks, sheet)
+    mark_lines(n, table, rows, marks, sheet, count)
 }
 
 // Marks the lines where there are few points.
-fn mark_few(n: u16, table: &[u32], marks: &mut [u8], sheet: &[u16]) -> Verdict
-    requires { ⌜ (Admitted n (now table) (now marks) (now sheet)) × (n ≤ fewPoints) ⌝ }
+fn mark_few(n: u16, table: &[u32], marks: &mut [u8], sheet: &[u16], count: u16) -> Verdict
+    requires { ⌜ (Admitted n (now table) (now marks) (now sheet) count) × (n ≤ fewPoints) ⌝ }
     ensures { λ r. ⌜ resultOf r (now (marks .exit)) ≡ lines.sheet (markingOf n (now (table .entry))) (now (sheet .entry)) (now (marks .entry)) ⌝ }
 {
     let mut rows = [0u32; FEW_ROWS];
-    mark_by_rows(n, table, &mut rows, marks, sheet)
+    mark_by_rows(n, table, &mut rows, marks, sheet, count)
 }
 
 // Marks the lines, however many points there are.
-fn mark_many(n: u16, table: &[u32], marks: &mut [u8], sheet: &[u16]) -> Verdict
-    requires { ⌜ Admitted n (now table) (now marks) (now sheet) ⌝ }
+fn mark_many(n: u16, table: &[u32], marks: &mut [u8], sheet: &[u16], count: u16) -> Verdict
+    requires { ⌜ Admitted n (now table) (now marks) (now sheet) count ⌝ }
     ensures { λ r. ⌜ resultOf r (now (marks .exit)) ≡ lines.sheet (markingOf n (now (table .entry))) (now (sheet .entry)) (now (marks .entry)) ⌝ }
 {
     let mut rows = [0u32; MOST_ROWS];
-    mark_by_rows(n, table, &mut rows, marks, sheet)
+    mark_by_rows(n, table, &mut rows, marks, sheet, count)
 }
 
-// Marks the lines of a sheet that passed the tests.
-fn mark_admitted(n: u16, table: &[u32], marks: &mut [u8], sheet: &[u16]) -> Verdict
-    requires { ⌜ Admitted n (now table) (now marks) (now sheet) ⌝ }
+// Marks the lines of a sheet that passed the tests, and has so many records.
+fn mark_admitted(n: u16, table: &[u32], marks: &mut [u8], sheet: &[u16], count: u16) -> Verdict
+    requires { ⌜ Admitted n (now table) (now marks) (now sheet) count ⌝ }
     ensures { λ r. ⌜ resultOf r (now (marks .exit)) ≡ lines.sheet (markingOf n (now (table .entry))) (now (sheet .entry)) (now (marks .entry)) ⌝ }
 {
     if n <= Instance::FEW_POINTS {
-        return mark_few(n, table, marks, sheet);
+        return mark_few(n, table, marks, sheet, count);
     }
-    mark_many(n, table, marks, sheet)
+    mark_many(n, table, marks, sheet, count)
 }
 
 // The answer where a test of the call fails: no record is at fault, and no line was accepted.
@@ -83,6 +90,12 @@ pub fn mark_sheet(n: u32, table: &[u32], marks: &mut [u8], sheet: &[u16]) -> Ver
     };
     match Sheet::admit(sheet.len()) {
         SheetAdmission::Refused => turned_down(refusal::SHEET),
-        SheetAdmission::Admitted(_) => mark_admitted(points, table, marks, sheet),
+        SheetAdmission::Admitted(admitted) => mark_admitted(
+            points,
+            table,
+            marks,
+            sheet,
+            admitted.records,
+        ),
     }
 }

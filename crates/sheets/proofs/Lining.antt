@@ -69,14 +69,14 @@ module _ (R : Rules) (open? : ℕ → ℕ → Bool) (s : List ℕ) (i a b c firs
       unfolding andThen
       line-stops g = sym (line-walks g)
 
-module _ {n : ℕ} {table rows marks s : List ℕ} {i : ℕ} (asked : LineAsked n table rows marks s i) (a b c first : ℕ) (f : fits n a b (splits c first) ≡ true) where
+module _ {n : ℕ} {table rows marks s : List ℕ} {count i : ℕ} (asked : LineAsked n table rows marks s count i) (a b c first : ℕ) (f : fits n a b (splits c first) ≡ true) where
   pub line-marked : mark.Marked n marks a b
   line-marked =
       let t = fits-means n a b (splits c first) f in
       record { is-edge = record { first = t .point-a; second = t .point-b; apart = t .apart }; whole = asked .tried .admitted .marked }
 
   -- the first split: five more may lie inside it
-  pub line-chain : {k : EdgeSet} → Single a b k → ChainAsked n table rows marks s k (splitLimit - 1) c
+  pub line-chain : {k : EdgeSet} → Single a b k → ChainAsked n table rows marks s count k (splitLimit - 1) c
   line-chain one =
       let t = fits-means n a b (splits c first) f in
       record { tried = asked .tried; held = one .held n (t .point-a) (t .point-b); room = omega (arith, one .one); centre = t .how-fits }
@@ -132,25 +132,25 @@ module _ (n : ℕ) (table marks s : List ℕ) (last index high : ℕ) where
         (λ lines. refl)
 
 -- an accepted line strikes an edge
-pub mark-marked : {n : ℕ} {table rows marks s : List ℕ} → Tried n table rows marks s → (index : ℕ) {v : Judged} {a b next reached : ℕ} → judgedOf v ≡ judge (rulesOf n table marks) (openIn n marks) s index → v ≡ judging.Strikes a b next reached → mark.Marked n marks a b
-mark-marked {n} {table} {rows} {marks} {s} t index {v} {a} {b} {next} {reached} z g =
+pub mark-marked : {n : ℕ} {table rows marks s : List ℕ} {count : ℕ} → Tried n table rows marks s count → (index : ℕ) {v : Judged} {a b next reached : ℕ} → judgedOf v ≡ judge (rulesOf n table marks) (openIn n marks) s index → v ≡ judging.Strikes a b next reached → mark.Marked n marks a b
+mark-marked {n} {table} {rows} {marks} {s} {count} t index {v} {a} {b} {next} {reached} z g =
     let l = judged (rulesOf n table marks) (openIn n marks) s index a b next reached (sym z ∙ ap judgedOf g) .at-line in
     record { is-edge = record { first = l .point-a; second = l .point-b; apart = l .apart }; whole = t .admitted .marked }
 
 -- the lines of a sheet
 
 -- the loop's invariant: the lines from here are the lines of the sheet
-pub record Proceeding (n : ℕ) (table rows marks₀ s marks : List ℕ) (lines last index high : ℕ) : Type 0 where
-  pub tried : Tried n table rows marks s
+pub record Proceeding (n : ℕ) (table rows marks₀ s : List ℕ) (count : ℕ) (marks : List ℕ) (lines last index high : ℕ) : Type 0 where
+  pub tried : Tried n table rows marks s count
   pub kept : length marks ≡ length marks₀
   pub counted : lines ≤ high
   pub goes : linesFrom (markingOf n table) s (placeOf marks lines last index high) ≡ sheet (markingOf n table) s marks₀
 
-pub lines-start : {n : ℕ} {table rows marks s : List ℕ} → Tried n table rows marks s → Proceeding n table rows marks s marks 0 0 1 0
+pub lines-start : {n : ℕ} {table rows marks s : List ℕ} {count : ℕ} → Tried n table rows marks s count → Proceeding n table rows marks s count marks 0 0 1 0
 unfolding sheet start
 lines-start t = record { tried = t; kept = refl; counted = omega arith; goes = refl }
 
-module _ {n : ℕ} {table rows marks₀ s marks : List ℕ} {lines last index high : ℕ} (p : Proceeding n table rows marks₀ s marks lines last index high) {r : Turned} {left : List ℕ} (t : TurnedAs n table marks s last index high r left) where
+module _ {n : ℕ} {table rows marks₀ s : List ℕ} {count : ℕ} {marks : List ℕ} {lines last index high : ℕ} (p : Proceeding n table rows marks₀ s count marks lines last index high) {r : Turned} {left : List ℕ} (t : TurnedAs n table marks s last index high r left) where
   abbrev here : Place (List ℕ)
   here = placeOf marks lines last index high
 
@@ -184,7 +184,7 @@ module _ {n : ℕ} {table rows marks₀ s marks : List ℕ} {lines last index hi
     pub lines-fall : records s - reached < records s - high
     lines-fall = omega (arith, risen .0, risen .1)
 
-    pub lines-on : length left ≡ length marks → Proceeding n table rows marks₀ s left (lines + 1) index next reached
+    pub lines-on : length left ≡ length marks → Proceeding n table rows marks₀ s count left (lines + 1) index next reached
     lines-on e =
         record {
           tried = let a = p .tried .admitted in record { admitted = record { least = a .least; lengths = a .lengths; marked = e ∙ a .marked; whole = a .whole; few = a .few }; in-rows = p .tried .in-rows };

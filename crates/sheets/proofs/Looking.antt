@@ -4,6 +4,7 @@ use Prim.Native.Nat.{ℕ, _≤_, _<_}
 use mathlib.Core.Path.{_≡_, refl, sym, _∙_, ap, ap₂}
 use mathlib.Core.Bool.{Bool, true, false, not, _&&_}
 use mathlib.Core.List.{List, [], _∷_}
+use native.Mathlib.Omega.{arith}
 use lib.Dec.{leb, eqb}
 use borrow.Author.Tests.{lt-leb, le-leb, eq-eqb, ne-eqb}
 use Rattle.lengths.specs.Edge.{Edge, edge}
@@ -11,7 +12,7 @@ use Rattle.rules.specs.NextPair.{firstOf}
 use Rattle.rules.specs.declared.pairs.NextPair.{NextPair}
 use Rattle.rules.specs.declared.pairs.NextPair.the-variants.{Pair, End}
 use Rattle.argument.specs.Verdict.{Verdict, accepted, refused, guard}
-use Rattle.argument.specs.Record.{How, Record, line, case, other, recordAt, isPoint, howFits, fits}
+use Rattle.argument.specs.Record.{How, Record, line, case, other, records, recordAt, isPoint, howFits, fits}
 use Rattle.argument.specs.Rules.{Rules}
 use Rattle.argument.specs.Walk.{Spot, Step, ends, takes, entering, noneLeft, isNext, readCase, look}
 use Rattle.argument.specs.Layout.{Enters}
@@ -19,7 +20,7 @@ use Rattle.argument.proofs.Verdicts.{pass-guard, fail-guard}
 use Rattle.argument.proofs.Tests.{both}
 use Rattle.argument.proofs.Steps.{look-entered}
 use Rattle.sheets.specs.Sheets.{howOf, recordOf}
-use Rattle.sheets.specs.Walks.{pointsOnly, pairsOf, spotOf}
+use Rattle.sheets.specs.Walks.{WholeRecords, pointsOnly, pairsOf, spotOf}
 use Rattle.sheets.specs.declared.sheet.Closing.{Closing}
 use Rattle.sheets.specs.declared.sheet.Closing.the-variants.{Split, Crossing}
 use Rattle.sheets.specs.declared.sheet.Case.{Case}
@@ -160,6 +161,17 @@ module _ (R : Rules) (s : List ℕ) (left : ℕ) (K : List Edge) (c : ℕ) where
         | true ↦ guard t 14 last λ _. accepted ends
         | false ↦ entering s last high index λ _. v
       ]) (heads-none pairs) (heads-read pairs last index high (recordAt s index))
+
+-- tests 8 and 9, by how many records there are
+module _ {s : List ℕ} {count : ℕ} (w : WholeRecords s count) {index : ℕ} where
+  pub above-all : count < index → records s < index
+  above-all h = omega (arith, w .counted)
+
+  pub not-above : index ≤ count → index ≤ records s
+  not-above h = omega (arith, w .counted)
+
+  pub entered : {high : ℕ} → index ≤ count → high < index → Enters s high index
+  entered h g = record { above = g; inside = not-above h }
 
 -- an index that is entered: what the record there is, by the declared record that was read
 

@@ -60,8 +60,8 @@ spotAt n table marks k left c x y last index high =
     }
 
 -- the loop's invariant
-pub record Following (n : ℕ) (table rows marks sheet : List ℕ) (k : EdgeSet) (left i c first : ℕ) (legs near rank : List ℕ) (bound : ℕ) (ways : List ℕ) (centre : Near) (x y last index high : ℕ) : Type 0 where
-  pub asked : ChainAsked n table rows marks sheet k left c
+pub record Following (n : ℕ) (table rows marks sheet : List ℕ) (count : ℕ) (k : EdgeSet) (left i c first : ℕ) (legs near rank : List ℕ) (bound : ℕ) (ways : List ℕ) (centre : Near) (x y last index high : ℕ) : Type 0 where
+  pub asked : ChainAsked n table rows marks sheet count k left c
   pub bounded : Bounded legs bound
   pub listed : NearbyOf n legs near rank
   pub prepared : Prepared n (lengthOf n table) (openIn n marks) (edgeList k) c legs bound
@@ -71,12 +71,12 @@ pub record Following (n : ℕ) (table rows marks sheet : List ℕ) (k : EdgeSet)
   pub top : y ≤ n
   pub walks : walk (rulesOf n table marks) sheet (spotAt n table marks k left c x y last index high) ≡ walk (rulesOf n table marks) sheet (opening (rulesOf n table marks) (suc left) (edgeList k) i c first)
 
-module _ {n : ℕ} {table rows marks sheet : List ℕ} {k : EdgeSet} {left c : ℕ} (asked : ChainAsked n table rows marks sheet k left c) where
+module _ {n : ℕ} {table rows marks sheet : List ℕ} {count : ℕ} {k : EdgeSet} {left c : ℕ} (asked : ChainAsked n table rows marks sheet count k left c) where
   pub chain-split : SplitAsked n table rows marks k c
   chain-split = record { legs = record { lengths = asked .tried .admitted .lengths; marked = asked .tried .admitted .marked; centre = asked .centre }; in-rows = asked .tried .in-rows; held = asked .held }
 
   pub follow-start : {p : split.Split} {ways near rank : List ℕ} {centre : Near} (i first : ℕ) → SplitOf n table marks k c p → Ways (edgeList k) c ways → centre ≡ neighbours (edgeList k) c
-      → NearbyOf n (p .legs) near rank → Following n table rows marks sheet k left i c first (p .legs) near rank (p .bound) ways centre 1 1 i first i
+      → NearbyOf n (p .legs) near rank → Following n table rows marks sheet count k left i c first (p .legs) near rank (p .bound) ways centre 1 1 i first i
   unfolding opening
   follow-start i first s each own listed =
       let e : left ≡ suc left - 1 = omega arith in
@@ -92,7 +92,7 @@ module _ {n : ℕ} {table rows marks sheet : List ℕ} {k : EdgeSet} {left c : �
         walks = ap₂ (λ (l : ℕ) (ps : List Edge). walk (rulesOf n table marks) sheet record { left = l; known = edgeList k; point = c; pairs = ps; last = i; index = first; high = i }) e (feasibleAfter-start n (lengthOf n table) (openIn n marks) (edgeList k) c);
       }
 
-module _ {n : ℕ} {table rows marks sheet : List ℕ} {k : EdgeSet} {left i c first : ℕ} {legs near rank : List ℕ} {bound : ℕ} {ways : List ℕ} {centre : Near} {x y last index high : ℕ} (f : Following n table rows marks sheet k left i c first legs near rank bound ways centre x y last index high) where
+module _ {n : ℕ} {table rows marks sheet : List ℕ} {count : ℕ} {k : EdgeSet} {left i c first : ℕ} {legs near rank : List ℕ} {bound : ℕ} {ways : List ℕ} {centre : Near} {x y last index high : ℕ} (f : Following n table rows marks sheet count k left i c first legs near rank bound ways centre x y last index high) where
   abbrev rules : Rules
   rules = rulesOf n table marks
 
@@ -122,7 +122,7 @@ module _ {n : ℕ} {table rows marks sheet : List ℕ} {k : EdgeSet} {left i c f
       taken = looked rules sheet here (takes (x′ .a) (x′ .b) (howOf (x′ .closing)) (x′ .next)) (looks g)
 
       module _ {k′ : EdgeSet} (added : Added k c (x′ .a) (x′ .b) k′) where
-        pub follow-case : CaseAsked n table rows marks sheet k′ left (x′ .closing)
+        pub follow-case : CaseAsked n table rows marks sheet count k′ left (x′ .closing)
         follow-case =
             let t = taken in
             record {
@@ -145,7 +145,7 @@ module _ {n : ℕ} {table rows marks sheet : List ℕ} {k : EdgeSet} {left i c f
             unfolding walk
             follow-falls = omega (arith, taken .entered, close-rises rules sheet (walk rules sheet) (walk-rises rules sheet (suc (records sheet))) left _ index (howOf (x′ .closing)) reached (closes w))
 
-            pub follow-on : Following n table rows marks sheet k left i c first legs near rank bound ways centre (x′ .a) (x′ .b) index (x′ .next) reached
+            pub follow-on : Following n table rows marks sheet count k left i c first legs near rank bound ways centre (x′ .a) (x′ .b) index (x′ .next) reached
             unfolding behind
             follow-on =
                 let t = taken in
@@ -167,7 +167,7 @@ module _ {n : ℕ} {table rows marks sheet : List ℕ} {k : EdgeSet} {left i c f
 
 -- the closing of a case
 
-module _ {n : ℕ} {table rows marks sheet : List ℕ} {k : EdgeSet} {left : ℕ} {closing : Closing} (asked : CaseAsked n table rows marks sheet k left closing) where
+module _ {n : ℕ} {table rows marks sheet : List ℕ} {count : ℕ} {k : EdgeSet} {left : ℕ} {closing : Closing} (asked : CaseAsked n table rows marks sheet count k left closing) where
   abbrev case-rules : Rules
   case-rules = rulesOf n table marks
 
@@ -181,7 +181,7 @@ module _ {n : ℕ} {table rows marks sheet : List ℕ} {k : EdgeSet} {left : ℕ
     pub close-too-deep : (i : ℕ) → left ≡ 0 → refused 13 i ≡ close case-rules (walk case-rules sheet) left (edgeList k) i (howOf closing)
     close-too-deep i z = sym (close-seventh case-rules sheet left (edgeList k) i point first z) ∙ closed-as i e
 
-    pub close-chain : (left ≡ 0 → ⊥) → ChainAsked n table rows marks sheet k (left - 1) point
+    pub close-chain : (left ≡ 0 → ⊥) → ChainAsked n table rows marks sheet count k (left - 1) point
     unfolding howFits
     close-chain z = record { tried = asked .tried; held = asked .held; room = omega (arith, asked .room); centre = is-point n point (fitting e) }
 

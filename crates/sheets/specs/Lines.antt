@@ -19,8 +19,8 @@ judgedOf (judged.Strikes a b next high) = accepted (strikes a b next high)
 judgedOf (judged.Refused number rec) = refused number rec
 
 -- what is asked of a line that was entered as record i
-pub record LineAsked (n : ℕ) (table rows marks sheet : List ℕ) (i : ℕ) : Type 0 where
-  pub tried : Tried n table rows marks sheet
+pub record LineAsked (n : ℕ) (table rows marks sheet : List ℕ) (count i : ℕ) : Type 0 where
+  pub tried : Tried n table rows marks sheet count
   pub readable : Readable sheet i
 
 -- where the lines stand: the marks, the lines accepted, the record that has the index, the index, the highest record entered
@@ -45,6 +45,6 @@ pub record TurnedAs (n : ℕ) (table marks sheet : List ℕ) (last index high : 
   pub marks-left : (lines : ℕ) → left ≡ marksAfter (placeOf marks lines last index high) (turn (markingOf n table) sheet (placeOf marks lines last index high))
 
 -- what marking by rows that are still to be written is asked about: there is room for them
-pub record RowsAsked (n : ℕ) (table rows marks sheet : List ℕ) : Type 0 where
-  pub admitted : Admitted n table marks sheet
+pub record RowsAsked (n : ℕ) (table rows marks sheet : List ℕ) (count : ℕ) : Type 0 where
+  pub admitted : Admitted n table marks sheet count
   pub room : (n + 1) * (n + 1) ≤ length rows

@@ -45,29 +45,34 @@ pairsOf (Pair x y) = edge x y ∷ []
 abbrev pub spotOf : NextPair → (last index high : ℕ) → Spot
 spotOf next last index high = record { left = 0; known = []; point = 0; pairs = pairsOf next; last = last; index = index; high = high }
 
--- an instance with its marks and a sheet, as the tests leave them
-pub record Admitted (n : ℕ) (table marks sheet : List ℕ) : Type 0 where
+-- the sheet is so many whole records
+pub record WholeRecords (sheet : List ℕ) (count : ℕ) : Type 0 where
+  pub exact : length sheet ≡ recordSize * records sheet
+  pub counted : count ≡ records sheet
+
+-- an instance with its marks and a sheet of so many records, as the tests leave them
+pub record Admitted (n : ℕ) (table marks sheet : List ℕ) (count : ℕ) : Type 0 where
   pub least : leastPoints ≤ n
   pub lengths : Lengths n table
   pub marked : length marks ≡ edgeCount n
-  pub whole : length sheet ≡ recordSize * records sheet
+  pub whole : WholeRecords sheet count
   pub few : records sheet ≤ mostRecords
 
--- the same, with the lengths in rows
-pub record Tried (n : ℕ) (table rows marks sheet : List ℕ) : Type 0 where
-  pub admitted : Admitted n table marks sheet
+-- an admitted instance, with the lengths in rows
+pub record Tried (n : ℕ) (table rows marks sheet : List ℕ) (count : ℕ) : Type 0 where
+  pub admitted : Admitted n table marks sheet count
   pub in-rows : Rows n table rows
 
 -- what a chain is asked about: its point is one of 1 to n, and K fits with all that the splits left can add
-pub record ChainAsked (n : ℕ) (table rows marks sheet : List ℕ) (k : EdgeSet) (left c : ℕ) : Type 0 where
-  pub tried : Tried n table rows marks sheet
+pub record ChainAsked (n : ℕ) (table rows marks sheet : List ℕ) (count : ℕ) (k : EdgeSet) (left c : ℕ) : Type 0 where
+  pub tried : Tried n table rows marks sheet count
   pub held : Held n k
   pub room : k .count + 2 * left + 2 ≤ mostKnown
   pub centre : Point n c
 
 -- what a case is asked about: its points are among 1 to n, and K has its pair
-pub record CaseAsked (n : ℕ) (table rows marks sheet : List ℕ) (k : EdgeSet) (left : ℕ) (closing : Closing) : Type 0 where
-  pub tried : Tried n table rows marks sheet
+pub record CaseAsked (n : ℕ) (table rows marks sheet : List ℕ) (count : ℕ) (k : EdgeSet) (left : ℕ) (closing : Closing) : Type 0 where
+  pub tried : Tried n table rows marks sheet count
   pub held : Held n k
   pub room : k .count + 2 * left ≤ mostKnown
   pub points : howFits n (howOf closing) ≡ true

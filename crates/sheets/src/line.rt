@@ -48,10 +48,11 @@ fn judge_line(
     rows: &[u32],
     marks: &[u8],
     sheet: &[u16],
+    count: u16,
     i: u16,
     line: Line,
 ) -> Judged
-    requires { ⌜ LineAsked n (now table) (now rows) (now marks) (now sheet) i ⌝ }
+    requires { ⌜ LineAsked n (now table) (now rows) (now marks) (now sheet) count i ⌝ }
     ensures { λ r. ⌜ judgedOf r ≡ judgeRecord (rulesOf n (now (table .entry)) (now (marks .entry))) (openIn n (now (marks .entry))) (now (sheet .entry)) i (recordOf (Record.Line line)) ⌝ }
 {
     let closing = Closing::Split {
@@ -71,6 +72,7 @@ fn judge_line(
         rows,
         marks,
         sheet,
+        count,
         k,
         Sheet::MOST_SPLITS - 1,
         i,
@@ -88,12 +90,20 @@ fn judge_line(
 }
 
 // Judges the line that record i should be.
-pub fn judge(n: u16, table: &[u32], rows: &[u32], marks: &[u8], sheet: &[u16], i: u16) -> Judged
-    requires { ⌜ LineAsked n (now table) (now rows) (now marks) (now sheet) i ⌝ }
+pub fn judge(
+    n: u16,
+    table: &[u32],
+    rows: &[u32],
+    marks: &[u8],
+    sheet: &[u16],
+    count: u16,
+    i: u16,
+) -> Judged
+    requires { ⌜ LineAsked n (now table) (now rows) (now marks) (now sheet) count i ⌝ }
     ensures { λ r. ⌜ judgedOf r ≡ judging.judge (rulesOf n (now (table .entry)) (now (marks .entry))) (openIn n (now (marks .entry))) (now (sheet .entry)) i ⌝ }
 {
     match Sheet::record(sheet, i) {
-        Record::Line(line) => judge_line(n, table, rows, marks, sheet, i, line),
+        Record::Line(line) => judge_line(n, table, rows, marks, sheet, count, i, line),
         Record::Case(_) => Judged::Refused(refusal::KIND, i),
         Record::Other => Judged::Refused(refusal::KIND, i),
     }
@@ -106,23 +116,24 @@ pub fn mark_line(
     rows: &[u32],
     marks: &mut [u8],
     sheet: &[u16],
+    count: u16,
     last: u16,
     index: u16,
     high: u16,
 ) -> Turned
-    requires { ⌜ Tried n (now table) (now rows) (now marks) (now sheet) ⌝ }
+    requires { ⌜ Tried n (now table) (now rows) (now marks) (now sheet) count ⌝ }
     ensures { λ r. ⌜ TurnedAs n (now (table .entry)) (now (marks .entry)) (now (sheet .entry)) last index high r (now (marks .exit)) ⌝ }
 {
     if index == 0 {
         return Turned::Over;
     }
-    if sheet.len() / Sheet::RECORD_SIZE < index as usize {
+    if count < index {
         return Turned::Refused(refusal::INDEX_ABOVE, last);
     }
     if index <= high {
         return Turned::Refused(refusal::INDEX_NOT_ABOVE, last);
     }
-    match judge(n, table, rows, marks, sheet, index) {
+    match judge(n, table, rows, marks, sheet, count, index) {
         Judged::Strikes { a, b, next, high } => {
             strike(n, marks, a, b);
             Turned::Struck {
@@ -143,9 +154,16 @@ fn strike(n: u16, marks: &mut [u8], a: u16, b: u16)
     marks[at] = 0;
 }
 
-// The lines of a sheet from record 1 on.
-pub fn mark_lines(n: u16, table: &[u32], rows: &[u32], marks: &mut [u8], sheet: &[u16]) -> Verdict
-    requires { ⌜ Tried n (now table) (now rows) (now marks) (now sheet) ⌝ }
+// The lines of a sheet of so many records, from record 1 on.
+pub fn mark_lines(
+    n: u16,
+    table: &[u32],
+    rows: &[u32],
+    marks: &mut [u8],
+    sheet: &[u16],
+    count: u16,
+) -> Verdict
+    requires { ⌜ Tried n (now table) (now rows) (now marks) (now sheet) count ⌝ }
     ensures { λ r. ⌜ resultOf r (now (marks .exit)) ≡ lines.sheet (markingOf n (now (table .entry))) (now (sheet .entry)) (now (marks .entry)) ⌝ }
 {
     let mut lines: u16 = 0;
@@ -153,7 +171,7 @@ pub fn mark_lines(n: u16, table: &[u32], rows: &[u32], marks: &mut [u8], sheet: 
     let mut index: u16 = 1;
     let mut high: u16 = 0;
     loop {
-        match mark_line(n, table, rows, marks, sheet, last, index, high) {
+        match mark_line(n, table, rows, marks, sheet, count, last, index, high) {
             Turned::Over => return Verdict::Accepted { lines: lines },
             Turned::Refused(number, at) => return Verdict::Refused {
                 refusal: number,

@@ -15,15 +15,14 @@ use rules::pairs::next_pair;
 use rules::split::prepare;
 use rules::ways::ways_beyond;
 ghost use mathlib.Core.Path.{_≡_};
-ghost use Prim.Native.Nat.{suc, _*_};
-ghost use lib.ListN.{length};
+ghost use Prim.Native.Nat.{suc};
 ghost use Rattle.rules.specs.Stored.{edgeList};
-ghost use Rattle.argument.specs.Record.{records, isPoint, howFits, fits};
+ghost use Rattle.argument.specs.Record.{isPoint, howFits, fits};
 ghost use Rattle.argument.specs.Walk.{readCase, opening, close, walk};
 ghost use Rattle.argument.specs.Walk as walking;
-ghost use Rattle.sheets.specs.Sheets.{howOf, recordOf, recordSize};
+ghost use Rattle.sheets.specs.Sheets.{howOf, recordOf};
 ghost use Rattle.sheets.specs.Rules.{rulesOf};
-ghost use Rattle.sheets.specs.Walks.{walkedOf, lookedOf, pointsOnly, spotOf, ChainAsked, CaseAsked};
+ghost use Rattle.sheets.specs.Walks.{walkedOf, lookedOf, pointsOnly, spotOf, WholeRecords, ChainAsked, CaseAsked};
 
 // Where a walk ends: all is closed, with the highest record entered, or it is refused with the number and the record.
 pub enum Walked {
@@ -105,9 +104,17 @@ fn look_at_case(n: u16, case: Case, last: u16, index: u16, high: u16, next: Next
     Looked::Takes(case)
 }
 
-// What a chain does at its index, which the record `last` has; `high` is the highest record entered.
-fn look(n: u16, sheet: &[u16], next: NextPair, last: u16, index: u16, high: u16) -> Looked
-    requires { ⌜ length (now sheet) ≡ recordSize * records (now sheet) ⌝ }
+// What a chain does at its index, which the record `last` has; `high` is the highest record entered, and `count` how many there are.
+fn look(
+    n: u16,
+    sheet: &[u16],
+    count: u16,
+    next: NextPair,
+    last: u16,
+    index: u16,
+    high: u16,
+) -> Looked
+    requires { ⌜ WholeRecords (now sheet) count ⌝ }
     ensures { λ r. ⌜ lookedOf r ≡ walking.look (pointsOnly n) (now (sheet .entry)) (spotOf next last index high) ⌝ }
 {
     if index == 0 {
@@ -116,7 +123,7 @@ fn look(n: u16, sheet: &[u16], next: NextPair, last: u16, index: u16, high: u16)
             NextPair::Pair(_, _) => Looked::Refused(refusal::PAIR, last),
         };
     }
-    if sheet.len() / Sheet::RECORD_SIZE < index as usize {
+    if count < index {
         return Looked::Refused(refusal::INDEX_ABOVE, last);
     }
     if index <= high {
@@ -130,20 +137,21 @@ fn look(n: u16, sheet: &[u16], next: NextPair, last: u16, index: u16, high: u16)
 }
 
 // The chain of the split at c that record i holds, under k, from the index `first` on; `left` more splits may lie inside a case.
-// The rows are those of the table.
+// The rows are those of the table, and `count` is how many records the sheet has.
 pub fn chain(
     n: u16,
     table: &[u32],
     rows: &[u32],
     marks: &[u8],
     sheet: &[u16],
+    count: u16,
     k: EdgeSet,
     left: u16,
     i: u16,
     c: u16,
     first: u16,
 ) -> Walked
-    requires { ⌜ ChainAsked n (now table) (now rows) (now marks) (now sheet) k left c ⌝ }
+    requires { ⌜ ChainAsked n (now table) (now rows) (now marks) (now sheet) count k left c ⌝ }
     ensures { λ r. ⌜ walkedOf r ≡ walk (rulesOf n (now (table .entry)) (now (marks .entry))) (now (sheet .entry))
         (opening (rulesOf n (now (table .entry)) (now (marks .entry))) (suc left) (edgeList k) i c first) ⌝ }
 {
@@ -162,13 +170,24 @@ pub fn chain(
     let mut high = i;
     loop {
         let next = next_pair(n, table, &legs, &near, &rank, bound, &ways, centre, k, x, y);
-        match look(n, sheet, next, last, index, high) {
+        match look(n, sheet, count, next, last, index, high) {
             Looked::Ends => return Walked::Closed(high),
             Looked::Refused(number, at) => return Walked::Refused(number, at),
             Looked::Takes(case) => {
                 let closing = case.closing;
                 let inner = k.with_pair(c, case.a, case.b);
-                match close_case(n, table, rows, marks, sheet, inner, left, index, closing) {
+                match close_case(
+                    n,
+                    table,
+                    rows,
+                    marks,
+                    sheet,
+                    count,
+                    inner,
+                    left,
+                    index,
+                    closing,
+                ) {
                     Walked::Refused(number, at) => return Walked::Refused(number, at),
                     Walked::Closed(reached) => high = reached,
                 }
@@ -188,12 +207,13 @@ fn close_case(
     rows: &[u32],
     marks: &[u8],
     sheet: &[u16],
+    count: u16,
     k: EdgeSet,
     left: u16,
     i: u16,
     closing: Closing,
 ) -> Walked
-    requires { ⌜ CaseAsked n (now table) (now rows) (now marks) (now sheet) k left closing ⌝ }
+    requires { ⌜ CaseAsked n (now table) (now rows) (now marks) (now sheet) count k left closing ⌝ }
     ensures { λ r. ⌜ walkedOf r ≡ close (rulesOf n (now (table .entry)) (now (marks .entry)))
         (walk (rulesOf n (now (table .entry)) (now (marks .entry))) (now (sheet .entry))) left (edgeList k) i (howOf closing) ⌝ }
 {
@@ -202,7 +222,19 @@ fn close_case(
             if left == 0 {
                 return Walked::Refused(refusal::SEVENTH_SPLIT, i);
             }
-            chain(n, table, rows, marks, sheet, k, left - 1, i, point, first)
+            chain(
+                n,
+                table,
+                rows,
+                marks,
+                sheet,
+                count,
+                k,
+                left - 1,
+                i,
+                point,
+                first,
+            )
         }
         Closing::Crossing { p, q, r, s } => match crossing(n, table, k, p, q, r, s) {
             Crossed::Settled => Walked::Closed(i),

@@ -37,17 +37,17 @@ same-length-2 c = search needs
 returns-2 : tie.Need-returns-2
 returns-2 c = sheet-not-whole _ _ _ _ (c .before .before .before .before .before .before .before .test-instance .ensures) (c .before .before .before .before .before .points .given .1) (c .before .before .before .admit .ensures) (c .before .enum-told .given .1) (c .turned-down2 .ensures)
 
-enum-told-2 : tie.Need-enum-told-2
-enum-told-2 c = search needs
+enum-known-admitted : tie.Need-enum-known-admitted
+enum-known-admitted c = search needs
 
 mark-admitted-requires : tie.Need-mark-admitted-requires
-mark-admitted-requires c κs = sheet-admits _ _ _ _ (c .before .before .before .before .before .before .before .test-instance .ensures) (c .before .before .before .before .before .points .given .1) (c .before .before .before .admit .ensures) (c .before .enum-told2 .given .1)
+mark-admitted-requires c κs = sheet-admits _ _ _ _ (c .before .before .before .before .before .before .before .before .test-instance .ensures) (c .before .before .before .before .before .before .points .given .1) (c .before .before .before .before .admit .ensures) (c .before .before .admitted .given .1)
 
 same-length-3 : tie.Need-same-length-3
 same-length-3 c = search needs
 
 returns-3 : tie.Need-returns-3
-returns-3 c = sheet-marked _ _ _ _ (c .before .before .before .before .before .before .before .before .before .before .test-instance .ensures) (c .before .before .before .before .before .before .before .before .points .given .1) (c .before .before .before .before .before .before .admit .ensures) (c .before .before .before .before .enum-told2 .given .1) (c .before .before .mark-admitted .ensures)
+returns-3 c = sheet-marked _ _ _ _ (c .before .before .before .before .before .before .before .before .before .before .before .test-instance .ensures) (c .before .before .before .before .before .before .before .before .before .points .given .1) (c .before .before .before .before .before .before .before .admit .ensures) (c .before .before .before .before .before .admitted .given .1) (c .before .before .mark-admitted .ensures)
 
 pub mark-sheet-spec : {M : Type 1} → statement M
 mark-sheet-spec =
@@ -62,7 +62,7 @@ mark-sheet-spec =
     admit-requires
     enum-told
     turned-down-requires-2
-    enum-told-2
+    enum-known-admitted
     mark-admitted-requires
     same-length-2
     returns-2

@@ -10,11 +10,11 @@ use Rattle.sheets.proofs.line.mark_lines.Statement.{statement}
 use Rattle.sheets.proofs.line.mark_lines.Tie as tie
 
 abbrev Inv-loop : tie.InvT-loop
-Inv-loop n table rows marks₀ sheet lines₀ last₀ index₀ high₀ marks lines last index high =
-    Proceeding n table rows marks₀ sheet marks lines last index high
+Inv-loop n table rows marks₀ sheet count lines₀ last₀ index₀ high₀ marks lines last index high =
+    Proceeding n table rows marks₀ sheet count marks lines last index high
 
 abbrev μ-loop : tie.MeasureT-loop
-μ-loop n table rows marks₀ sheet lines₀ last₀ index₀ high₀ marks lines last index high = records sheet - high
+μ-loop n table rows marks₀ sheet count lines₀ last₀ index₀ high₀ marks lines last index high = records sheet - high
 
 loop-holds : tie.Need-loop-holds Inv-loop μ-loop
 loop-holds c = lines-start (c .before .before .before .before .pre)

@@ -28,10 +28,10 @@ use Rattle.sheets.proofs.walk.+chain+close_case.{statement}
 use Rattle.sheets.proofs.walk.+chain+close_case.Tie.{close}
 
 abbrev μ-chain : Measures 4 chain-kinds.ps ℕ
-μ-chain κs a = 2 * (a .1 .1 .1 .1 .1 .1 .0) + 1
+μ-chain κs a = 2 * (a .1 .1 .1 .1 .1 .1 .1 .0) + 1
 
 abbrev μ-close-case : Measures 4 close-case-kinds.ps ℕ
-μ-close-case κs a = 2 * (a .1 .1 .1 .1 .1 .1 .0)
+μ-close-case κs a = 2 * (a .1 .1 .1 .1 .1 .1 .1 .0)
 
 abbrev chain-at : ℕ → In 4 chain-kinds.ps
 chain-at t = and 4 chain-kinds.ps (is 4 chain-kinds.ps μ-chain t) chain.Pre
@@ -55,11 +55,11 @@ abbrev close-case-calls : ℕ → close-case-lts.Claims
 close-case-calls t = (chain-below t, chain.Post, crossing-reads.Asked, crossing-reads.Learnt)
 
 abbrev chain-Inv-loop : chain-lts.InvT-loop
-chain-Inv-loop n table rows marks sheet k left i c first legs bound ways centre near rank x₀ y₀ last₀ index₀ high₀ x y last index high =
-    Following n table rows marks sheet k left i c first legs near rank bound ways centre x y last index high
+chain-Inv-loop n table rows marks sheet count k left i c first legs bound ways centre near rank x₀ y₀ last₀ index₀ high₀ x y last index high =
+    Following n table rows marks sheet count k left i c first legs near rank bound ways centre x y last index high
 
 abbrev chain-μ-loop : chain-lts.MeasureT-loop
-chain-μ-loop n table rows marks sheet k left i c first legs bound ways centre near rank x₀ y₀ last₀ index₀ high₀ x y last index high =
+chain-μ-loop n table rows marks sheet count k left i c first legs bound ways centre near rank x₀ y₀ last₀ index₀ high₀ x y last index high =
     records sheet - high
 
 chain-prepare-requires : (t : ℕ) → chain-lts.Need-prepare-requires (chain-calls t) (chain-at t) chain.Post chain-Inv-loop chain-μ-loop
