@@ -84,7 +84,7 @@ eight-lengths rs = record {
   qx = refl;
   pw = refl;
   qz = refl;
-  centres = refl;
+  rs = refl;
 }
 
 saves-hold : (rs difference : ℕ) → 1 ≤ difference → 30 ≡ rs + 18 + difference → Claim (saves rs 30 (rs + 18) difference)

@@ -32,6 +32,7 @@ pub data Example : Type 0 where
   -- crossing with rs of this length: no labelling saves
   unsaved : (rs : ℕ) → Example
 
+-- 01's stars in its order; the sums of test 5 belong to the standing pair before them
 unfoldable pub starred : List Example
 starred =
     distances 2 1 2 ∷
@@ -72,7 +73,7 @@ unfoldable pub centres : List Edge
 centres = edge 1 2 ∷ edge 3 5 ∷ edge 3 6 ∷ edge 4 7 ∷ edge 4 8 ∷ []
 
 -- 01's lengths: pq and the centres' edges 10; px, qw, pz, qy 9; py, qx, pw, qz 20; rs as given
-pub record Eight (l : ℕ → ℕ → ℕ) (p q r s x y z w rs : ℕ) : Type 0 where
+pub record Eight (l : ℕ → ℕ → ℕ) (p q r s x y z w between : ℕ) : Type 0 where
   pub pq : l p q ≡ 10
   pub rx : l r x ≡ 10
   pub ry : l r y ≡ 10
@@ -86,13 +87,13 @@ pub record Eight (l : ℕ → ℕ → ℕ) (p q r s x y z w rs : ℕ) : Type 0 w
   pub qx : l q x ≡ 20
   pub pw : l p w ≡ 20
   pub qz : l q z ≡ 20
-  pub centres : l r s ≡ rs
+  pub rs : l r s ≡ between
 
 -- the crossing has these lengths, and meets its conditions: refusal 15 does not apply
 abbrev pub Given : ℕ → Type 0
 Given rs = Eight (eight rs) 1 2 3 4 5 6 7 8 rs × Crossing centres 1 2 3 4 5 6 7 8
 
--- the two moves of a labelling each take out one sum and put in the other: the sides of `Saves`
+-- each of a labelling's two moves takes out one sum and puts in the other: the sides of `Saves`
 pub record Moves (l : ℕ → ℕ → ℕ) (p q r s x y z w taken put : ℕ) : Type 0 where
   pub first-taken : l p q + l r x + l s w ≡ taken
   pub first-put : l r s + l p x + l q w ≡ put
