@@ -1,5 +1,6 @@
 -- `marking::walk::look` meets its contract: each return is a way out of `look`, by the record that was read. Assumes nothing.
 use mathlib.Core.Path.{sym}
+use native.Mathlib.Omega.{arith}
 use Rattle.argument.specs.Record.{records}
 use Rattle.argument.proofs.Steps.{looks-end, refuse-end, refuse-above, refuse-low}
 use Rattle.argument.proofs.Tests.{none-left}
@@ -26,7 +27,7 @@ returns-3 c = sym (refuse-above _ _ _ (c .if2 .taken))
 
 returns-4 : tie.Need-returns-4
 unfolding records
-returns-4 c = sym (refuse-low _ _ _ (c .before .before .if1 .left) (c .before .if2 .left) (c .if3 .taken))
+returns-4 c = sym (refuse-low _ _ _ (c .before .before .if1 .left) (c .before .if2 .left) (omega (arith, c .if3 .taken)))
 
 record-requires : tie.Need-record-requires
 record-requires c κs = search needs

@@ -1,4 +1,5 @@
 -- `marking::sheet::Sheet::admit` meets its contract: each way out is one part of test 7. Assumes nothing.
+use native.Mathlib.Omega.{arith}
 use Rattle.sheets.proofs.Records.{whole-none, whole-broken, whole-long, whole-passed, refused-sheet, admitted-sheet}
 use borrow.Author.Needs.{needs}
 use Rattle.sheets.proofs.sheet.Sheet.admit.Statement.{statement}
@@ -14,7 +15,7 @@ mul-if3 : tie.Need-mul-if3
 mul-if3 c = search needs
 
 returns-3 : tie.Need-returns-3
-returns-3 c = refused-sheet _ (whole-long _ (c .if3 .taken))
+returns-3 c = refused-sheet _ (whole-long _ (omega (arith, c .if3 .taken)))
 
 cast-t4 : tie.Need-cast-t4
 cast-t4 c = search needs
