@@ -53,7 +53,8 @@ demand-2-sheet n table marks s p r =
     let e = sheet-exact (markingOf n table) (lawful n table) s marks r in
     (λ h. e .0 (sym (lines-marked n table marks s p) ∙ h), λ m. lines-marked n table marks s p ∙ e .1 m)
 
--- every chain of complete lines that ends at index 0 is accepted whole, with its marks and its number of lines
+-- Every chain of complete lines that ends at index 0 is accepted whole, with its marks and its number of lines: it is an answer as
+-- `demand-2-sheet` says, which stops by index 0; and the place behind a chain has counted its lines.
 pub demand-2-whole :
     (n : ℕ) (table marks s : List ℕ) → Passes n table marks s → (lines : List Struck) (q : Place (List ℕ)) →
     CompleteLines (markingOf n table) s (start marks) lines q → q .index ≡ 0 →
@@ -70,20 +71,25 @@ demand-2-whole n table marks s p lines q chain z =
       counted = let c = chain-length (markingOf n table) s lines (start marks) q chain in omega (arith, c);
     })
 
--- a refusal after test 7 has a number from 8 to 16 and names one of the sheet's records
+-- A refusal after test 7 has a number from 8 to 16 and names one of the sheet's records. The index 1 is entered, since the sheet has a record.
+-- From then on the record that has an index is the last line entered, which 8 and 9 name; and a line that is not complete is refused by a test
+-- of the walk, which names the record that it entered or the one that has the index, or by the closing, whose numbers are 15 and 16.
+-- So the answer that the walk would give if its fuel ran out, number 0, is none of a sheet.
 pub demand-2-refusal :
     (n : ℕ) (table marks s : List ℕ) → Passes n table marks s → (number rec : ℕ) →
     markSheet n table marks s .verdict ≡ refused number rec → RefusedAt s number rec
 demand-2-refusal n table marks s p number rec e =
     refusal-told (markingOf n table) (lawful n table) s marks (markSheet n table marks s) (sheet-records s (p .whole) .some) (demand-2-sheet n table marks s p _ .0 refl) number rec e
 
--- the marks that a call changes are those of the edges that its accepted lines strike, as many as the lines that it answers, each open before
+-- The marks that a call changes are those of the edges that its accepted lines strike, as many as the lines that it answers, each open before.
+-- A complete line finds its edge open. No line opens an edge, so that mark is still the one that the call found, and it becomes 0: one mark
+-- more differs. What is struck stays struck, so the edges of all lines are struck at the end, and every other edge has the mark that it had.
 pub demand-2-struck :
     (n : ℕ) (table marks s : List ℕ) → Passes n table marks s → (r : Result (List ℕ)) (m : Answers (markingOf n table) s (start marks) r) →
     Changes n marks (r .marks) (struckEdges (m .lines)) (r .lines)
 demand-2-struck n table marks s p r m = chain-changes n table s marks (passed (p .points) .marked) r m
 
--- and so for every call: one that fails a test of 1 to 7 accepts no line and changes nothing
+-- And so for every call: one that fails a test of 1 to 7 accepts no line and changes nothing.
 pub demand-2-changes : (n : ℕ) (table marks s : List ℕ) → (struck : List Edge) × Changes n marks (markSheet n table marks s .marks) struck (markSheet n table marks s .lines)
 unfolding markSheet
 demand-2-changes n table marks s = by (tested n table marks) refl
