@@ -42,7 +42,7 @@ rule-known rule h = by (eqb rule 1) (eqb rule 2) refl refl
     by false false e f = absurd (false≢true (rw (ruleOf, e, f) at h))
 
 -- the coordinates are those of n points, within the limit
-record Placed (n : ℕ) (cs : List ℕ) : Type 0 where
+record Surveyed (n : ℕ) (cs : List ℕ) : Type 0 where
   pub some : 1 ≤ n
   pub located : length cs ≡ 2 * n
   pub small : allAtMost mostCoordinate cs ≡ true
@@ -51,7 +51,7 @@ gap-self : (a : ℕ) → gapOf a a ≡ 0
 unfolding gapOf
 gap-self a = omega arith
 
-module _ (n : ℕ) (cs : List ℕ) (p : Placed n cs) where
+module _ (n : ℕ) (cs : List ℕ) (p : Surveyed n cs) where
   -- S is at most `mostSquares`, so every distance is what the rules' theorems say
   sum-small : (a b : ℕ) → Point n a → Point n b → squares cs a b ≤ mostSquares
   sum-small a b pa pb =
@@ -105,6 +105,6 @@ demand-2-measure n rule cs table h =
     let z5 = answered (allAtMost mostCoordinate cs) _ _ Done not-done (z4 .1) in
     by (record { some = omega (arith, range-admits n (z1 .0) .least); located = eqb-true (length cs) (2 * n) (z2 .0); small = z5 .0 }) (rule-known rule (z4 .0))
   where
-    by : Placed n cs → ((rule ≡ 1) × (ruleOf rule ≡ Known Euc2d)) ⊎ ((rule ≡ 2) × (ruleOf rule ≡ Known Ceil2d)) → Measures n rule cs (tableAfter n rule cs table)
+    by : Surveyed n cs → ((rule ≡ 1) × (ruleOf rule ≡ Known Euc2d)) ⊎ ((rule ≡ 2) × (ruleOf rule ≡ Known Ceil2d)) → Measures n rule cs (tableAfter n rule cs table)
     by p (inl k) = rw (tableAfter, h, k .1, k .0) (measures-euc2d n cs p)
     by p (inr k) = rw (tableAfter, h, k .1, k .0) (measures-ceil2d n cs p)
