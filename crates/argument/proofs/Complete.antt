@@ -2,7 +2,7 @@
 -- The induction is on the tree. K stays one that an argument comes to, so the walk's list of pairs is the one that the chain names, and test
 -- 11 never stands in the way.
 use Prim.Native.Nat.{ℕ}
-use mathlib.Core.Path.{_≡_, refl, sym, _∙_, ap, subst}
+use mathlib.Core.Path.{_≡_, sym, _∙_, ap, subst}
 use mathlib.Core.List.{List, _∷_}
 use native.Mathlib.Omega.{arith}
 use borrow.Author.Tests.{lt-ltb}

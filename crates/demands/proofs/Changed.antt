@@ -2,7 +2,7 @@
 -- Assumes nothing.
 use Prim.Native.Nat.{ℕ, suc, _<_}
 use mathlib.Core.Path.{_≡_, refl, sym, _∙_, ap, subst}
-use mathlib.Core.Bool.{Bool, true, false, false≢true}
+use mathlib.Core.Bool.{true, false, false≢true}
 use mathlib.Core.Logic.{_⊎_, inl, inr, _↔_, ⊎-elim}
 use mathlib.Core.List.{List, [], _∷_}
 use native.Mathlib.Decide.{ℕ-discrete}
@@ -10,8 +10,7 @@ use native.Mathlib.Omega.{arith}
 use lib.ListN.{length, getD, set, length-set}
 use lib.Seq.{getD-set-same, getD-set-other}
 use borrow.Author.Tests.{eqb-true}
-use Rattle.lengths.specs.Edge.{Edge, edge, IsEdge, edgeCount, place}
-use Rattle.lengths.specs.Test.{unless}
+use Rattle.lengths.specs.Edge.{edge, IsEdge, edgeCount, place}
 use Rattle.lengths.proofs.Edges.{place-below}
 use Rattle.rules.specs.EdgeSet.{Joins, Has}
 use Rattle.rules.specs.Mark.{openIn}

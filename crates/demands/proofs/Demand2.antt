@@ -1,5 +1,5 @@
 -- DEMAND 2 for lines and sheets: what *mark a sheet* accepts, answers and changes, by 01's rules alone. Assumes nothing.
-use Prim.Native.Nat.{ℕ, _≤_}
+use Prim.Native.Nat.{ℕ}
 use mathlib.Core.Path.{_≡_, refl, sym, _∙_, ap, subst}
 use mathlib.Core.Bool.{Bool, true, false}
 use mathlib.Core.Logic.{_↔_}
@@ -10,7 +10,6 @@ use Rattle.lengths.specs.Edge.{Edge}
 use Rattle.lengths.specs.Test.{unless}
 use Rattle.rules.specs.Mark.{openIn}
 use Rattle.argument.specs.Line.{Struck, strikes, judge, CompleteLine}
-use Rattle.argument.specs.Record.{records}
 use Rattle.argument.specs.Sheet.{Place, Result, start, sheet, CompleteLines, ended, Answers, RefusedAt}
 use Rattle.argument.specs.Verdict.{accepted, refused}
 use Rattle.argument.proofs.Exact.{line-sound, line-complete}

@@ -1,6 +1,6 @@
 -- DEMAND 2 for *measure*: what a call that refuses nothing leaves. Assumes nothing.
 use Prim.Native.Nat.{ℕ, _*_, _≤_}
-use mathlib.Core.Path.{_≡_, refl, sym, _∙_, ap, subst}
+use mathlib.Core.Path.{_≡_, refl, sym, _∙_, subst}
 use mathlib.Core.Bool.{Bool, true, false, false≢true}
 use mathlib.Core.Logic.{_⊎_, inl, inr}
 use mathlib.Core.List.{List}
@@ -8,7 +8,7 @@ use native.Mathlib.Decide.{ℕ-discrete}
 use native.Mathlib.Omega.{arith}
 use lib.Dec.{eqb}
 use lib.ListN.{length}
-use borrow.Author.Tests.{eqb-true, eqb-false}
+use borrow.Author.Tests.{eqb-true}
 use Rattle.lengths.specs.Distance.{distanceBy, ruleOf, IsEuc2d, IsCeil2d}
 use Rattle.lengths.specs.Edge.{Point, edgeCount}
 use Rattle.lengths.specs.Instance.{mostCoordinate, mostSquares, inRange}
@@ -25,7 +25,7 @@ use Rattle.lengths.proofs.Filling.{length-measured, measured-length}
 use Rattle.lengths.proofs.Limits.{limit-each}
 use Rattle.lengths.proofs.Tables.{length-self}
 use Rattle.marking.proofs.Tested.{range-admits}
-use Rattle.demands.specs.Measured.{IsDistance, Measures}
+use Rattle.demands.specs.Measured.{Measures}
 use Rattle.demands.proofs.Answers.{answered}
 
 not-done : {number rec : ℕ} → Refused number rec ≡ Done → ⊥
