@@ -15,7 +15,6 @@ use Rattle.lengths.specs.Instance.{fewEdges, fewPoints, mostEdges, mostPoints}
 use Rattle.rules.specs.Mark.{openIn}
 use Rattle.rules.specs.Near.{neighbours}
 use Rattle.rules.specs.Nearby.{NearbyOf}
-use Rattle.rules.specs.Ways.{Scouted, Ways}
 use Rattle.rules.specs.NextPair.{Searchable, Next, firstOf}
 use Rattle.rules.specs.PairTest.{feasible?}
 use Rattle.rules.specs.Pairs.{keep, feasiblePairs, feasibleAfter}
@@ -26,7 +25,7 @@ use Rattle.rules.specs.declared.near.Near.{Near}
 use Rattle.rules.specs.declared.pairs.NextPair.{NextPair}
 use Rattle.rules.specs.declared.pairs.NextPair.the-variants.{Pair, End}
 use Rattle.rules.specs.declared.split.Split.{Split}
-use Rattle.rules.proofs.WaysBeyond.{fit-of}
+use Rattle.rules.proofs.BeyondNumbers.{two-apart}
 use Rattle.rules.proofs.PairLists.{keep-yes, keep-no, feasibleAfter-start}
 use Rattle.rules.proofs.PairSearch.{next-is-pair, next-is-end}
 use Rattle.marking.specs.Listing.{numbersOf, Found, SearchAsked, CopyAsked}
@@ -141,39 +140,41 @@ module _ {n : ℕ} {l : ℕ → ℕ → ℕ} {open? : ℕ → ℕ → Bool} {K :
       }
 
 -- the same, with what the search looks up
-pub record Searching (n : ℕ) (table marks : List ℕ) (k : EdgeSet) (c : ℕ) (found₀ legs : List ℕ) (bound : ℕ) (ways : List ℕ) (centre : Near) (near rank found : List ℕ) (x y count : ℕ) : Type 0 where
+pub record Searching (n : ℕ) (table marks : List ℕ) (k : EdgeSet) (c : ℕ) (found₀ legs : List ℕ) (bound : ℕ) (centre : Near) (near rank found : List ℕ) (x y count : ℕ) : Type 0 where
   pub asked : SearchAsked n table marks k c found₀
   pub bounded : Bounded legs bound
   pub prepared : Prepared n (lengthOf n table) (openIn n marks) (edgeList k) c legs bound
-  pub scouted : Scouted (edgeList k) c ways centre
+  pub own : centre ≡ neighbours (edgeList k) c
   pub listed : NearbyOf n legs near rank
   pub at : Finding n (lengthOf n table) (openIn n marks) (edgeList k) c found₀ found x y count
 
-pub search-start : {n : ℕ} {table marks : List ℕ} {k : EdgeSet} {c : ℕ} {found : List ℕ} {s : Split} {ways : List ℕ} {centre : Near} {near rank : List ℕ} → SearchAsked n table marks k c found
-    → SplitOf n table marks k c s → Ways (edgeList k) c ways → centre ≡ neighbours (edgeList k) c → NearbyOf n (s .legs) near rank
-    → Searching n table marks k c found (s .legs) (s .bound) ways centre near rank found 1 1 0
-search-start g sp each own listed = record {
+pub search-start : {n : ℕ} {table marks : List ℕ} {k : EdgeSet} {c : ℕ} {found : List ℕ} {s : Split} {centre : Near} {near rank : List ℕ} → SearchAsked n table marks k c found
+    → SplitOf n table marks k c s → centre ≡ neighbours (edgeList k) c → NearbyOf n (s .legs) near rank
+    → Searching n table marks k c found (s .legs) (s .bound) centre near rank found 1 1 0
+search-start g sp own listed = record {
   asked = g;
   bounded = sp .bounded;
   prepared = sp .prepared;
-  scouted = record { each = each; own = own };
+  own = own;
   listed = listed;
   at = finding-start g;
 }
 
-module _ {n : ℕ} {table marks : List ℕ} {k : EdgeSet} {c : ℕ} {found₀ legs : List ℕ} {bound : ℕ} {ways : List ℕ} {centre : Near} {near rank found : List ℕ} {x y count : ℕ}
-    (f : Searching n table marks k c found₀ legs bound ways centre near rank found x y count) where
-  pub search-asks : Searchable n table legs near rank bound ways centre k x y
+module _ {n : ℕ} {table marks : List ℕ} {k : EdgeSet} {c : ℕ} {found₀ legs : List ℕ} {bound : ℕ} {centre : Near} {near rank found : List ℕ} {x y count : ℕ}
+    (f : Searching n table marks k c found₀ legs bound centre near rank found x y count) where
+  pub search-asks : Searchable n table legs near rank bound centre k x y
   search-asks = record {
-    row = record { lengths = f .asked .split .legs .lengths; bounded = f .bounded; listed = f .listed; low = f .at .low; up = f .at .up; high = f .at .high };
-    fit = fit-of (f .scouted);
-    stored = f .asked .split .held .stored;
+    beside = record {
+      row = record { lengths = f .asked .split .legs .lengths; bounded = f .bounded; listed = f .listed; low = f .at .low; up = f .at .up; high = f .at .high };
+      apart = two-apart (edgeList k) c centre (f .own);
+    };
+    held = f .asked .split .held;
   }
 
-  module _ {r : NextPair} (next : Next n table legs bound ways centre k x y r) where
+  module _ {r : NextPair} (next : Next n table legs bound c centre k x y r) where
     -- what `next_pair` answers is the first of the pairs left
     first : {p : NextPair} → r ≡ p → firstOf (feasibleAfter n (lengthOf n table) (openIn n marks) (edgeList k) c x y) ≡ p
-    first e = sym (next .first (openIn n marks) c (f .prepared) (f .scouted)) ∙ e
+    first e = sym (next .first (openIn n marks) (f .prepared) (f .own)) ∙ e
 
     pub search-done : r ≡ End → Found (feasiblePairs n (lengthOf n table) (openIn n marks) (edgeList k) c) count found
     search-done e = all-found (f .at) (first e)
@@ -185,12 +186,12 @@ module _ {n : ℕ} {table marks : List ℕ} {k : EdgeSet} {c : ℕ} {found₀ le
       pub search-room : (count < mostEdges) × (2 * count + 1 < length found)
       search-room = space (f .at) (first e)
 
-      pub search-on : Searching n table marks k c found₀ legs bound ways centre near rank (set (set found (2 * count) a) (2 * count + 1) b) a b (count + 1)
+      pub search-on : Searching n table marks k c found₀ legs bound centre near rank (set (set found (2 * count) a) (2 * count + 1) b) a b (count + 1)
       search-on = record {
         asked = f .asked;
         bounded = f .bounded;
         prepared = f .prepared;
-        scouted = f .scouted;
+        own = f .own;
         listed = f .listed;
         at = finding-on (f .at) (first e);
       }

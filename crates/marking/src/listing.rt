@@ -13,7 +13,6 @@ use rules::pairs::NextPair;
 use rules::pairs::next_pair;
 use rules::split::Split;
 use rules::split::prepare_single;
-use rules::ways::ways_beyond;
 use sheets::sheet::Closing;
 use sheets::walk::points_fit;
 ghost use mathlib.Core.Bool.{_&&_, not};
@@ -127,7 +126,6 @@ fn find_at_end(n: u16, table: &[u32], marks: &[u8], k: EdgeSet, c: u16, found: &
     let split = prepare_single(n, table, marks, k, c);
     let legs = split.legs;
     let bound = split.bound;
-    let ways = ways_beyond(k, c);
     let centre = neighbours(k, c);
     let mut near = [0u16; nearby::PLACES];
     let mut rank = [0u16; nearby::PLACES];
@@ -136,7 +134,7 @@ fn find_at_end(n: u16, table: &[u32], marks: &[u8], k: EdgeSet, c: u16, found: &
     let mut y: u16 = 1;
     let mut count: u16 = 0;
     loop {
-        let next = next_pair(n, table, &legs, &near, &rank, bound, &ways, centre, k, x, y);
+        let next = next_pair(n, table, &legs, &near, &rank, bound, c, centre, k, x, y);
         let NextPair::Pair(a, b) = next else {
             return count;
         };

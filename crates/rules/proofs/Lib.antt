@@ -1,3 +1,4 @@
+pub mod BeyondNumbers
 pub mod ClosingExact
 pub mod Crossings
 pub mod Exact
@@ -11,6 +12,6 @@ pub mod Preparing
 pub mod Ranks
 pub mod Rising
 pub mod RowSearch
+pub mod RowShapes
 pub mod SingleEdge
 pub mod Splits
-pub mod WaysBeyond

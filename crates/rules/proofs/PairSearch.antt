@@ -1,6 +1,6 @@
--- The search over the rows: a row is entered at the first point that is allowed, which skips only pairs that are not feasible, and rows of
--- points that are not near have no feasible pair, so that the first feasible pair after xy is found row by row. One record for the loop,
--- and one lemma for each way on and out. Assumes nothing.
+-- The search over the rows: the first point of a row that fits is its first feasible pair, and rows of points that are not near have no
+-- feasible pair, so that the first feasible pair after xy is found row by row. One record for the loop, and one lemma for each way on and
+-- out. Assumes nothing.
 use Prim.Native.Nat.{ℕ, zero, suc, _+_, _-_, _≤_, _<_}
 use mathlib.Core.Path.{_≡_, refl, sym, _∙_, ap, ap₂}
 use mathlib.Core.Bool.{Bool, true, false, not, _&&_}
@@ -15,11 +15,10 @@ use Rattle.rules.specs.PairTest.{feasible?}
 use Rattle.rules.specs.Near.{neighbours, within?, beyond}
 use Rattle.rules.specs.Nearby.{near?, firstFrom}
 use Rattle.rules.specs.Shape.{shuts?, shape?}
-use Rattle.rules.specs.Ways.{wayOf, Scouted}
 use Rattle.rules.specs.Pairs.{keep, pairsAfter, feasibleAfter}
 use Rattle.rules.specs.Split.{Lengths, Bounded, Prepared}
 use Rattle.rules.specs.Stored.{edgeList}
-use Rattle.rules.specs.NextPair.{passes?, allowed?, firstOf, Searchable, Next}
+use Rattle.rules.specs.NextPair.{passes?, allowed?, fits?, firstOf, Searchable, Next}
 use Rattle.rules.specs.declared.edge_set.EdgeSet.{EdgeSet}
 use Rattle.rules.specs.declared.near.Near.{Near}
 use Rattle.rules.specs.declared.pairs.NextPair.the-variants.{Pair, End}
@@ -33,16 +32,15 @@ regroup p true s = refl
 regroup true false s = refl
 regroup false false s = refl
 
--- a pair is feasible exactly when it is allowed and shuts no cycle, by what is looked up
-feasible-allowed : {n : ℕ} {table : List ℕ} {open? : ℕ → ℕ → Bool} {K : List Edge} {c : ℕ} {legs : List ℕ} {bound : ℕ} {ways : List ℕ} {centre : Near}
-    → Lengths n table → Prepared n (lengthOf n table) open? K c legs bound → Scouted K c ways centre → (x y : ℕ) → Point n x → Point n y
-    → feasible? n (lengthOf n table) open? K c x y
-    ≡ allowed? n table legs bound centre x y && not (shuts? n K x y (wayOf (getD ways x 0)) (wayOf (getD ways y 0)))
-unfolding allowed? shape?
-feasible-allowed {n} {table} {open?} {K} {c} {legs} {bound} {ways} {centre} h p s x y px py =
+-- a pair is feasible exactly when it fits
+feasible-fits : {n : ℕ} {table : List ℕ} {open? : ℕ → ℕ → Bool} {K : List Edge} {c : ℕ} {legs : List ℕ} {bound : ℕ} {centre : Near}
+    → Lengths n table → Prepared n (lengthOf n table) open? K c legs bound → centre ≡ neighbours K c → (x y : ℕ) → Point n x → Point n y
+    → feasible? n (lengthOf n table) open? K c x y ≡ fits? n table legs bound centre K c x y
+unfolding fits? allowed? shape?
+feasible-fits {n} {table} {open?} {K} {c} {legs} {bound} {centre} h p own x y px py =
     feasible-passes h p x y px py
     ∙ regroup (passes? n table legs bound x y) (within? (neighbours K c) x y) (not (shuts? n K x y (beyond (neighbours K x) c) (beyond (neighbours K y) c)))
-    ∙ rw (s .own, s .each .each x, s .each .each y)
+    ∙ rw own
 
 -- rows of points that are not near
 
@@ -88,148 +86,120 @@ module _ {n : ℕ} {table : List ℕ} {open? : ℕ → ℕ → Bool} {K : List E
 
 -- next_pair: ab is the last pair passed, or a = b stands before the row of a; the rows end behind n
 
-pub record Walking (n : ℕ) (table legs near rank : List ℕ) (bound : ℕ) (ways : List ℕ) (centre : Near) (k : EdgeSet) (x y a b : ℕ) : Type 0 where
-  pub asked : Searchable n table legs near rank bound ways centre k x y
+pub record Walking (n : ℕ) (table legs near rank : List ℕ) (bound c : ℕ) (centre : Near) (k : EdgeSet) (x y a b : ℕ) : Type 0 where
+  pub asked : Searchable n table legs near rank bound centre k x y
   pub low : 1 ≤ a
   pub up : a ≤ b
   pub high : a < n → b ≤ n
-  pub same : (open? : ℕ → ℕ → Bool) (c : ℕ) → Prepared n (lengthOf n table) open? (edgeList k) c legs bound → Scouted (edgeList k) c ways centre
+  pub same : (open? : ℕ → ℕ → Bool) → Prepared n (lengthOf n table) open? (edgeList k) c legs bound → centre ≡ neighbours (edgeList k) c
       → feasibleAfter n (lengthOf n table) open? (edgeList k) c a b ≡ feasibleAfter n (lengthOf n table) open? (edgeList k) c x y
 
-pub walk-start : {n : ℕ} {table legs near rank : List ℕ} {bound : ℕ} {ways : List ℕ} {centre : Near} {k : EdgeSet} {x y : ℕ}
-    → Searchable n table legs near rank bound ways centre k x y → Walking n table legs near rank bound ways centre k x y x y
-walk-start s = record { asked = s; low = s .row .low; up = s .row .up; high = λ h. s .row .high; same = λ open? c p q. refl }
+pub walk-start : {n : ℕ} {table legs near rank : List ℕ} {bound c : ℕ} {centre : Near} {k : EdgeSet} {x y : ℕ}
+    → Searchable n table legs near rank bound centre k x y → Walking n table legs near rank bound c centre k x y x y
+walk-start s = record { asked = s; low = s .beside .row .low; up = s .beside .row .up; high = λ h. s .beside .row .high; same = λ open? p q. refl }
 
-module _ {n : ℕ} {table legs near rank : List ℕ} {bound : ℕ} {ways : List ℕ} {centre : Near} {k : EdgeSet} {x y a b : ℕ}
-    (w : Walking n table legs near rank bound ways centre k x y a b) (more : a < n) where
+module _ {n : ℕ} {table legs near rank : List ℕ} {bound c : ℕ} {centre : Near} {k : EdgeSet} {x y a b : ℕ}
+    (w : Walking n table legs near rank bound c centre k x y a b) (more : a < n) where
   walk-within : b ≤ n
   walk-within = w .high more
 
   -- the row of a may be searched
-  pub walk-asked : Searchable n table legs near rank bound ways centre k a b
+  pub walk-asked : Searchable n table legs near rank bound centre k a b
   walk-asked =
-      let r = w .asked .row in
+      let r = w .asked .beside .row in
       record {
-        row = record { lengths = r .lengths; bounded = r .bounded; listed = r .listed; low = w .low; up = w .up; high = walk-within };
-        fit = w .asked .fit;
-        stored = w .asked .stored;
+        beside = record {
+          row = record { lengths = r .lengths; bounded = r .bounded; listed = r .listed; low = w .low; up = w .up; high = walk-within };
+          apart = w .asked .beside .apart;
+        };
+        held = w .asked .held;
       }
 
   pub walk-rank : getD rank (a + 1) 0 ≤ mostPoints
-  walk-rank = omega (arith, w .asked .row .listed .inside (a + 1) (omega arith) (omega arith), w .asked .row .lengths .few)
+  walk-rank = omega (arith, w .asked .beside .row .listed .inside (a + 1) (omega arith) (omega arith), w .asked .beside .row .lengths .few)
 
   -- the next near row
   walk-next : getD near (getD rank (a + 1) 0) 0 ≡ firstFrom (near? legs) (suc a) (n - a)
   walk-next =
       let e : n + 1 - (a + 1) ≡ n - a = omega arith in
-      w .asked .row .listed .first (a + 1) (omega arith) (omega arith) ∙ ap₂ (firstFrom (near? legs)) (add-one a) e
+      w .asked .beside .row .listed .first (a + 1) (omega arith) (omega arith) ∙ ap₂ (firstFrom (near? legs)) (add-one a) e
 
   pub walk-rises : a < getD near (getD rank (a + 1) 0) 0
   walk-rises = omega (arith, walk-next, firstFrom-low (near? legs) (suc a) (n - a))
 
-  module _ (z : ℕ) (found : z ≡ firstFrom (allowed? n table legs bound centre a) (suc b) (n - b)) where
-    pub walk-above : b < z
-    walk-above = omega (arith, firstFrom-low (allowed? n table legs bound centre a) (suc b) (n - b))
+  module _ (z : ℕ) (found : z ≡ firstFrom (fits? n table legs bound centre (edgeList k) c a) (suc b) (n - b)) where
+    module _ (open? : ℕ → ℕ → Bool) (p : Prepared n (lengthOf n table) open? (edgeList k) c legs bound) (q : centre ≡ neighbours (edgeList k) c) where
+      walk-feasible : (i : ℕ) → b < i → i ≤ n → feasible? n (lengthOf n table) open? (edgeList k) c a i ≡ fits? n table legs bound centre (edgeList k) c a i
+      walk-feasible i h g = feasible-fits (w .asked .beside .row .lengths) p q a i record { low = w .low; high = omega arith } record { low = omega arith; high = g }
 
-    walk-point : Point n a
-    walk-point = record { low = w .low; high = omega arith }
-
-    walk-other : (i : ℕ) → b < i → i ≤ n → Point n i
-    walk-other i h g = record { low = omega arith; high = g }
-
-    walk-passes : z ≤ n → allowed? n table legs bound centre a z ≡ true
-    walk-passes h =
-        ap (allowed? n table legs bound centre a) found
-        ∙ firstFrom-found (allowed? n table legs bound centre a) (suc b) (n - b) (omega (arith, walk-within))
-
-    module _ (open? : ℕ → ℕ → Bool) (c : ℕ) (p : Prepared n (lengthOf n table) open? (edgeList k) c legs bound) (q : Scouted (edgeList k) c ways centre) where
-      walk-feasible : (i : ℕ) → b < i → i ≤ n
-          → feasible? n (lengthOf n table) open? (edgeList k) c a i ≡ allowed? n table legs bound centre a i && not (shuts? n (edgeList k) a i (wayOf (getD ways a 0)) (wayOf (getD ways i 0)))
-      walk-feasible i h g = feasible-allowed (w .asked .row .lengths) p q a i walk-point (walk-other i h g)
-
-      walk-refused : (i : ℕ) → suc b ≤ i → i < suc b + (n - b) → allowed? n table legs bound centre a i ≡ false → feasible? n (lengthOf n table) open? (edgeList k) c a i ≡ false
-      walk-refused i h g e =
-          walk-feasible i h (omega (arith, walk-within)) ∙ ap (λ (t : Bool). t && not (shuts? n (edgeList k) a i (wayOf (getD ways a 0)) (wayOf (getD ways i 0)))) e
-
-      -- What is left after ab is the row of a from b + 1 on, then the rows above. A point of the row that fails the comparison makes no
-      -- feasible pair with a (`feasible-passes`), so that the row may be entered at the first point z that passes: nothing kept is lost.
+      -- What is left after ab is the row of a from b + 1 on, then the rows above. A point of the row that does not fit makes no feasible
+      -- pair with a, so that the row may be entered at the first point z that fits: nothing kept is lost.
       walk-skip : feasibleAfter n (lengthOf n table) open? (edgeList k) c a b
           ≡ keep (feasible? n (lengthOf n table) open? (edgeList k) c) (row a z (n + 1 - z) ++ rows (suc a) (n - suc a))
       unfolding feasibleAfter pairsAfter
       walk-skip =
           let t = feasible? n (lengthOf n table) open? (edgeList k) c in
-          let e : suc b + (n - b) - firstFrom (allowed? n table legs bound centre a) (suc b) (n - b) ≡ n + 1 - z = omega (arith, walk-within) in
+          let e : suc b + (n - b) - firstFrom (fits? n table legs bound centre (edgeList k) c a) (suc b) (n - b) ≡ n + 1 - z = omega (arith, walk-within) in
           keep-append t (row a (suc b) (n - b)) (rows (suc a) (n - suc a))
           ∙ ap (λ (es : List Edge). es ++ keep t (rows (suc a) (n - suc a)))
-          (keep-skip (allowed? n table legs bound centre a) t a (suc b) (n - b) walk-refused ∙ ap₂ (λ (i j : ℕ). keep t (row a i j)) (sym found) e)
+          (keep-skip (fits? n table legs bound centre (edgeList k) c a) t a (suc b) (n - b) (λ i h g f. walk-feasible i h (omega (arith, walk-within)) ∙ f) ∙ ap₂ (λ (i j : ℕ). keep t (row a i j)) (sym found) e)
           ∙ sym (keep-append t (row a z (n + 1 - z)) (rows (suc a) (n - suc a)))
 
-      walk-at : z ≤ n → feasibleAfter n (lengthOf n table) open? (edgeList k) c a b
-          ≡ keep (feasible? n (lengthOf n table) open? (edgeList k) c) (edge a z ∷ pairsAfter n a z)
+      walk-fits : z ≤ n → feasible? n (lengthOf n table) open? (edgeList k) c a z ≡ true
+      walk-fits h =
+          walk-feasible z (omega (arith, firstFrom-low (fits? n table legs bound centre (edgeList k) c a) (suc b) (n - b))) h
+          ∙ ap (fits? n table legs bound centre (edgeList k) c a) found
+          ∙ firstFrom-found (fits? n table legs bound centre (edgeList k) c a) (suc b) (n - b) (omega (arith, walk-within))
+
+      walk-at : z ≤ n → feasibleAfter n (lengthOf n table) open? (edgeList k) c a b ≡ keep (feasible? n (lengthOf n table) open? (edgeList k) c) (edge a z ∷ pairsAfter n a z)
       unfolding pairsAfter row
       walk-at h =
           let e : n + 1 - z ≡ suc (n - z) = omega arith in
           walk-skip
           ∙ ap (λ (i : ℕ). keep (feasible? n (lengthOf n table) open? (edgeList k) c) (row a z i ++ rows (suc a) (n - suc a))) e
 
-      walk-shape : z ≤ n → feasible? n (lengthOf n table) open? (edgeList k) c a z ≡ not (shuts? n (edgeList k) a z (wayOf (getD ways a 0)) (wayOf (getD ways z 0)))
-      walk-shape h = walk-feasible z walk-above h ∙ ap (λ (t : Bool). t && not (shuts? n (edgeList k) a z (wayOf (getD ways a 0)) (wayOf (getD ways z 0)))) (walk-passes h)
-
-    -- the first point that passes is the next pair, where it meets conditions 2 and 3
-    pub walk-found : z ≤ n → not (shuts? n (edgeList k) a z (wayOf (getD ways a 0)) (wayOf (getD ways z 0))) ≡ true → Next n table legs bound ways centre k x y (Pair a z)
+    -- the first point that fits is the next pair
+    pub walk-found : z ≤ n → Next n table legs bound c centre k x y (Pair a z)
     unfolding firstOf
-    walk-found h e = record {
-      first = λ open? c p q.
+    walk-found h = record {
+      first = λ open? p q.
           let t = feasible? n (lengthOf n table) open? (edgeList k) c in
-          sym (ap firstOf (sym (w .same open? c p q) ∙ walk-at open? c p q h ∙ keep-yes t a z (pairsAfter n a z) (walk-shape open? c p q h ∙ e)));
-    }
-
-    pub walk-on : z ≤ n → not (shuts? n (edgeList k) a z (wayOf (getD ways a 0)) (wayOf (getD ways z 0))) ≡ false
-        → Walking n table legs near rank bound ways centre k x y a z
-    unfolding feasibleAfter
-    walk-on h e = record {
-      asked = w .asked;
-      low = w .low;
-      up = omega (arith, walk-above, w .up);
-      high = λ g. h;
-      same = λ open? c p q.
-          let t = feasible? n (lengthOf n table) open? (edgeList k) c in
-          sym (keep-no t a z (pairsAfter n a z) (walk-shape open? c p q h ∙ e)) ∙ sym (walk-at open? c p q h) ∙ w .same open? c p q;
+          sym (ap firstOf (sym (w .same open? p q) ∙ walk-at open? p q h ∙ keep-yes t a z (pairsAfter n a z) (walk-fits open? p q h)));
     }
 
     -- the row is done: the rows up to the next near point have no feasible pair
-    walk-done : n < z → (open? : ℕ → ℕ → Bool) (c : ℕ) (p : Prepared n (lengthOf n table) open? (edgeList k) c legs bound) (q : Scouted (edgeList k) c ways centre)
+    walk-done : n < z → (open? : ℕ → ℕ → Bool) (p : Prepared n (lengthOf n table) open? (edgeList k) c legs bound) (q : centre ≡ neighbours (edgeList k) c)
         → feasibleAfter n (lengthOf n table) open? (edgeList k) c (suc a) (suc a) ≡ feasibleAfter n (lengthOf n table) open? (edgeList k) c a b
     unfolding feasibleAfter row pairsAfter
-    walk-done h open? c p q =
+    walk-done h open? p q =
         let t = feasible? n (lengthOf n table) open? (edgeList k) c in
         let e : n + 1 - z ≡ 0 = omega arith in
         ap (keep t) (sym (rows-after n (suc a)))
         ∙ ap (λ (i : ℕ). keep t (row a z i ++ rows (suc a) (n - suc a))) (sym e)
-        ∙ sym (walk-skip open? c p q)
+        ∙ sym (walk-skip open? p q)
 
-    pub walk-row : n < z → Walking n table legs near rank bound ways centre k x y (getD near (getD rank (a + 1) 0) 0) (getD near (getD rank (a + 1) 0) 0)
+    pub walk-row : n < z → Walking n table legs near rank bound c centre k x y (getD near (getD rank (a + 1) 0) 0) (getD near (getD rank (a + 1) 0) 0)
     walk-row h =
-        let r = w .asked .row in
+        let r = w .asked .beside .row in
         record {
           asked = w .asked;
           low = omega (arith, walk-rises);
           up = omega arith;
           high = λ g. omega arith;
-          same = λ open? c p q.
+          same = λ open? p q.
               ap (λ (i : ℕ). feasibleAfter n (lengthOf n table) open? (edgeList k) c i i) walk-next
               ∙ rows-skip (r .lengths) (r .bounded) p (suc a) (n - a) (omega arith) (omega arith)
-              ∙ walk-done h open? c p q
-              ∙ w .same open? c p q;
+              ∙ walk-done h open? p q
+              ∙ w .same open? p q;
         }
 
-pub walk-end : {n : ℕ} {table legs near rank : List ℕ} {bound : ℕ} {ways : List ℕ} {centre : Near} {k : EdgeSet} {x y a b : ℕ}
-    → Walking n table legs near rank bound ways centre k x y a b → n ≤ a → Next n table legs bound ways centre k x y End
+pub walk-end : {n : ℕ} {table legs near rank : List ℕ} {bound c : ℕ} {centre : Near} {k : EdgeSet} {x y a b : ℕ}
+    → Walking n table legs near rank bound c centre k x y a b → n ≤ a → Next n table legs bound c centre k x y End
 unfolding firstOf feasibleAfter keep
-walk-end {n} {table} {legs} {near} {rank} {bound} {ways} {centre} {k} {x} {y} {a} {b} w h = record {
-  first = λ open? c p q.
+walk-end {n} {table} {legs} {near} {rank} {bound} {c} {centre} {k} {x} {y} {a} {b} w h = record {
+  first = λ open? p q.
       let t = feasible? n (lengthOf n table) open? (edgeList k) c in
-      sym (ap firstOf (sym (w .same open? c p q) ∙ ap (keep t) (pairsAfter-end n a b h (w .up))));
+      sym (ap firstOf (sym (w .same open? p q) ∙ ap (keep t) (pairsAfter-end n a b h (w .up))));
 }
 
 -- what `next_pair`'s answer says of the pairs that are left, for its callers

@@ -23,7 +23,6 @@ use Rattle.rules.specs.declared.edge_set.EdgeSet.{EdgeSet}
 use Rattle.rules.specs.declared.near.Near.{Near}
 use Rattle.rules.specs.declared.split.Triangle.{Triangle}
 use Rattle.rules.specs.Near.{neighbours}
-use Rattle.rules.specs.Ways.{Named, WaysAsked, Ways}
 use Rattle.rules.proofs.Splits.{length-small, legOf-by, legOf-narrowed, narrowed-by, tightened-by, tightened-le}
 
 -- rows of a table

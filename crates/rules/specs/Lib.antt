@@ -1,3 +1,4 @@
+pub mod Beyond
 pub mod Closing
 pub mod ClosingTest
 pub mod EdgeSet
@@ -13,4 +14,3 @@ pub mod Rising
 pub mod Shape
 pub mod Split
 pub mod Stored
-pub mod Ways

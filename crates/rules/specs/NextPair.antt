@@ -2,19 +2,19 @@
 -- is asked and answers.
 use Prim.Native.Nat.{ℕ, _+_, _≤_}
 use mathlib.Core.Path.{_≡_}
-use mathlib.Core.Bool.{Bool, _&&_}
+use mathlib.Core.Bool.{Bool, _&&_, not}
 use mathlib.Core.List.{List, [], _∷_}
 use lib.Dec.{leb}
 use lib.ListN.{getD}
 use Rattle.lengths.specs.Edge.{Edge, edge}
 use Rattle.lengths.specs.Instance.{mostLength}
 use Rattle.lengths.specs.Table.{lengthOf}
-use Rattle.rules.specs.Near.{within?}
+use Rattle.rules.specs.Near.{neighbours, within?, beyond}
 use Rattle.rules.specs.Nearby.{NearbyOf}
 use Rattle.rules.specs.Pairs.{feasibleAfter}
+use Rattle.rules.specs.Shape.{shuts?}
 use Rattle.rules.specs.Split.{Lengths, Bounded, Prepared}
-use Rattle.rules.specs.Stored.{edgeList, Stored}
-use Rattle.rules.specs.Ways.{Scouted, Fit}
+use Rattle.rules.specs.Stored.{edgeList, Held}
 use Rattle.rules.specs.declared.edge_set.EdgeSet.{EdgeSet}
 use Rattle.rules.specs.declared.near.Near.{Near}
 use Rattle.rules.specs.declared.near.Near.the-variants.{Two}
@@ -28,6 +28,10 @@ passes? n table legs bound x y = leb (getD legs x 0 + mostLength + getD legs y 0
 -- the same, and condition 2 at c: all the neighbours that c has are x or y
 unfoldable pub allowed? : ℕ → List ℕ → List ℕ → ℕ → Near → ℕ → ℕ → Bool
 allowed? n table legs bound centre x y = within? centre x y && passes? n table legs bound x y
+
+-- the same, and conditions 2 and 3 at x and y
+unfoldable pub fits? : ℕ → List ℕ → List ℕ → ℕ → Near → List Edge → ℕ → ℕ → ℕ → Bool
+fits? n table legs bound centre K c x y = allowed? n table legs bound centre x y && not (shuts? n K x y (beyond (neighbours K x) c) (beyond (neighbours K y) c))
 
 -- the first of a list of pairs, as `next_pair` answers it
 unfoldable pub firstOf : List Edge → NextPair
@@ -48,13 +52,12 @@ pub record BesideAsked (n : ℕ) (table legs near rank : List ℕ) (bound : ℕ)
   pub row : RowAsked n table legs near rank bound x y
   pub apart : (a b : ℕ) → centre ≡ Two a b → a ≡ b → ⊥
 
--- the same, what each point has beyond it, and the edge set
-pub record Searchable (n : ℕ) (table legs near rank : List ℕ) (bound : ℕ) (ways : List ℕ) (centre : Near) (k : EdgeSet) (x y : ℕ) : Type 0 where
-  pub row : RowAsked n table legs near rank bound x y
-  pub fit : Fit ways centre
-  pub stored : Stored k
+-- the same, and the edge set
+pub record Searchable (n : ℕ) (table legs near rank : List ℕ) (bound : ℕ) (centre : Near) (k : EdgeSet) (x y : ℕ) : Type 0 where
+  pub beside : BesideAsked n table legs near rank bound centre x y
+  pub held : Held n k
 
--- the first feasible pair after xy, for every open test and split point whose legs, bound, ways and neighbours these are
-pub record Next (n : ℕ) (table legs : List ℕ) (bound : ℕ) (ways : List ℕ) (centre : Near) (k : EdgeSet) (x y : ℕ) (r : NextPair) : Type 0 where
-  pub first : (open? : ℕ → ℕ → Bool) (c : ℕ) → Prepared n (lengthOf n table) open? (edgeList k) c legs bound → Scouted (edgeList k) c ways centre
+-- the first feasible pair after xy at c, for every open test whose legs and bound these are, where c has these neighbours
+pub record Next (n : ℕ) (table legs : List ℕ) (bound c : ℕ) (centre : Near) (k : EdgeSet) (x y : ℕ) (r : NextPair) : Type 0 where
+  pub first : (open? : ℕ → ℕ → Bool) → Prepared n (lengthOf n table) open? (edgeList k) c legs bound → centre ≡ neighbours (edgeList k) c
       → r ≡ firstOf (feasibleAfter n (lengthOf n table) open? (edgeList k) c x y)

@@ -1,4 +1,5 @@
 // The second layer: edge sets, the tests of feasible pairs, the search for the next one, the closings.
+pub mod beyond;
 pub mod closing;
 pub mod edge_set;
 pub mod marks;
@@ -7,4 +8,3 @@ pub mod nearby;
 pub mod pairs;
 pub mod shape;
 pub mod split;
-pub mod ways;

@@ -1,4 +1,5 @@
 // The search for the next feasible pair at a split point.
+use crate::beyond::look_beyond;
 use crate::edge_set::EdgeSet;
 use crate::near::Near;
 use crate::nearby;
@@ -10,7 +11,8 @@ use lengths::table::length_between;
 ghost use mathlib.Core.Path.{_≡_};
 ghost use Prim.Native.Nat.{suc, _-_};
 ghost use Rattle.rules.specs.Nearby.{firstFrom};
-ghost use Rattle.rules.specs.NextPair.{passes?, allowed?, RowAsked, BesideAsked, Searchable, Next};
+ghost use Rattle.rules.specs.NextPair.{passes?, allowed?, fits?, RowAsked, BesideAsked, Searchable, Next};
+ghost use Rattle.rules.specs.Stored.{edgeList};
 
 // What the search finds.
 pub enum NextPair {
@@ -116,6 +118,41 @@ fn next_beside(
     }
 }
 
+// The first point after y whose pair with x passes the comparison and meets conditions 2 and 3; n + 1 where none does.
+// What x has in k is read once a row, and only where a pair passes: with several edges there, x is in no pair.
+fn next_in_shape(
+    n: u16,
+    table: &[u32],
+    legs: &[u32; Instance::PLACES],
+    near: &[u16; nearby::PLACES],
+    rank: &[u16; nearby::PLACES],
+    bound: u32,
+    c: u16,
+    centre: Near,
+    k: EdgeSet,
+    x: u16,
+    y: u16,
+) -> u16
+    requires { ⌜ Searchable n (now table) (now legs) (now near) (now rank) bound centre k x y ⌝ }
+    ensures { λ r. ⌜ r ≡ firstFrom (fits? n (now (table .entry)) (now (legs .entry)) bound centre (edgeList k) c x) (suc y) (n - y) ⌝ }
+{
+    let mut z = next_beside(n, table, legs, near, rank, bound, centre, x, y);
+    if n < z {
+        return z;
+    }
+    let ahead = look_beyond(k, x, c);
+    if ahead == Split::FORK {
+        return n + 1;
+    }
+    while z <= n {
+        if !shuts(n, k, c, x, z, ahead) {
+            return z;
+        }
+        z = next_beside(n, table, legs, near, rank, bound, centre, x, z);
+    }
+    z
+}
+
 // The first feasible pair after xy: rows rise, and in a row the points. After 1-1 it is the first of all. Only near points have rows.
 pub fn next_pair(
     n: u16,
@@ -124,28 +161,24 @@ pub fn next_pair(
     near: &[u16; nearby::PLACES],
     rank: &[u16; nearby::PLACES],
     bound: u32,
-    ways: &[u16; Instance::PLACES],
+    c: u16,
     centre: Near,
     k: EdgeSet,
     x: u16,
     y: u16,
 ) -> NextPair
-    requires { ⌜ Searchable n (now table) (now legs) (now near) (now rank) bound (now ways) centre k x y ⌝ }
-    ensures { λ r. ⌜ Next n (now (table .entry)) (now (legs .entry)) bound (now (ways .entry)) centre k x y r ⌝ }
+    requires { ⌜ Searchable n (now table) (now legs) (now near) (now rank) bound centre k x y ⌝ }
+    ensures { λ r. ⌜ Next n (now (table .entry)) (now (legs .entry)) bound c centre k x y r ⌝ }
 {
     let mut a = x;
     let mut b = y;
     while a < n {
-        let z = next_beside(n, table, legs, near, rank, bound, centre, a, b);
+        let z = next_in_shape(n, table, legs, near, rank, bound, c, centre, k, a, b);
         if z <= n {
-            if !shuts(n, k, a, z, ways[a as usize], ways[z as usize]) {
-                return NextPair::Pair(a, z);
-            }
-            b = z;
-        } else {
-            a = near[rank[a as usize + 1] as usize];
-            b = a;
+            return NextPair::Pair(a, z);
         }
+        a = near[rank[a as usize + 1] as usize];
+        b = a;
     }
     NextPair::End
 }

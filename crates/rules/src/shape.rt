@@ -1,9 +1,11 @@
 // Conditions 2 and 3: no point with three edges, no short cycle.
 ghost use mathlib.Core.Path.{_≡_};
 ghost use Prim.Native.Nat.{_-_};
+ghost use Rattle.rules.specs.Beyond.{nextOf, ShutsAsked};
+ghost use Rattle.rules.specs.Near.{neighbours, beyond};
 ghost use Rattle.rules.specs.Shape.{reaches?, shuts?};
 ghost use Rattle.rules.specs.Stored.{edgeList, Stored};
-ghost use Rattle.rules.specs.Ways.{wayOf};
+use crate::beyond::look_beyond;
 use crate::edge_set::EdgeSet;
 use crate::near::Next;
 use crate::near::onward;
@@ -35,15 +37,13 @@ fn reaches(n: u16, k: EdgeSet, start: u16, first: u16, y: u16) -> bool
     false
 }
 
-// Does the pair x, y at a point c give x or y a third edge, or close a cycle of fewer than n edges?
-// `ahead` and `behind` are what x and y have in k beyond c. There is no cycle where one of them has nothing there.
-pub fn shuts(n: u16, k: EdgeSet, x: u16, y: u16, ahead: u16, behind: u16) -> bool
-    requires { ⌜ Stored k ⌝ }
-    ensures { λ r. ⌜ r ≡ shuts? n (edgeList k) x y (wayOf ahead) (wayOf behind) ⌝ }
+// Does the pair x, y at a point c give y a third edge, or close a cycle of fewer than n edges?
+// `ahead` is what x has in k beyond c, nothing or one point. There is no cycle where x or y has nothing there.
+pub fn shuts(n: u16, k: EdgeSet, c: u16, x: u16, y: u16, ahead: u16) -> bool
+    requires { ⌜ ShutsAsked k ahead ⌝ }
+    ensures { λ r. ⌜ r ≡ shuts? n (edgeList k) x y (nextOf ahead) (beyond (neighbours (edgeList k) y) c) ⌝ }
 {
-    if ahead == Split::FORK {
-        return true;
-    }
+    let behind = look_beyond(k, y, c);
     if behind == Split::FORK {
         return true;
     }

@@ -16,7 +16,6 @@ use Rattle.rules.specs.Nearby.{NearbyOf}
 use Rattle.rules.specs.NextPair.{Searchable, Next}
 use Rattle.rules.specs.Split.{Bounded, Prepared, SplitAsked, SplitOf}
 use Rattle.rules.specs.Stored.{edgeList, Added, mostKnown}
-use Rattle.rules.specs.Ways.{Scouted, Ways}
 use Rattle.rules.specs.ClosingTest.{crossedBy, refusalOf, Crossable}
 use Rattle.rules.specs.declared.edge_set.EdgeSet.{EdgeSet}
 use Rattle.rules.specs.declared.near.Near.{Near}
@@ -24,7 +23,7 @@ use Rattle.rules.specs.declared.pairs.NextPair.{NextPair}
 use Rattle.rules.specs.declared.split.Split as split
 use Rattle.rules.specs.declared.closing.Crossed.{Crossed}
 use Rattle.rules.specs.declared.closing.Crossed.the-variants.{Settled, NoCrossing, NoSaving}
-use Rattle.rules.proofs.WaysBeyond.{fit-of}
+use Rattle.rules.proofs.BeyondNumbers.{two-apart}
 use Rattle.rules.proofs.PairLists.{feasibleAfter-start, feasibleAfter-next}
 use Rattle.argument.specs.Verdict.{Verdict, accepted, refused, unless}
 use Rattle.argument.specs.Record.{records, howFits}
@@ -60,12 +59,12 @@ spotAt n table marks k left c x y last index high =
     }
 
 -- the loop's invariant
-pub record Following (n : ℕ) (table rows marks sheet : List ℕ) (count : ℕ) (k : EdgeSet) (left i c first : ℕ) (legs near rank : List ℕ) (bound : ℕ) (ways : List ℕ) (centre : Near) (x y last index high : ℕ) : Type 0 where
+pub record Following (n : ℕ) (table rows marks sheet : List ℕ) (count : ℕ) (k : EdgeSet) (left i c first : ℕ) (legs near rank : List ℕ) (bound : ℕ) (centre : Near) (x y last index high : ℕ) : Type 0 where
   pub asked : ChainAsked n table rows marks sheet count k left c
   pub bounded : Bounded legs bound
   pub listed : NearbyOf n legs near rank
   pub prepared : Prepared n (lengthOf n table) (openIn n marks) (edgeList k) c legs bound
-  pub scouted : Scouted (edgeList k) c ways centre
+  pub own : centre ≡ neighbours (edgeList k) c
   pub low : 1 ≤ x
   pub up : x ≤ y
   pub top : y ≤ n
@@ -75,41 +74,41 @@ module _ {n : ℕ} {table rows marks sheet : List ℕ} {count : ℕ} {k : EdgeSe
   pub chain-split : SplitAsked n table rows marks k c
   chain-split = record { legs = record { lengths = asked .tried .admitted .lengths; marked = asked .tried .admitted .marked; centre = asked .centre }; in-rows = asked .tried .in-rows; held = asked .held }
 
-  pub follow-start : {p : split.Split} {ways near rank : List ℕ} {centre : Near} (i first : ℕ) → SplitOf n table marks k c p → Ways (edgeList k) c ways → centre ≡ neighbours (edgeList k) c
-      → NearbyOf n (p .legs) near rank → Following n table rows marks sheet count k left i c first (p .legs) near rank (p .bound) ways centre 1 1 i first i
+  pub follow-start : {p : split.Split} {near rank : List ℕ} {centre : Near} (i first : ℕ) → SplitOf n table marks k c p → centre ≡ neighbours (edgeList k) c
+      → NearbyOf n (p .legs) near rank → Following n table rows marks sheet count k left i c first (p .legs) near rank (p .bound) centre 1 1 i first i
   unfolding opening
-  follow-start i first s each own listed =
+  follow-start i first s own listed =
       let e : left ≡ suc left - 1 = omega arith in
       record {
         asked = asked;
         bounded = s .bounded;
         listed = listed;
         prepared = s .prepared;
-        scouted = record { each = each; own = own };
+        own = own;
         low = omega arith;
         up = omega arith;
         top = omega (arith, asked .centre);
         walks = ap₂ (λ (l : ℕ) (ps : List Edge). walk (rulesOf n table marks) sheet record { left = l; known = edgeList k; point = c; pairs = ps; last = i; index = first; high = i }) e (feasibleAfter-start n (lengthOf n table) (openIn n marks) (edgeList k) c);
       }
 
-module _ {n : ℕ} {table rows marks sheet : List ℕ} {count : ℕ} {k : EdgeSet} {left i c first : ℕ} {legs near rank : List ℕ} {bound : ℕ} {ways : List ℕ} {centre : Near} {x y last index high : ℕ} (f : Following n table rows marks sheet count k left i c first legs near rank bound ways centre x y last index high) where
+module _ {n : ℕ} {table rows marks sheet : List ℕ} {count : ℕ} {k : EdgeSet} {left i c first : ℕ} {legs near rank : List ℕ} {bound : ℕ} {centre : Near} {x y last index high : ℕ} (f : Following n table rows marks sheet count k left i c first legs near rank bound centre x y last index high) where
   abbrev rules : Rules
   rules = rulesOf n table marks
 
   abbrev here : Spot
   here = spotAt n table marks k left c x y last index high
 
-  pub follow-search : Searchable n table legs near rank bound ways centre k x y
-  follow-search = record { row = record { lengths = f .asked .tried .admitted .lengths; bounded = f .bounded; listed = f .listed; low = f .low; up = f .up; high = f .top }; fit = fit-of (f .scouted); stored = f .asked .held .stored }
+  pub follow-search : Searchable n table legs near rank bound centre k x y
+  follow-search = record { beside = record { row = record { lengths = f .asked .tried .admitted .lengths; bounded = f .bounded; listed = f .listed; low = f .low; up = f .up; high = f .top }; apart = two-apart (edgeList k) c centre (f .own) }; held = f .asked .held }
 
   pub follow-few : k .count + 2 ≤ mostKnown
   follow-few = omega (arith, f .asked .room)
 
   -- what the code's look answers is what the walk looks at
-  module _ {next : NextPair} (found : Next n table legs bound ways centre k x y next) {r : Looked} (e : lookedOf r ≡ look (pointsOnly n) sheet (spotOf next last index high)) where
+  module _ {next : NextPair} (found : Next n table legs bound c centre k x y next) {r : Looked} (e : lookedOf r ≡ look (pointsOnly n) sheet (spotOf next last index high)) where
     looks : {r′ : Looked} → r ≡ r′ → look rules sheet here ≡ lookedOf r′
     looks g =
-        look-heads rules sheet left (edgeList k) c _ last index high ∙ ap (λ (p : NextPair). look (pointsOnly n) sheet (spotOf p last index high)) (sym (found .first (openIn n marks) c (f .prepared) (f .scouted))) ∙ sym e ∙ ap lookedOf g
+        look-heads rules sheet left (edgeList k) c _ last index high ∙ ap (λ (p : NextPair). look (pointsOnly n) sheet (spotOf p last index high)) (sym (found .first (openIn n marks) (f .prepared) (f .own))) ∙ sym e ∙ ap lookedOf g
 
     pub follow-ends : r ≡ looking.Ends → accepted high ≡ walk rules sheet (opening rules (suc left) (edgeList k) i c first)
     follow-ends g = sym (walk-ends rules sheet here (looks g)) ∙ f .walks
@@ -145,7 +144,7 @@ module _ {n : ℕ} {table rows marks sheet : List ℕ} {count : ℕ} {k : EdgeSe
             unfolding walk
             follow-falls = omega (arith, taken .entered, close-rises rules sheet (walk rules sheet) (walk-rises rules sheet (suc (records sheet))) left _ index (howOf (x′ .closing)) reached (closes w))
 
-            pub follow-on : Following n table rows marks sheet count k left i c first legs near rank bound ways centre (x′ .a) (x′ .b) index (x′ .next) reached
+            pub follow-on : Following n table rows marks sheet count k left i c first legs near rank bound centre (x′ .a) (x′ .b) index (x′ .next) reached
             unfolding behind
             follow-on =
                 let t = taken in
@@ -155,7 +154,7 @@ module _ {n : ℕ} {table rows marks sheet : List ℕ} {count : ℕ} {k : EdgeSe
                   bounded = f .bounded;
                   listed = f .listed;
                   prepared = f .prepared;
-                  scouted = f .scouted;
+                  own = f .own;
                   low = h .0 .low;
                   up = omega (arith, h .0 .up);
                   top = h .0 .high;

@@ -13,7 +13,6 @@ use rules::nearby::list_nearby;
 use rules::pairs::NextPair;
 use rules::pairs::next_pair;
 use rules::split::prepare;
-use rules::ways::ways_beyond;
 ghost use mathlib.Core.Path.{_≡_};
 ghost use Prim.Native.Nat.{suc};
 ghost use Rattle.rules.specs.Stored.{edgeList};
@@ -158,7 +157,6 @@ pub fn chain(
     let split = prepare(n, table, rows, marks, k, c);
     let legs = split.legs;
     let bound = split.bound;
-    let ways = ways_beyond(k, c);
     let centre = neighbours(k, c);
     let mut near = [0u16; nearby::PLACES];
     let mut rank = [0u16; nearby::PLACES];
@@ -169,7 +167,7 @@ pub fn chain(
     let mut index = first;
     let mut high = i;
     loop {
-        let next = next_pair(n, table, &legs, &near, &rank, bound, &ways, centre, k, x, y);
+        let next = next_pair(n, table, &legs, &near, &rank, bound, c, centre, k, x, y);
         match look(n, sheet, count, next, last, index, high) {
             Looked::Ends => return Walked::Closed(high),
             Looked::Refused(number, at) => return Walked::Refused(number, at),

@@ -18,12 +18,10 @@ use Rattle.sheets.proofs.walk.+chain+close_case.Lts-close_case as close
 use Rattle.sheets.proofs.walk.look.Reads as look-reads
 use Rattle.rules.proofs.closing.crossing.Reads as crossing-reads
 use Rattle.rules.proofs.edge_set.EdgeSet.with_pair.Reads as with-pair-reads
-use Rattle.rules.proofs.WaysBeyond.{ways-asked}
 use Rattle.rules.proofs.near.neighbours.Reads as neighbours-reads
 use Rattle.rules.proofs.nearby.list_nearby.Reads as list-nearby-reads
 use Rattle.rules.proofs.pairs.next_pair.Reads as next-pair-reads
 use Rattle.rules.proofs.split.prepare.Reads as prepare-reads
-use Rattle.rules.proofs.ways.ways_beyond.Reads as ways-beyond-reads
 use Rattle.sheets.proofs.walk.+chain+close_case.{statement}
 use Rattle.sheets.proofs.walk.+chain+close_case.Tie.{close}
 
@@ -49,75 +47,72 @@ close-case-below t =
 
 -- the readings of the callees of each
 abbrev chain-calls : ℕ → chain-lts.Claims
-chain-calls t = (prepare-reads.Asked, prepare-reads.Learnt, ways-beyond-reads.Asked, ways-beyond-reads.Learnt, neighbours-reads.Asked, neighbours-reads.Learnt, list-nearby-reads.Asked, list-nearby-reads.Learnt, next-pair-reads.Asked, next-pair-reads.Learnt, look-reads.Asked, look-reads.Learnt, with-pair-reads.Asked, with-pair-reads.Learnt, close-case-below t, close-case.Post)
+chain-calls t = (prepare-reads.Asked, prepare-reads.Learnt, neighbours-reads.Asked, neighbours-reads.Learnt, list-nearby-reads.Asked, list-nearby-reads.Learnt, next-pair-reads.Asked, next-pair-reads.Learnt, look-reads.Asked, look-reads.Learnt, with-pair-reads.Asked, with-pair-reads.Learnt, close-case-below t, close-case.Post)
 
 abbrev close-case-calls : ℕ → close-case-lts.Claims
 close-case-calls t = (chain-below t, chain.Post, crossing-reads.Asked, crossing-reads.Learnt)
 
 abbrev chain-Inv-loop : chain-lts.InvT-loop
-chain-Inv-loop n table rows marks sheet count k left i c first legs bound ways centre near rank x₀ y₀ last₀ index₀ high₀ x y last index high =
-    Following n table rows marks sheet count k left i c first legs near rank bound ways centre x y last index high
+chain-Inv-loop n table rows marks sheet count k left i c first legs bound centre near rank x₀ y₀ last₀ index₀ high₀ x y last index high =
+    Following n table rows marks sheet count k left i c first legs near rank bound centre x y last index high
 
 abbrev chain-μ-loop : chain-lts.MeasureT-loop
-chain-μ-loop n table rows marks sheet count k left i c first legs bound ways centre near rank x₀ y₀ last₀ index₀ high₀ x y last index high =
+chain-μ-loop n table rows marks sheet count k left i c first legs bound centre near rank x₀ y₀ last₀ index₀ high₀ x y last index high =
     records sheet - high
 
 chain-prepare-requires : (t : ℕ) → chain-lts.Need-prepare-requires (chain-calls t) (chain-at t) chain.Post chain-Inv-loop chain-μ-loop
 chain-prepare-requires t c κs = chain-split (c .before .before .before .before .pre .1)
 
-chain-ways-beyond-requires : (t : ℕ) → chain-lts.Need-ways-beyond-requires (chain-calls t) (chain-at t) chain.Post chain-Inv-loop chain-μ-loop
-chain-ways-beyond-requires t c κs = ways-asked (c .before .before .before .before .before .before .pre .1 .tried .admitted .lengths .few) (c .before .before .before .before .before .before .pre .1 .held)
-
 chain-neighbours-requires : (t : ℕ) → chain-lts.Need-neighbours-requires (chain-calls t) (chain-at t) chain.Post chain-Inv-loop chain-μ-loop
-chain-neighbours-requires t c κs = c .before .before .before .before .before .before .before .pre .1 .held .stored
+chain-neighbours-requires t c κs = c .before .before .before .before .before .before .pre .1 .held .stored
 
 chain-list-nearby-requires : (t : ℕ) → chain-lts.Need-list-nearby-requires (chain-calls t) (chain-at t) chain.Post chain-Inv-loop chain-μ-loop
-chain-list-nearby-requires t c κs = record { few = c .before .before .before .before .before .before .before .before .before .before .before .pre .1 .tried .admitted .lengths .few; near-room = refl; rank-room = refl }
+chain-list-nearby-requires t c κs = record { few = c .before .before .before .before .before .before .before .before .before .before .pre .1 .tried .admitted .lengths .few; near-room = refl; rank-room = refl }
 
 chain-loop-holds : (t : ℕ) → chain-lts.Need-loop-holds (chain-calls t) (chain-at t) chain.Post chain-Inv-loop chain-μ-loop
-chain-loop-holds t c = follow-start (c .before .before .before .before .before .before .before .before .before .before .before .before .pre .1) _ _ (c .before .before .before .before .before .before .before .prepare .ensures) (c .before .before .before .before .before .ways-beyond .ensures) (c .before .before .before .before .neighbours .ensures) (c .list-nearby .ensures)
+chain-loop-holds t c = follow-start (c .before .before .before .before .before .before .before .before .before .before .before .pre .1) _ _ (c .before .before .before .before .before .before .prepare .ensures) (c .before .before .before .before .neighbours .ensures) (c .list-nearby .ensures)
 
 chain-next-pair-requires : (t : ℕ) → chain-lts.Need-next-pair-requires (chain-calls t) (chain-at t) chain.Post chain-Inv-loop chain-μ-loop
-chain-next-pair-requires t c κs = follow-search (c .before .before .before .before .loop .inv)
+chain-next-pair-requires t c κs = follow-search (c .before .before .before .loop .inv)
 
 chain-look-requires : (t : ℕ) → chain-lts.Need-look-requires (chain-calls t) (chain-at t) chain.Post chain-Inv-loop chain-μ-loop
-chain-look-requires t c κs = c .before .before .before .before .before .loop .inv .asked .tried .admitted .whole
+chain-look-requires t c κs = c .before .before .before .before .loop .inv .asked .tried .admitted .whole
 
 chain-enum-told : (t : ℕ) → chain-lts.Need-enum-told (chain-calls t) (chain-at t) chain.Post chain-Inv-loop chain-μ-loop
 chain-enum-told t c = search needs
 
 chain-returns : (t : ℕ) → chain-lts.Need-returns (chain-calls t) (chain-at t) chain.Post chain-Inv-loop chain-μ-loop
-chain-returns t c = follow-ends (c .before .before .before .before .before .before .before .before .loop .inv) (c .before .before .before .next-pair .ensures) (c .before .before .look .ensures) (c .enum-told .given .1)
+chain-returns t c = follow-ends (c .before .before .before .before .before .before .before .loop .inv) (c .before .before .before .next-pair .ensures) (c .before .before .look .ensures) (c .enum-told .given .1)
 
 chain-enum-known-number : (t : ℕ) → chain-lts.Need-enum-known-number (chain-calls t) (chain-at t) chain.Post chain-Inv-loop chain-μ-loop
 chain-enum-known-number t c = search needs
 
 chain-returns-2 : (t : ℕ) → chain-lts.Need-returns-2 (chain-calls t) (chain-at t) chain.Post chain-Inv-loop chain-μ-loop
-chain-returns-2 t c = let l = c .before .before .before in follow-stops (l .before .before .before .before .before .before .loop .inv) (l .before .next-pair .ensures) (l .look .ensures) (c .before .number .given .1)
+chain-returns-2 t c = let l = c .before .before .before in follow-stops (l .before .before .before .before .before .loop .inv) (l .before .next-pair .ensures) (l .look .ensures) (c .before .number .given .1)
 
 chain-enum-known-case : (t : ℕ) → chain-lts.Need-enum-known-case (chain-calls t) (chain-at t) chain.Post chain-Inv-loop chain-μ-loop
 chain-enum-known-case t c = search needs
 
 chain-with-pair-requires : (t : ℕ) → chain-lts.Need-with-pair-requires (chain-calls t) (chain-at t) chain.Post chain-Inv-loop chain-μ-loop
-chain-with-pair-requires t c κs = let f = c .before .before .before .before .before .before .before .before .before .loop .inv in (f .asked .held .stored, follow-few f)
+chain-with-pair-requires t c κs = let f = c .before .before .before .before .before .before .before .before .loop .inv in (f .asked .held .stored, follow-few f)
 
 chain-close-case-requires : (t : ℕ) → chain-lts.Need-close-case-requires (chain-calls t) (chain-at t) chain.Post chain-Inv-loop chain-μ-loop
-chain-close-case-requires t c κs = let l = c .before .before .before .before in (omega (arith, c .before .before .before .before .before .before .before .before .before .before .before .before .before .before .before .before .before .before .before .before .before .before .before .pre .0), follow-case (l .before .before .before .before .before .before .loop .inv) (l .before .next-pair .ensures) (l .look .ensures) (c .before .before .case .given .1) (c .with-pair .ensures))
+chain-close-case-requires t c κs = let l = c .before .before .before .before in (omega (arith, c .before .before .before .before .before .before .before .before .before .before .before .before .before .before .before .before .before .before .before .before .before .pre .0), follow-case (l .before .before .before .before .before .loop .inv) (l .before .next-pair .ensures) (l .look .ensures) (c .before .before .case .given .1) (c .with-pair .ensures))
 
 chain-enum-known-number-2 : (t : ℕ) → chain-lts.Need-enum-known-number-2 (chain-calls t) (chain-at t) chain.Post chain-Inv-loop chain-μ-loop
 chain-enum-known-number-2 t c = search needs
 
 chain-returns-3 : (t : ℕ) → chain-lts.Need-returns-3 (chain-calls t) (chain-at t) chain.Post chain-Inv-loop chain-μ-loop
-chain-returns-3 t c = let l = c .before .before .before .before .before .before .before .before in follow-case-stops (l .before .before .before .before .before .before .loop .inv) (l .before .next-pair .ensures) (l .look .ensures) (c .before .before .before .before .before .before .case .given .1) (c .before .before .before .before .with-pair .ensures) (c .before .before .before .close-case .ensures) (c .before .number2 .given .1)
+chain-returns-3 t c = let l = c .before .before .before .before .before .before .before .before in follow-case-stops (l .before .before .before .before .before .loop .inv) (l .before .next-pair .ensures) (l .look .ensures) (c .before .before .before .before .before .before .case .given .1) (c .before .before .before .before .with-pair .ensures) (c .before .before .before .close-case .ensures) (c .before .number2 .given .1)
 
 chain-enum-known-reached : (t : ℕ) → chain-lts.Need-enum-known-reached (chain-calls t) (chain-at t) chain.Post chain-Inv-loop chain-μ-loop
 chain-enum-known-reached t c = search needs
 
 chain-loop-less : (t : ℕ) → chain-lts.Need-loop-less (chain-calls t) (chain-at t) chain.Post chain-Inv-loop chain-μ-loop
-chain-loop-less t c = let l = c .before .before .before .before .before .before .before .before in follow-falls (l .before .before .before .before .before .before .loop .inv) (l .before .next-pair .ensures) (l .look .ensures) (c .before .before .before .before .before .before .case .given .1) (c .before .before .before .before .with-pair .ensures) (c .before .before .before .close-case .ensures) (c .before .reached .given .1)
+chain-loop-less t c = let l = c .before .before .before .before .before .before .before .before in follow-falls (l .before .before .before .before .before .loop .inv) (l .before .next-pair .ensures) (l .look .ensures) (c .before .before .before .before .before .before .case .given .1) (c .before .before .before .before .with-pair .ensures) (c .before .before .before .close-case .ensures) (c .before .reached .given .1)
 
 chain-loop-again : (t : ℕ) → chain-lts.Need-loop-again (chain-calls t) (chain-at t) chain.Post chain-Inv-loop chain-μ-loop
-chain-loop-again t c = let l = c .before .before .before .before .before .before .before .before in follow-on (l .before .before .before .before .before .before .loop .inv) (l .before .next-pair .ensures) (l .look .ensures) (c .before .before .before .before .before .before .case .given .1) (c .before .before .before .before .with-pair .ensures) (c .before .before .before .close-case .ensures) (c .before .reached .given .1)
+chain-loop-again t c = let l = c .before .before .before .before .before .before .before .before in follow-on (l .before .before .before .before .before .loop .inv) (l .before .next-pair .ensures) (l .look .ensures) (c .before .before .before .before .before .before .case .given .1) (c .before .before .before .before .with-pair .ensures) (c .before .before .before .close-case .ensures) (c .before .reached .given .1)
 
 close-case-enum-known-closing : (t : ℕ) → close-case-lts.Need-enum-known-closing (close-case-calls t) (close-case-at t) close-case.Post
 close-case-enum-known-closing t c = search needs
@@ -165,7 +160,6 @@ pub +chain+close-case-spec : {M : Type 1} → statement M
     chain-Inv-loop
     chain-μ-loop
     (chain-prepare-requires t)
-    (chain-ways-beyond-requires t)
     (chain-neighbours-requires t)
     (chain-list-nearby-requires t)
     (chain-loop-holds t)

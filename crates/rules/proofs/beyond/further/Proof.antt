@@ -1,7 +1,7 @@
--- `rules::ways::further` meets its contract: each test is one of `further` and `joined`. Assumes nothing.
-use Rattle.rules.proofs.WaysBeyond.{further-centre, further-first, further-same, further-fork}
-use Rattle.rules.proofs.ways.further.Statement.{statement}
-use Rattle.rules.proofs.ways.further.Tie as tie
+-- `rules::beyond::further` meets its contract: each test is one of `further` and `joined`. Assumes nothing.
+use Rattle.rules.proofs.BeyondNumbers.{further-centre, further-first, further-same, further-fork}
+use Rattle.rules.proofs.beyond.further.Statement.{statement}
+use Rattle.rules.proofs.beyond.further.Tie as tie
 
 returns : tie.Need-returns
 returns c = further-centre _ _ _ (c .before .pre) (c .if1 .taken)
