@@ -19,7 +19,6 @@ use Rattle.rules.specs.Pairs.{keep, feasiblePairs}
 use Rattle.rules.specs.Split.{Prepared, SplitOf}
 use Rattle.rules.specs.Stored.{edgeList, Single}
 use Rattle.rules.specs.declared.edge_set.EdgeSet.{EdgeSet}
-use Rattle.rules.specs.declared.split.Split.{Split}
 use Rattle.rules.proofs.SingleEdge.{single-pairs}
 use Rattle.marking.specs.Listing.{pairsAt, numbersOf, stands?, barredIn, apart?, SearchAsked, FindAsked, Found}
 
@@ -105,9 +104,9 @@ barred-edge {a} {b} {low} {high} o x z first up = go (o .points)
     go (inl e) = barred-up low high x z (o .rises) first up ∙ ap₂ (λ (p q : ℕ). joins? p q x z) (sym (e .0)) (sym (e .1))
     go (inr e) = barred-down low high x z (o .rises) first up ∙ ap₂ (λ (p q : ℕ). joins? p q x z) (sym (e .0)) (sym (e .1))
 
-pub prepared-single : {n : ℕ} {table marks : List ℕ} {a b c : ℕ} {k : EdgeSet} {s : Split} → Single a b k → SplitOf n table marks k c s
-    → Prepared n (lengthOf n table) (openIn n marks) (edge a b ∷ []) c (s .legs) (s .bound)
-prepared-single {n} {table} {marks} {c = c} {s = s} k p = subst (λ (K : List Edge). Prepared n (lengthOf n table) (openIn n marks) K c (s .legs) (s .bound)) (k .edges) (p .prepared)
+pub prepared-single : {n : ℕ} {table marks : List ℕ} {a b c : ℕ} {k : EdgeSet} {legs : List ℕ} {bound : ℕ} → Single a b k → SplitOf n table marks k c legs bound
+    → Prepared n (lengthOf n table) (openIn n marks) (edge a b ∷ []) c legs bound
+prepared-single {n} {table} {marks} {c = c} {legs = legs} {bound = bound} k p = subst (λ (K : List Edge). Prepared n (lengthOf n table) (openIn n marks) K c legs bound) (k .edges) (p .prepared)
 
 module _ {n : ℕ} {table marks : List ℕ} {a b c : ℕ} {found₀ legs : List ℕ} {bound : ℕ} (g : FindAsked n table marks a b c found₀) (c-a : c ≡ a → ⊥) (c-b : c ≡ b → ⊥)
     (p : Prepared n (lengthOf n table) (openIn n marks) (edge a b ∷ []) c legs bound) where

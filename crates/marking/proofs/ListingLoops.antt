@@ -24,7 +24,6 @@ use Rattle.rules.specs.declared.edge_set.EdgeSet.{EdgeSet}
 use Rattle.rules.specs.declared.near.Near.{Near}
 use Rattle.rules.specs.declared.pairs.NextPair.{NextPair}
 use Rattle.rules.specs.declared.pairs.NextPair.the-variants.{Pair, End}
-use Rattle.rules.specs.declared.split.Split.{Split}
 use Rattle.rules.proofs.BeyondNumbers.{two-apart}
 use Rattle.rules.proofs.PairLists.{keep-yes, keep-no, feasibleAfter-start}
 use Rattle.rules.proofs.PairSearch.{next-is-pair, next-is-end}
@@ -148,9 +147,9 @@ pub record Searching (n : ℕ) (table marks : List ℕ) (k : EdgeSet) (c : ℕ) 
   pub listed : NearbyOf n legs near rank
   pub at : Finding n (lengthOf n table) (openIn n marks) (edgeList k) c found₀ found x y count
 
-pub search-start : {n : ℕ} {table marks : List ℕ} {k : EdgeSet} {c : ℕ} {found : List ℕ} {s : Split} {centre : Near} {near rank : List ℕ} → SearchAsked n table marks k c found
-    → SplitOf n table marks k c s → centre ≡ neighbours (edgeList k) c → NearbyOf n (s .legs) near rank
-    → Searching n table marks k c found (s .legs) (s .bound) centre near rank found 1 1 0
+pub search-start : {n : ℕ} {table marks : List ℕ} {k : EdgeSet} {c : ℕ} {found legs : List ℕ} {bound : ℕ} {centre : Near} {near rank : List ℕ} → SearchAsked n table marks k c found
+    → SplitOf n table marks k c legs bound → centre ≡ neighbours (edgeList k) c → NearbyOf n legs near rank
+    → Searching n table marks k c found legs bound centre near rank found 1 1 0
 search-start g sp own listed = record {
   asked = g;
   bounded = sp .bounded;

@@ -71,10 +71,10 @@ open-self {n} {marks} {rows} {c} {at} {legs} a s = record {
   rest = λ i g k. s .rest i (omega arith) k;
 }
 
-pub open-start : {n : ℕ} {marks rows : List ℕ} {c at : ℕ} → OpenAsked n marks rows c at → OpenFrom n marks rows c at (replicate pointPlaces far) 1
-open-start a = record {
+pub open-start : {n : ℕ} {marks rows : List ℕ} {c at : ℕ} {legs : List ℕ} → legs ≡ replicate pointPlaces far → OpenAsked n marks rows c at → OpenFrom n marks rows c at legs 1
+open-start e a = record {
   asked = a;
-  below = record { list = far-legs; done = λ i g k. absurd (omega arith); rest = λ i g k. getD-replicate {A = ℕ} pointPlaces i far 0 (omega arith) };
+  below = record { list = rw e far-legs; done = λ i g k. absurd (omega arith); rest = λ i g k. rw e (getD-replicate {A = ℕ} pointPlaces i far 0 (omega arith)) };
 }
 
 pub open-middle : {n : ℕ} {marks rows : List ℕ} {c at : ℕ} {legs : List ℕ} → OpenAsked n marks rows c at → OpenBelow n marks rows c at legs c → OpenFrom n marks rows c at legs (c + 1)

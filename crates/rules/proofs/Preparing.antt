@@ -198,7 +198,7 @@ module _ {n : ℕ} {table rows marks : List ℕ} {k : EdgeSet} {c : ℕ} {legs :
       }
 
 pub take-end : {n : ℕ} {table rows marks : List ℕ} {k : EdgeSet} {c : ℕ} {legs : List ℕ} {bound i : ℕ}
-    → Taking n table rows marks k c legs bound i → k .count ≤ i → SplitOf n table marks k c (record { legs = legs; bound = bound })
+    → Taking n table rows marks k c legs bound i → k .count ≤ i → SplitOf n table marks k c legs bound
 unfolding edgeList
 take-end {n} {table} {rows} {marks} {k} {c} {legs} {bound} {i} s h =
     let e : i ≡ k .count = omega (arith, s .within) in
@@ -278,7 +278,7 @@ module _ {n : ℕ} {table marks : List ℕ} {k : EdgeSet} {c : ℕ} (g : SingleA
   single-tight = tightened-le (lengthOf n table) c (getD (k .from) 0 0) (getD (k .to) 0 0) loose
 
   pub single-split : {legs : List ℕ} {bound : ℕ} → EdgeLegs n table marks (getD (k .from) 0 0) (getD (k .to) 0 0) c legs
-      → bound ≡ boundOf (lengthOf n table) (edge (getD (k .from) 0 0) (getD (k .to) 0 0) ∷ []) c → SplitOf n table marks k c (record { legs = legs; bound = bound })
+      → bound ≡ boundOf (lengthOf n table) (edge (getD (k .from) 0 0) (getD (k .to) 0 0) ∷ []) c → SplitOf n table marks k c legs bound
   single-split {legs} {bound} l b = record {
     bounded = record { list = l .list; tight = omega (arith, b, single-tight) };
     prepared = subst (λ (K : List Edge). Prepared n (lengthOf n table) (openIn n marks) K c legs bound) (sym single-list) (record { each = l .each; least = b });

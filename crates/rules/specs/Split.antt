@@ -14,7 +14,6 @@ use Rattle.rules.specs.PairTest.{leg?}
 use Rattle.rules.specs.Mark.{openIn}
 use Rattle.rules.specs.Stored.{edgeList, Held}
 use Rattle.rules.specs.declared.edge_set.EdgeSet.{EdgeSet}
-use Rattle.rules.specs.declared.split.Split.{Split}
 use Rattle.rules.specs.declared.split.Triangle.{Triangle}
 
 -- more than any pair may cost
@@ -211,6 +210,6 @@ pub record SingleAsked (n : ℕ) (table marks : List ℕ) (k : EdgeSet) (c : ℕ
   pub one : k .count ≡ 1
 
 -- what `prepare` and `prepare_single` answer
-pub record SplitOf (n : ℕ) (table marks : List ℕ) (k : EdgeSet) (c : ℕ) (s : Split) : Type 0 where
-  pub bounded : Bounded (s .legs) (s .bound)
-  pub prepared : Prepared n (lengthOf n table) (openIn n marks) (edgeList k) c (s .legs) (s .bound)
+pub record SplitOf (n : ℕ) (table marks : List ℕ) (k : EdgeSet) (c : ℕ) (legs : List ℕ) (bound : ℕ) : Type 0 where
+  pub bounded : Bounded legs bound
+  pub prepared : Prepared n (lengthOf n table) (openIn n marks) (edgeList k) c legs bound

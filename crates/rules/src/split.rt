@@ -9,9 +9,10 @@ ghost use mathlib.Core.Path.{_≡_};
 ghost use mathlib.Core.Bool.{cond};
 ghost use mathlib.Core.List.{[], _∷_};
 ghost use lib.Dec.{eqb};
-ghost use lib.ListN.{length, getD};
-ghost use Rattle.rules.specs.Split.{far, TakeAsked, TakenIn, narrowedBy, tightenedBy, OpenAsked, OpenFrom, OpenBelow, OpenLegs, Short, NarrowAsked, Narrowed, TriangleAsked, TriangleIn, SingleAsked, SplitAsked, SplitOf, boundOf, EdgeAsked, EdgeRowsAsked, EdgeRows, EdgeTriangle, EdgeLegsAsked, EdgeLegs};
+ghost use lib.ListN.{length, getD, replicate};
+ghost use Rattle.rules.specs.Split.{far, TakeAsked, TakenIn, narrowedBy, tightenedBy, OpenFrom, OpenBelow, OpenLegs, Short, NarrowAsked, Narrowed, TriangleAsked, TriangleIn, SingleAsked, SplitAsked, SplitOf, boundOf, EdgeAsked, EdgeRowsAsked, EdgeRows, EdgeTriangle, EdgeLegsAsked, EdgeLegs};
 ghost use Rattle.lengths.specs.Edge.{edge};
+ghost use Rattle.lengths.specs.Instance.{pointPlaces};
 ghost use Rattle.lengths.specs.Table.{lengthOf};
 
 // legs[x] is the length from the split point c to x where cx is open and compatible with every edge of K, else FAR.
@@ -100,15 +101,20 @@ fn open_above(
     }
 }
 
-// The legs of all points where K is empty, by the row of c that stands at `at`.
-fn open_legs(n: u16, marks: &[u8], c: u16, rows: &[u32], at: usize) -> [u32; Instance::PLACES]
-    requires { ⌜ OpenAsked n (now marks) (now rows) c at ⌝ }
-    ensures { λ r. ⌜ OpenLegs n (now (marks .entry)) (now (rows .entry)) c at r ⌝ }
+// The legs of all points where K is empty, by the row of c that stands at `at`. The legs lent are all FAR.
+fn open_legs(
+    n: u16,
+    marks: &[u8],
+    c: u16,
+    rows: &[u32],
+    at: usize,
+    legs: &mut [u32; Instance::PLACES],
+)
+    requires { ⌜ OpenFrom n (now marks) (now rows) c at (now legs) 1 ⌝ }
+    ensures { λ _. ⌜ OpenLegs n (now (marks .entry)) (now (rows .entry)) c at (now (legs .exit)) ⌝ }
 {
-    let mut legs = [Split::FAR; Instance::PLACES];
-    open_below(n, marks, c, rows, at, &mut legs);
-    open_above(n, marks, c, rows, at, &mut legs);
-    legs
+    open_below(n, marks, c, rows, at, legs);
+    open_above(n, marks, c, rows, at, legs);
 }
 
 // The leg with an edge taken in: FAR where the leg and the edge are together longer than both exchanges.
@@ -225,26 +231,33 @@ fn take_in(
     tighten(c, u, v, t.pq, t.cp, t.cq, bound)
 }
 
-// What the search looks up for k at c. The table is there to name the lengths: the rows hold them.
-pub fn prepare(n: u16, table: &[u32], rows: &[u32], marks: &[u8], k: EdgeSet, c: u16) -> Split
+// What the search looks up for k at c: writes the legs, which are all FAR when lent, and answers the bound.
+// The table is there to name the lengths: the rows hold them.
+pub fn prepare(
+    n: u16,
+    table: &[u32],
+    rows: &[u32],
+    marks: &[u8],
+    k: EdgeSet,
+    c: u16,
+    legs: &mut [u32; Instance::PLACES],
+) -> u32
     requires { ⌜ SplitAsked n (now table) (now rows) (now marks) k c ⌝ }
-    ensures { λ r. ⌜ SplitOf n (now (table .entry)) (now (marks .entry)) k c r ⌝ }
+    requires { ⌜ now legs ≡ replicate pointPlaces far ⌝ }
+    ensures { λ r. ⌜ SplitOf n (now (table .entry)) (now (marks .entry)) k c (now (legs .exit)) r ⌝ }
 {
     let from = k.from;
     let to = k.to;
     let count = k.count;
     let at = row_start(n, c);
-    let mut legs = open_legs(n, marks, c, rows, at);
+    open_legs(n, marks, c, rows, at, legs);
     let mut bound = Split::LOOSE;
     let mut i = 0;
     while i < count {
-        bound = take_in(n, table, rows, c, from[i], to[i], &mut legs, bound);
+        bound = take_in(n, table, rows, c, from[i], to[i], legs, bound);
         i += 1;
     }
-    Split {
-        legs: legs,
-        bound: bound,
-    }
+    bound
 }
 
 // Writes the rows of c, a and b side by side.
@@ -288,7 +301,8 @@ fn legs_for_edge(
 {
     let mut rows = [0u32; 3 * Instance::PLACES];
     fill_edge_rows(n, table, a, b, c, &mut rows);
-    let mut legs = open_legs(n, marks, c, &rows, 0);
+    let mut legs = [Split::FAR; Instance::PLACES];
+    open_legs(n, marks, c, &rows, 0, &mut legs);
     let t = edge_triangle(n, table, a, b, c);
     narrow(n, &rows, &mut legs, t.ps, t.qs, t.pq, t.cp, t.cq);
     legs
@@ -306,7 +320,7 @@ fn bound_for_edge(n: u16, table: &[u32], a: u16, b: u16, c: u16) -> u32
 // What the search looks up for a set k of one edge at c, by three rows alone.
 pub fn prepare_single(n: u16, table: &[u32], marks: &[u8], k: EdgeSet, c: u16) -> Split
     requires { ⌜ SingleAsked n (now table) (now marks) k c ⌝ }
-    ensures { λ r. ⌜ SplitOf n (now (table .entry)) (now (marks .entry)) k c r ⌝ }
+    ensures { λ r. ⌜ SplitOf n (now (table .entry)) (now (marks .entry)) k c (r .legs) (r .bound) ⌝ }
 {
     let from = k.from;
     let to = k.to;

@@ -74,8 +74,8 @@ module _ {n : ℕ} {table rows marks sheet : List ℕ} {count : ℕ} {k : EdgeSe
   pub chain-split : SplitAsked n table rows marks k c
   chain-split = record { legs = record { lengths = asked .tried .admitted .lengths; marked = asked .tried .admitted .marked; centre = asked .centre }; in-rows = asked .tried .in-rows; held = asked .held }
 
-  pub follow-start : {p : split.Split} {near rank : List ℕ} {centre : Near} (i first : ℕ) → SplitOf n table marks k c p → centre ≡ neighbours (edgeList k) c
-      → NearbyOf n (p .legs) near rank → Following n table rows marks sheet count k left i c first (p .legs) near rank (p .bound) centre 1 1 i first i
+  pub follow-start : {legs near rank : List ℕ} {bound : ℕ} {centre : Near} (i first : ℕ) → SplitOf n table marks k c legs bound → centre ≡ neighbours (edgeList k) c
+      → NearbyOf n legs near rank → Following n table rows marks sheet count k left i c first legs near rank bound centre 1 1 i first i
   unfolding opening
   follow-start i first s own listed =
       let e : left ≡ suc left - 1 = omega arith in

@@ -3,6 +3,7 @@ use crate::sheet::Case;
 use crate::sheet::Closing;
 use crate::sheet::Record;
 use crate::sheet::Sheet;
+use lengths::instance::Instance;
 use lengths::refusal;
 use rules::closing::Crossed;
 use rules::closing::crossing;
@@ -12,6 +13,7 @@ use rules::nearby;
 use rules::nearby::list_nearby;
 use rules::pairs::NextPair;
 use rules::pairs::next_pair;
+use rules::split::Split;
 use rules::split::prepare;
 ghost use mathlib.Core.Path.{_≡_};
 ghost use Prim.Native.Nat.{suc};
@@ -154,9 +156,8 @@ pub fn chain(
     ensures { λ r. ⌜ walkedOf r ≡ walk (rulesOf n (now (table .entry)) (now (marks .entry))) (now (sheet .entry))
         (opening (rulesOf n (now (table .entry)) (now (marks .entry))) (suc left) (edgeList k) i c first) ⌝ }
 {
-    let split = prepare(n, table, rows, marks, k, c);
-    let legs = split.legs;
-    let bound = split.bound;
+    let mut legs = [Split::FAR; Instance::PLACES];
+    let bound = prepare(n, table, rows, marks, k, c, &mut legs);
     let centre = neighbours(k, c);
     let mut near = [0u16; nearby::PLACES];
     let mut rank = [0u16; nearby::PLACES];

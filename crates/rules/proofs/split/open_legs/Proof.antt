@@ -1,13 +1,13 @@
 -- `rules::split::open_legs` meets its contract: the points below c, then those above it. Assumes nothing.
-use Rattle.rules.proofs.Legs.{open-start, open-middle, open-end}
+use Rattle.rules.proofs.Legs.{open-middle, open-end}
 use Rattle.rules.proofs.split.open_legs.Statement.{statement}
 use Rattle.rules.proofs.split.open_legs.Tie as tie
 
 open-below-requires : tie.Need-open-below-requires
-open-below-requires c κs = open-start (c .before .before .before .pre)
+open-below-requires c κs = c .before .before .before .pre
 
 open-above-requires : tie.Need-open-above-requires
-open-above-requires c κs = open-middle (c .before .before .before .before .before .pre) (c .before .open-below .ensures)
+open-above-requires c κs = open-middle (c .before .before .before .before .before .pre .asked) (c .before .open-below .ensures)
 
 returns : tie.Need-returns
 returns c = open-end (c .open-above .ensures)

@@ -1,26 +1,27 @@
 -- `rules::split::prepare` meets its contract: the invariant is `Taking`, that the legs and the bound are those of the first i edges.
 -- Assumes nothing.
 use Prim.Native.Nat.{_-_}
+use Rattle.rules.proofs.Legs.{open-start}
 use Rattle.rules.proofs.Preparing.{Taking, take-open, take-start, take-edge, take-on, take-end}
 use borrow.Author.Needs.{needs}
 use Rattle.rules.proofs.split.prepare.Statement.{statement}
 use Rattle.rules.proofs.split.prepare.Tie as tie
 
 abbrev Inv-loop : tie.InvT-loop
-Inv-loop n table rows marks c from to count at legs₀ bound₀ i₀ legs bound i =
+Inv-loop n table rows marks c legs₀ from to count at bound₀ i₀ legs bound i =
     Taking n table rows marks (record { from = from; to = to; count = count }) c legs bound i
 
 abbrev μ-loop : tie.MeasureT-loop
-μ-loop n table rows marks c from to count at legs₀ bound₀ i₀ legs bound i = count - i
+μ-loop n table rows marks c legs₀ from to count at bound₀ i₀ legs bound i = count - i
 
 row-start-requires : tie.Need-row-start-requires Inv-loop μ-loop
 row-start-requires c κs = search needs
 
 open-legs-requires : tie.Need-open-legs-requires Inv-loop μ-loop
-open-legs-requires c κs = take-open (c .before .before .before .before .before .before .pre) (c .row-start .ensures)
+open-legs-requires c κs = let p = c .before .before .before .before .before .before .before .pre in open-start (p .1) (take-open (p .0) (c .before .row-start .ensures))
 
 loop-holds : tie.Need-loop-holds Inv-loop μ-loop
-loop-holds c = take-start (c .before .before .before .before .before .before .before .pre) (c .before .row-start .ensures) (c .open-legs .ensures)
+loop-holds c = take-start (c .before .before .before .before .before .before .before .before .pre .0) (c .before .before .row-start .ensures) (c .open-legs .ensures)
 
 mul-take-in : tie.Need-mul-take-in Inv-loop μ-loop
 mul-take-in c = search needs

@@ -61,7 +61,7 @@ chain-μ-loop n table rows marks sheet count k left i c first legs bound centre 
     records sheet - high
 
 chain-prepare-requires : (t : ℕ) → chain-lts.Need-prepare-requires (chain-calls t) (chain-at t) chain.Post chain-Inv-loop chain-μ-loop
-chain-prepare-requires t c κs = chain-split (c .before .before .before .before .pre .1)
+chain-prepare-requires t c κs = (chain-split (c .before .before .before .before .before .pre .1), refl)
 
 chain-neighbours-requires : (t : ℕ) → chain-lts.Need-neighbours-requires (chain-calls t) (chain-at t) chain.Post chain-Inv-loop chain-μ-loop
 chain-neighbours-requires t c κs = c .before .before .before .before .before .before .pre .1 .held .stored
@@ -70,7 +70,7 @@ chain-list-nearby-requires : (t : ℕ) → chain-lts.Need-list-nearby-requires (
 chain-list-nearby-requires t c κs = record { few = c .before .before .before .before .before .before .before .before .before .before .pre .1 .tried .admitted .lengths .few; near-room = refl; rank-room = refl }
 
 chain-loop-holds : (t : ℕ) → chain-lts.Need-loop-holds (chain-calls t) (chain-at t) chain.Post chain-Inv-loop chain-μ-loop
-chain-loop-holds t c = follow-start (c .before .before .before .before .before .before .before .before .before .before .before .pre .1) _ _ (c .before .before .before .before .before .before .prepare .ensures) (c .before .before .before .before .neighbours .ensures) (c .list-nearby .ensures)
+chain-loop-holds t c = follow-start (c .before .before .before .before .before .before .before .before .before .before .before .pre .1) _ _ (c .before .before .before .before .before .prepare .ensures) (c .before .before .before .before .neighbours .ensures) (c .list-nearby .ensures)
 
 chain-next-pair-requires : (t : ℕ) → chain-lts.Need-next-pair-requires (chain-calls t) (chain-at t) chain.Post chain-Inv-loop chain-μ-loop
 chain-next-pair-requires t c κs = follow-search (c .before .before .before .loop .inv)
