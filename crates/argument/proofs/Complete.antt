@@ -7,8 +7,8 @@ use mathlib.Core.List.{List, _∷_}
 use native.Mathlib.Omega.{arith}
 use borrow.Author.Tests.{lt-ltb}
 use Rattle.lengths.specs.Edge.{Edge, edge}
-use Rattle.rules.specs.Pair.{withPair}
-use Rattle.rules.proofs.Rising.{rising-unique}
+use Rattle.sets.specs.EdgeSet.{withPair}
+use Rattle.sets.proofs.Rising.{rising-unique}
 use Rattle.argument.specs.Verdict.{accepted}
 use Rattle.argument.specs.Record.{How}
 use Rattle.argument.specs.Rules.{Rules, NamesFeasible, Reached, Lawful}

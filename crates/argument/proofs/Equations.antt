@@ -7,7 +7,7 @@ use mathlib.Core.List.{List, [], _∷_}
 use native.Mathlib.Omega.{arith}
 use borrow.Author.Tests.{lt-ltb, le-ltb}
 use Rattle.lengths.specs.Edge.{Edge, edge, Point}
-use Rattle.rules.specs.Pair.{withPair}
+use Rattle.sets.specs.EdgeSet.{withPair}
 use Rattle.argument.specs.Verdict.{Verdict, accepted, refused, unless, andThen}
 use Rattle.argument.specs.Record.{How, splits, crosses, Record, line, case, other, recordAt}
 use Rattle.argument.specs.Rules.{Rules}

@@ -5,8 +5,8 @@ use mathlib.Core.Logic.{⊎-elim}
 use mathlib.Core.Bool.{Bool}
 use mathlib.Core.List.{List, [], _∷_, List·Memᴰ·not-nil, List·Memᴰ·cases-cons}
 use Rattle.lengths.specs.Edge.{Edge, edge}
-use Rattle.rules.specs.Pair.{withPair}
-use Rattle.rules.specs.Rising.{Among}
+use Rattle.sets.specs.EdgeSet.{withPair}
+use Rattle.sets.specs.Rising.{Among}
 use Rattle.argument.specs.Verdict.{accepted}
 use Rattle.argument.specs.Rules.{Rules, Lawful}
 use Rattle.argument.specs.Argument.{Cases, none, pair, Closing, split, crossing, names, Complete, AllComplete, CompleteArgument}

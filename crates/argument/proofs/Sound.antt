@@ -7,8 +7,8 @@ use mathlib.Core.List.{List, _∷_, List·Memᴰ·head, List·Memᴰ·tail}
 use native.Mathlib.Omega.{arith}
 use borrow.Author.Tests.{ltb-true}
 use Rattle.lengths.specs.Edge.{Edge, edge, Point}
-use Rattle.rules.specs.Pair.{withPair}
-use Rattle.rules.specs.Rising.{Among}
+use Rattle.sets.specs.EdgeSet.{withPair}
+use Rattle.sets.specs.Rising.{Among}
 use Rattle.argument.specs.Verdict.{Verdict, accepted}
 use Rattle.argument.specs.Record.{How, splits, crosses, records}
 use Rattle.argument.specs.Rules.{Rules, NamesFeasible, Reached, grown, Lawful}

@@ -1,5 +1,5 @@
 -- Each test of the walk against what it means: points, records that fit, the next pair, indices that may be entered.
-pub use Rattle.rules.proofs.Laws.Bools.{and-true as both}
+pub use Rattle.sets.proofs.Laws.Bools.{and-true as both}
 use Prim.Native.Nat.{ℕ, _≤_, _<_}
 use mathlib.Core.Path.{_≡_, refl, _∙_, ap, ap₂}
 use mathlib.Core.Bool.{true, not, false≢true}

@@ -11,7 +11,7 @@ use lib.Dec.{eqb}
 use lib.ListN.{length}
 use borrow.Author.Tests.{eqb-true}
 use Rattle.lengths.specs.Edge.{Edge, edge, Point}
-use Rattle.rules.specs.Rising.{Among, Rising}
+use Rattle.sets.specs.Rising.{Among, Rising}
 use Rattle.argument.specs.Verdict.{Verdict, accepted, refused, guard, unless, andThen}
 use Rattle.argument.specs.Record.{records, field, bare, content, recordAt, isPoint, howFits, fits}
 use Rattle.argument.specs.Rules.{Rules, Lawful}

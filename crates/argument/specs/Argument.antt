@@ -3,7 +3,7 @@
 use Prim.Native.Nat.{ℕ, suc, _≤_, max}
 use mathlib.Core.List.{List, [], _∷_}
 use Rattle.lengths.specs.Edge.{Edge, edge, Point}
-use Rattle.rules.specs.Pair.{withPair}
+use Rattle.sets.specs.EdgeSet.{withPair}
 use Rattle.argument.specs.Rules.{Rules, NamesFeasible}
 
 -- a chain of cases, each a pair with its closing; "a case record carries one of two closings, a split or a crossing"

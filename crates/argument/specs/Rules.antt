@@ -5,8 +5,8 @@ use mathlib.Core.Path.{_≡_}
 use mathlib.Core.Logic.{_↔_}
 use mathlib.Core.List.{List, [], _∷_}
 use Rattle.lengths.specs.Edge.{Edge, edge, Point}
-use Rattle.rules.specs.Pair.{withPair}
-use Rattle.rules.specs.Rising.{Among, Rising}
+use Rattle.sets.specs.EdgeSet.{withPair}
+use Rattle.sets.specs.Rising.{Among, Rising}
 
 pub record Rules : Type 1 where
   -- how many points there are

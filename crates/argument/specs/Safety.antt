@@ -5,7 +5,7 @@ use mathlib.Core.Path.{_≡_}
 use mathlib.Core.Bool.{true}
 use mathlib.Core.List.{List, [], _∷_}
 use Rattle.lengths.specs.Edge.{Edge, edge, Point}
-use Rattle.rules.specs.Pair.{withPair}
+use Rattle.sets.specs.EdgeSet.{withPair}
 use Rattle.argument.specs.Rules.{Rules, Lawful}
 use Rattle.argument.specs.Sheet.{Marking}
 

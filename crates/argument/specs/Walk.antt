@@ -5,7 +5,7 @@ use mathlib.Core.Bool.{Bool, true, false, _&&_}
 use mathlib.Core.List.{List, [], _∷_}
 use lib.Dec.{leb, ltb, eqb}
 use Rattle.lengths.specs.Edge.{Edge, edge}
-use Rattle.rules.specs.Pair.{withPair}
+use Rattle.sets.specs.EdgeSet.{withPair}
 use Rattle.argument.specs.Verdict.{Verdict, accepted, refused, guard, unless, andThen}
 use Rattle.argument.specs.Record.{How, splits, crosses, Record, line, case, other, records, recordAt, fits}
 use Rattle.argument.specs.Rules.{Rules}

@@ -12,8 +12,8 @@ use lib.Seq.{getD-set-same, getD-set-other}
 use borrow.Author.Tests.{eqb-true}
 use Rattle.lengths.specs.Edge.{edge, IsEdge, edgeCount, place}
 use Rattle.lengths.proofs.Edges.{place-below}
-use Rattle.rules.specs.EdgeSet.{Joins, Has}
-use Rattle.rules.specs.Mark.{openIn}
+use Rattle.sets.specs.EdgeSet.{Joins, Has}
+use Rattle.marks.specs.Mark.{openIn}
 use Rattle.tours.proofs.Edges.{joins?}
 use Rattle.argument.specs.Line.{Struck, strikes, CompleteAt, CompleteLine}
 use Rattle.argument.specs.Sheet.{Place, Result, struck, start, CompleteLines, Answers}

@@ -8,7 +8,7 @@ use native.Mathlib.Omega.{arith}
 use lib.ListN.{length}
 use Rattle.lengths.specs.Edge.{Edge}
 use Rattle.lengths.specs.Test.{unless}
-use Rattle.rules.specs.Mark.{openIn}
+use Rattle.marks.specs.Mark.{openIn}
 use Rattle.argument.specs.Line.{Struck, strikes, judge, CompleteLine}
 use Rattle.argument.specs.Sheet.{Place, Result, start, sheet, CompleteLines, ended, Answers, RefusedAt}
 use Rattle.argument.specs.Verdict.{accepted, refused}

@@ -14,7 +14,7 @@ use Rattle.lengths.specs.Instance.{leastPoints, mostPoints, inRange}
 use Rattle.lengths.specs.Table.{lengthOf}
 use Rattle.lengths.specs.Test.{unless}
 use Rattle.lengths.proofs.Edges.{edgeCount-tri, tri-suc, tri-mono, place-below, three-way}
-use Rattle.rules.specs.Mark.{openIn}
+use Rattle.marks.specs.Mark.{openIn}
 use Rattle.tours.specs.Tour.{Uses, Shortest, ThreeOptimal}
 use Rattle.tours.proofs.Optimal.{shortest-optimal}
 use Rattle.argument.specs.Sheet.{sheet, run}

@@ -11,9 +11,10 @@ use Rattle.lengths.specs.Edge.{Edge, edge, IsEdge, edgeCount}
 use Rattle.lengths.specs.Instance.{leastPoints}
 use Rattle.lengths.specs.Table.{lengthOf}
 use Rattle.lengths.proofs.Tables.{length-symmetric}
-use Rattle.rules.specs.EdgeSet.{Joins, Has, closedEdges}
-use Rattle.rules.specs.Mark.{openIn}
-use Rattle.rules.specs.Pair.{withPair, FeasiblePair}
+use Rattle.sets.specs.EdgeSet.{Joins, Has, closedEdges}
+use Rattle.marks.specs.Mark.{openIn}
+use Rattle.sets.specs.EdgeSet.{withPair}
+use Rattle.rules.specs.Pair.{FeasiblePair}
 use Rattle.tours.specs.Tour.{Uses, ThreeOptimal, Symmetric}
 use Rattle.tours.proofs.Edges.{inside-cons, has-sym}
 use Rattle.tours.proofs.Neighbours.{tour-no-loop, uses-point}

@@ -8,16 +8,16 @@ use native.Mathlib.Omega.{arith}
 use Rattle.lengths.specs.Edge.{Edge, edge, Point}
 use Rattle.lengths.specs.Table.{lengthOf}
 use Rattle.lengths.proofs.Tables.{length-symmetric}
-use Rattle.rules.specs.ClosingTest.{crossedBy, refusalOf}
-use Rattle.rules.specs.EdgeSet.{Has}
-use Rattle.rules.specs.Mark.{openIn}
-use Rattle.rules.specs.Pair.{withPair}
+use Rattle.closings.specs.ClosingTest.{crossedBy, refusalOf}
+use Rattle.sets.specs.EdgeSet.{Has}
+use Rattle.marks.specs.Mark.{openIn}
+use Rattle.sets.specs.EdgeSet.{withPair}
 use Rattle.rules.specs.Pairs.{feasiblePairs}
-use Rattle.rules.specs.Shape.{Shape}
-use Rattle.rules.specs.declared.closing.Crossed.{Crossed}
-use Rattle.rules.specs.declared.closing.Crossed.the-variants.{Settled, NoCrossing, NoSaving}
-use Rattle.rules.proofs.ClosingExact.{settled-exact}
-use Rattle.rules.proofs.Exact.{shape-exact, kept-shape, single-shape}
+use Rattle.sets.specs.Shape.{Shape}
+use Rattle.closings.specs.declared.closing.Crossed.{Crossed}
+use Rattle.closings.specs.declared.closing.Crossed.the-variants.{Settled, NoCrossing, NoSaving}
+use Rattle.closings.proofs.ClosingExact.{settled-exact}
+use Rattle.sets.proofs.Exact.{shape-exact, kept-shape, single-shape}
 use Rattle.rules.proofs.PairLists.{feasiblePairs-rising}
 use Rattle.rules.proofs.PairTests.{feasiblePairs-iff}
 use Rattle.argument.specs.Rules.{NamesFeasible, Reached, single, grown, Lawful}

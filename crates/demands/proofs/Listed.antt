@@ -10,14 +10,15 @@ use lib.Seq.{take-at, drop-at}
 use borrow.Author.Tests.{leb-true}
 use Rattle.lengths.specs.Edge.{Edge, edge}
 use Rattle.lengths.specs.Test.{unless}
-use Rattle.rules.specs.Mark.{openIn}
+use Rattle.marks.specs.Mark.{openIn}
 use Rattle.argument.specs.Record.{splits, fits}
 use Rattle.argument.specs.Rules.{NamesFeasible, single}
 use Rattle.argument.proofs.Complete.{named-list}
 use Rattle.argument.proofs.Tests.{fits-means}
 use Rattle.sheets.specs.Rules.{rulesOf}
 use Rattle.marking.proofs.Tested.{passed}
-use Rattle.marking.specs.Listing.{pairsAt, numbersOf, listTested, listed, listLeft}
+use Rattle.search.specs.Listing.{pairsAt, numbersOf}
+use Rattle.marking.specs.Listing.{listTested, listed, listLeft}
 use Rattle.marking.specs.Tests.{tested}
 use Rattle.marking.specs.declared.listing.Listed.{Listed}
 use Rattle.marking.specs.declared.listing.Listed.the-variants as listing

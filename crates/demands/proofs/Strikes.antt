@@ -11,8 +11,8 @@ use lib.Seq.{getD-set-same, getD-set-other}
 use borrow.Author.Tests.{eq-eqb, ne-eqb}
 use Rattle.lengths.specs.Edge.{edge, IsEdge, edgeCount, place}
 use Rattle.lengths.proofs.Edges.{place-below, place-injective, place-symmetric}
-use Rattle.rules.specs.EdgeSet.{Joins}
-use Rattle.rules.specs.Mark.{openIn}
+use Rattle.sets.specs.EdgeSet.{Joins}
+use Rattle.marks.specs.Mark.{openIn}
 use Rattle.sheets.specs.Rules.{strikeIn}
 use Rattle.demands.specs.Marked.{differences}
 

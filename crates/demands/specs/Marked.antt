@@ -8,8 +8,8 @@ use mathlib.Core.List.{List, [], _∷_}
 use lib.Dec.{eqb}
 use lib.ListN.{length, getD}
 use Rattle.lengths.specs.Edge.{Edge, edge, IsEdge}
-use Rattle.rules.specs.EdgeSet.{Has}
-use Rattle.rules.specs.Mark.{openIn}
+use Rattle.sets.specs.EdgeSet.{Has}
+use Rattle.marks.specs.Mark.{openIn}
 use Rattle.argument.specs.Line.{Struck, strikes}
 use Rattle.sheets.specs.Sheets.{wholeSheet}
 use Rattle.marking.specs.Tests.{tested}

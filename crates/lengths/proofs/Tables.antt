@@ -1,14 +1,17 @@
 -- The laws of `lengthOf` that the layers above use: 0 from a point to itself, the same for ab and ba, and where the table holds it.
 -- Assumes nothing.
-use Prim.Native.Nat.{ℕ, _<_}
+use Prim.Native.Nat.{ℕ, _≤_, _<_}
 use mathlib.Core.Path.{_≡_, refl, sym, _∙_, ap}
+use mathlib.Core.Bool.{Bool, true, false}
 use mathlib.Core.Logic.{⊎-elim}
 use mathlib.Core.List.{List}
 use native.Mathlib.Omega.{arith}
+use lib.Dec.{eqb}
 use lib.ListN.{getD}
 use borrow.Author.Tests.{eq-eqb, ne-eqb}
 use Rattle.lengths.specs.Edge.{place, placeUp}
-use Rattle.lengths.specs.Table.{lengthOf}
+use Rattle.lengths.specs.Instance.{mostLength}
+use Rattle.lengths.specs.Table.{Lengths, lengthOf}
 use Rattle.lengths.proofs.Edges.{place-symmetric, place-up, three-way}
 
 pub length-self : (n : ℕ) (table : List ℕ) (a : ℕ) → lengthOf n table a a ≡ 0
@@ -32,3 +35,12 @@ length-symmetric n table a b = ⊎-elim (λ h. apart (λ e. omega arith))
 -- the row of a: its edge to b > a stands at `placeUp`
 pub length-up : (n : ℕ) (table : List ℕ) (a b : ℕ) → a < b → lengthOf n table a b ≡ getD table (placeUp n a b) 0
 length-up n table a b h = length-apart n table a b (λ e. omega arith) ∙ ap (λ (i : ℕ). getD table i 0) (place-up n a b h)
+
+-- no length is above 2,000,000
+pub length-small : {n : ℕ} {table : List ℕ} → Lengths n table → (a b : ℕ) → lengthOf n table a b ≤ mostLength
+unfolding lengthOf
+length-small {n} {table} h a b = go (eqb a b) refl
+  where
+    go : (t : Bool) → eqb a b ≡ t → lengthOf n table a b ≤ mostLength
+    go true e = rw (lengthOf, e) (omega arith)
+    go false e = rw (lengthOf, e) (h .small (place n a b))

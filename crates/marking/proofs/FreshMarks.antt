@@ -16,7 +16,7 @@ use Rattle.lengths.specs.declared.instance.Admission.the-variants.{OutOfRange}
 use Rattle.lengths.specs.declared.instance.Instance.{Instance}
 use Rattle.lengths.proofs.Edges.{place-below}
 use Rattle.lengths.proofs.Instances.{Admits, out-of-range}
-use Rattle.rules.specs.Mark.{openIn}
+use Rattle.marks.specs.Mark.{openIn}
 use Rattle.marking.specs.Fresh.{freshAnswer, freshMarks, FreshAs}
 use Rattle.marking.specs.declared.fresh.Fresh.the-variants.{Done, Refused}
 

@@ -3,12 +3,10 @@ pub mod CApiAnswers
 pub mod CApiSizes
 pub mod FreshMarks
 pub mod ListingAnswers
-pub mod ListingChoice
-pub mod ListingLoops
-pub mod ListingRows
+pub mod ListingCopy
 pub mod MarkingSheets
-pub mod Tested
 pub mod TestWays
+pub mod Tested
 pub mod TourAnswers
 pub mod TourCounts
 pub mod TourExact

@@ -9,16 +9,17 @@ use lib.ListN.{length, take, drop}
 use borrow.Author.Tests.{le-leb, lt-leb}
 use Rattle.lengths.specs.Edge.{edgeCount}
 use Rattle.lengths.specs.Test.{unless}
-use Rattle.rules.specs.Mark.{openIn, Marked}
+use Rattle.marks.specs.Mark.{openIn, Marked}
 use Rattle.argument.specs.Record.{splits, fits}
 use Rattle.argument.proofs.Tests.{Fits, fits-means}
 use Rattle.lengths.specs.Instance.{fewEdges, fewPoints, mostEdges}
-use Rattle.marking.specs.Listing.{pairsAt, Found, FindAsked, listed, listLeft, ListedInto, ListedAs}
+use Rattle.search.specs.Listing.{pairsAt, Found, FindAsked}
+use Rattle.marking.specs.Listing.{listed, listLeft, ListedInto, ListedAs}
 use Rattle.marking.specs.Tests.{tested}
 use Rattle.marking.specs.declared.listing.Listed.{Listed}
 use Rattle.marking.specs.declared.listing.Listed.the-variants.{Pairs, Refused}
 use Rattle.marking.specs.declared.tests.Tested.the-variants as tests
-use Rattle.marking.proofs.ListingLoops.{few-edges, fewer-edges}
+use Rattle.search.proofs.ListingLoops.{few-edges, fewer-edges}
 use Rattle.marking.proofs.Tested.{Passed}
 
 -- tests 1, 2, 5, 6 and 11 are passed

@@ -13,7 +13,7 @@ use Rattle.lengths.specs.Instance.{inRange, leastPoints, admission, mostLength}
 use Rattle.lengths.specs.Test.{allAtMost, unless}
 use Rattle.lengths.proofs.Instances.{Admits, admitted}
 use Rattle.lengths.proofs.Limits.{limit-each}
-use Rattle.rules.specs.Split.{Lengths}
+use Rattle.lengths.specs.Table.{Lengths}
 use Rattle.marking.specs.Tests.{tested}
 use Rattle.marking.specs.declared.tests.Tested.{Tested}
 use Rattle.marking.specs.declared.tests.Tested.the-variants.{Points, Refused}

@@ -8,10 +8,10 @@ use lib.ListN.{length}
 use Rattle.lengths.specs.Edge.{Edge, edge}
 use Rattle.lengths.specs.Instance.{mostLength}
 use Rattle.lengths.specs.Table.{lengthOf}
-use Rattle.rules.specs.EdgeSet.{pathEdges, closedEdges}
-use Rattle.rules.specs.Mark.{openIn}
+use Rattle.sets.specs.EdgeSet.{pathEdges, closedEdges}
+use Rattle.marks.specs.Mark.{openIn}
 use Rattle.rules.specs.PairTest.{every}
-use Rattle.rules.proofs.Splits.{length-small}
+use Rattle.lengths.proofs.Tables.{length-small}
 use Rattle.tours.specs.Tour.{total, tourLength}
 use Rattle.marking.specs.Tests.{tested}
 use Rattle.marking.specs.TourCheck.{isTour, TourAsked, tourChecked, CheckedAs}

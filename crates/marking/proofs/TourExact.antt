@@ -13,8 +13,8 @@ use borrow.Author.Tests.{eq-eqb, eqb-true}
 use Rattle.lengths.specs.Edge.{Point}
 use Rattle.lengths.proofs.Bools.{and-left, and-right, and-both}
 use Rattle.lengths.proofs.Edges.{place-symmetric}
-use Rattle.rules.specs.EdgeSet.{count, closedEdges}
-use Rattle.rules.specs.Mark.{openIn}
+use Rattle.sets.specs.EdgeSet.{count, closedEdges}
+use Rattle.marks.specs.Mark.{openIn}
 use Rattle.rules.specs.PairTest.{every}
 use Rattle.rules.proofs.PairTests.{every-has, has-every}
 use Rattle.tours.specs.Tour.{Tour, Uses}

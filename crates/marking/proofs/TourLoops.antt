@@ -10,8 +10,8 @@ use lib.ListN.{length, getD, drop, drop-of-length-le}
 use lib.Seq.{drop-cons}
 use Rattle.lengths.specs.Edge.{Edge, edge, Point}
 use Rattle.lengths.specs.Table.{lengthOf, Spans, LengthIs}
-use Rattle.rules.specs.EdgeSet.{pathEdges, closedEdges}
-use Rattle.rules.specs.Mark.{openIn, Marked}
+use Rattle.sets.specs.EdgeSet.{pathEdges, closedEdges}
+use Rattle.marks.specs.Mark.{openIn, Marked}
 use Rattle.rules.specs.PairTest.{every}
 use Rattle.tours.specs.Tour.{Tour, total, tourLength}
 use Rattle.tours.proofs.Count.{tour-once, tour-length}

@@ -1,102 +1,24 @@
 -- The operation "list pairs", for K = {ab} and split c: 1, 2, 5, 6, 11, 12, 18.
-use Prim.Native.Nat.{ℕ, suc, _+_, _-_, _*_, _≤_, _<_}
+use Prim.Native.Nat.{ℕ, _+_, _-_, _*_, _≤_}
 use mathlib.Core.Path.{_≡_}
-use mathlib.Core.Bool.{Bool, not, _&&_, cond}
-use mathlib.Core.List.{List, [], _∷_, _++_}
-use lib.Dec.{eqb, leb}
-use lib.ListN.{length, take, drop}
-use Rattle.lengths.specs.Edge.{Edge, edge, Point, edgeCount, row}
-use Rattle.lengths.specs.Instance.{leastPoints, mostEdges}
-use Rattle.lengths.specs.Table.{lengthOf}
+use mathlib.Core.List.{List, _++_}
+use lib.Dec.{leb}
+use lib.ListN.{length, drop}
 use Rattle.lengths.specs.Test.{unless}
-use Rattle.rules.specs.Mark.{openIn}
-use Rattle.rules.specs.NextPair.{passes?}
-use Rattle.rules.specs.Pairs.{keep, feasiblePairs}
-use Rattle.rules.specs.Split.{Lengths, Bounded, LegsAsked, SingleAsked}
-use Rattle.rules.specs.declared.edge_set.EdgeSet.{EdgeSet}
+use Rattle.marks.specs.Mark.{openIn}
+use Rattle.rules.specs.Pairs.{keep}
 use Rattle.argument.specs.Record.{splits, fits}
 use Rattle.marking.specs.Tests.{tested}
 use Rattle.marking.specs.declared.tests.Tested.{Tested}
 use Rattle.marking.specs.declared.tests.Tested.the-variants as tests
 use Rattle.marking.specs.declared.listing.Listed.{Listed}
 use Rattle.marking.specs.declared.listing.Listed.the-variants.{Pairs, Refused}
-
--- the feasible pairs of {ab} at c
-unfoldable pub pairsAt : ℕ → List ℕ → List ℕ → ℕ → ℕ → ℕ → List Edge
-pairsAt n table marks a b c = feasiblePairs n (lengthOf n table) (openIn n marks) (edge a b ∷ []) c
-
--- x then y for each pair
-unfoldable pub numbersOf : List Edge → List ℕ
-numbersOf [] = []
-numbersOf (edge x y ∷ es) = x ∷ y ∷ numbersOf es
-
--- 1 for a test that passes, 0 for one that does not
-unfoldable pub ones : Bool → ℕ
-ones t = cond t 1 0
-
--- the pair x, z passes the one comparison, and z is not barred
-unfoldable pub stands? : ℕ → List ℕ → List ℕ → ℕ → ℕ → ℕ → ℕ → Bool
-stands? n table legs bound barred x z = passes? n table legs bound x z && not (eqb z barred)
-
--- the point that is barred in the row of x, 0 for none: the row of the lower point of K's edge bars the higher
-unfoldable pub barredIn : ℕ → ℕ → ℕ → ℕ
-barredIn low high x = cond (eqb x low) high 0
-
--- the pair x, z passes the one comparison, and is not K's edge
-unfoldable pub apart? : ℕ → List ℕ → List ℕ → ℕ → ℕ → ℕ → ℕ → ℕ → Bool
-apart? n table legs bound low high x z = stands? n table legs bound (barredIn low high x) x z
-
--- the pairs of x with the points above it that stand
-unfoldable pub standing : ℕ → List ℕ → List ℕ → ℕ → ℕ → ℕ → List Edge
-standing n table legs bound x barred = keep (stands? n table legs bound barred) (row x (suc x) (n - x))
-
--- what the search of a row is asked about: a table, legs and bound of it, the row's point, and room for a pair with each point above it
-pub record RowAsked (n : ℕ) (table legs : List ℕ) (bound x : ℕ) (found : List ℕ) (before : ℕ) : Type 0 where
-  pub lengths : Lengths n table
-  pub bounded : Bounded legs bound
-  pub low : 1 ≤ x
-  pub high : x < n
-  pub few : before + (n - x) ≤ mostEdges
-  pub room : 2 * (before + (n - x)) ≤ length found
-
--- the pairs of the row that stand are written behind those that were there before
-pub record RowFound (n : ℕ) (table legs : List ℕ) (bound x barred : ℕ) (found : List ℕ) (before count : ℕ) (left : List ℕ) : Type 0 where
-  pub counted : count ≡ before + length (standing n table legs bound x barred)
-  pub front : take (2 * count) left ≡ take (2 * before) found ++ numbersOf (standing n table legs bound x barred)
-  pub size : length left ≡ length found
-
--- what the search of all rows is asked about: a table, legs and bound of it, and room for every pair
-pub record ApartAsked (n : ℕ) (table legs : List ℕ) (bound : ℕ) (found : List ℕ) : Type 0 where
-  pub lengths : Lengths n table
-  pub bounded : Bounded legs bound
-  pub some : 1 ≤ n
-  pub room : 2 * edgeCount n ≤ length found
-
--- what the search pair by pair is asked about: K at c, and room for every pair
-pub record SearchAsked (n : ℕ) (table marks : List ℕ) (k : EdgeSet) (c : ℕ) (found : List ℕ) : Type 0 where
-  pub split : SingleAsked n table marks k c
-  pub room : 2 * edgeCount n ≤ length found
-
--- what the search is asked about: the edge ab, the split point, and room for every pair
-pub record FindAsked (n : ℕ) (table marks : List ℕ) (a b c : ℕ) (found : List ℕ) : Type 0 where
-  pub legs : LegsAsked n table marks c
-  pub least : leastPoints ≤ n
-  pub first : Point n a
-  pub second : Point n b
-  pub apart : a ≡ b → ⊥
-  pub room : 2 * edgeCount n ≤ length found
+use Rattle.search.specs.Listing.{numbersOf, pairsAt}
 
 -- what the copy is asked about: so many numbers of an array, and a list with as many places
 pub record CopyAsked (found : List ℕ) (size : ℕ) (list : List ℕ) : Type 0 where
   pub few : size ≤ length found
   pub room : size ≤ length list
-
--- the search wrote so many pairs, x then y for each, to the front of `found`
-pub record Found (pairs : List Edge) (count : ℕ) (found : List ℕ) : Type 0 where
-  pub counted : count ≡ length pairs
-  pub front : take (2 * count) found ≡ numbersOf pairs
-  pub few : count ≤ mostEdges
-  pub room : 2 * count ≤ length found
 
 -- a refusal names record 0: no record is at fault
 abbrev pub listTested : Tested → List ℕ → List ℕ → ℕ → ℕ → ℕ → ℕ → Listed

@@ -9,8 +9,8 @@ use Rattle.lengths.specs.Edge.{edgeCount}
 use Rattle.lengths.specs.Instance.{leastPoints, mostPoints}
 use Rattle.lengths.specs.Table.{lengthOf}
 use Rattle.lengths.specs.Test.{unless}
-use Rattle.rules.specs.EdgeSet.{count, closedEdges}
-use Rattle.rules.specs.Mark.{openIn}
+use Rattle.sets.specs.EdgeSet.{count, closedEdges}
+use Rattle.marks.specs.Mark.{openIn}
 use Rattle.rules.specs.PairTest.{every}
 use Rattle.tours.specs.Tour.{tourLength}
 use Rattle.marking.specs.Tests.{tested}

@@ -9,7 +9,7 @@ use lib.ListN.{length, length-append}
 use Rattle.lengths.specs.Edge.{Edge, edge, edges, edgeCount, row, rows, tri}
 use Rattle.lengths.proofs.Edges.{edgeCount-tri, tri-mono, length-edges}
 use Rattle.lengths.specs.Instance.{mostEdges, mostPoints, pointPlaces}
-use Rattle.rules.specs.EdgeSet.{count}
+use Rattle.sets.specs.EdgeSet.{count}
 use Rattle.report.specs.Text.{Room, Wrote, decimal, field, pointsWord, edgesWord, struckWord, space, verdictWord, recordWord, openWord, lineEnd}
 use Rattle.report.specs.Lines.{pointsLine, struckLine, markLine, markLines, struckLines, verdictLine, allLines, Large, LinesAsked, StrikesAsked}
 use Rattle.report.proofs.Decimals.{decimal-length}

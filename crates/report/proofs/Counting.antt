@@ -7,7 +7,7 @@ use native.Mathlib.Omega.{arith}
 use lib.ListN.{length, drop, getD, drop-of-length-le}
 use lib.Seq.{drop-cons}
 use borrow.Author.Tests.{eq-eqb, ne-eqb}
-use Rattle.rules.specs.EdgeSet.{count}
+use Rattle.sets.specs.EdgeSet.{count}
 use Rattle.report.specs.Lines.{OpenIs}
 
 pub record Counting (marks : List ℕ) (opens i : ℕ) : Type 0 where

@@ -7,7 +7,7 @@ use lib.Dec.{eqb}
 use lib.ListN.{length}
 use Rattle.lengths.specs.Edge.{Edge, edge, edges, edgeCount}
 use Rattle.lengths.specs.Instance.{mostPoints}
-use Rattle.rules.specs.EdgeSet.{count}
+use Rattle.sets.specs.EdgeSet.{count}
 use Rattle.report.specs.Text.{field, pointsWord, edgesWord, struckWord, space, verdictWord, recordWord, openWord, lineEnd, Room}
 
 -- "Line one: n and the edge count"

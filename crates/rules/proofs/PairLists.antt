@@ -11,8 +11,8 @@ use Rattle.lengths.specs.Edge.{Edge, edge, IsEdgeUp, Before, row, rows, edges, 
 use Rattle.lengths.proofs.Edges.{edges-at, placeUp-below, length-edges, edgeCount-tri}
 use Rattle.rules.specs.PairTest.{feasible?}
 use Rattle.rules.specs.Pairs.{keep, feasiblePairs, pairsAfter, feasibleAfter}
-use Rattle.rules.specs.Rising.{Among, Rising}
-use Rattle.rules.proofs.Rising.{edge-first, edge-second}
+use Rattle.sets.specs.Rising.{Among, Rising}
+use Rattle.sets.proofs.Rising.{edge-first, edge-second}
 
 -- the pairs after a pair
 

@@ -4,15 +4,11 @@ use mathlib.Core.Path.{_≡_}
 use mathlib.Core.Bool.{Bool, true}
 use mathlib.Core.List.{List, [], _∷_}
 use Rattle.lengths.specs.Edge.{Edge, edge, Point}
-use Rattle.rules.specs.EdgeSet.{Has, AtMostTwo, NoShortCycle}
+use Rattle.sets.specs.EdgeSet.{Has, AtMostTwo, NoShortCycle, withPair}
 
 -- the larger of l(px) + l(qy) and l(py) + l(qx) is at least l(pq) + l(xy)
 abbrev pub Compatible : (ℕ → ℕ → ℕ) → ℕ → ℕ → ℕ → ℕ → Type 0
 Compatible l p q x y = l p q + l x y ≤ max (l p x + l q y) (l p y + l q x)
-
--- K with cx and cy added
-unfoldable pub withPair : List Edge → ℕ → ℕ → ℕ → List Edge
-withPair K c x y = edge c x ∷ edge c y ∷ K
 
 -- moving c from between x and y to between u and v makes the sum smaller
 abbrev pub MoveSaves : (ℕ → ℕ → ℕ) → ℕ → ℕ → ℕ → ℕ → ℕ → Type 0

@@ -4,7 +4,7 @@ use mathlib.Core.Bool.{Bool, true, not, _&&_, _||_}
 use mathlib.Core.List.{List, [], _∷_}
 use lib.Dec.{leb, ltb, eqb}
 use Rattle.lengths.specs.Edge.{Edge, edge}
-use Rattle.rules.specs.Shape.{shape?}
+use Rattle.sets.specs.Shape.{shape?}
 
 -- the test passes at every edge
 unfoldable pub every : (ℕ → ℕ → Bool) → List Edge → Bool

@@ -1,10 +1,3 @@
-// The second layer: edge sets, the tests of feasible pairs, the search for the next one, the closings.
-pub mod beyond;
-pub mod closing;
-pub mod edge_set;
-pub mod marks;
-pub mod near;
-pub mod nearby;
-pub mod pairs;
-pub mod shape;
-pub mod split;
+// The rules of feasible pairs: the legs at a split point, and how much a pair may cost.
+pub mod bound;
+pub mod legs;

@@ -8,10 +8,10 @@ use native.Mathlib.Numerals.{add-one}
 use native.Mathlib.Omega.{arith}
 use lib.ListN.{length}
 use Rattle.lengths.specs.Edge.{Edge, edge}
-use Rattle.rules.specs.Mark.{openIn}
-use Rattle.rules.specs.Mark as mark
-use Rattle.rules.specs.Stored.{edgeList, Single}
-use Rattle.rules.specs.declared.edge_set.EdgeSet.{EdgeSet}
+use Rattle.marks.specs.Mark.{openIn}
+use Rattle.marks.specs.Mark as mark
+use Rattle.sets.specs.Stored.{edgeList, Single}
+use Rattle.sets.specs.declared.edge_set.EdgeSet.{EdgeSet}
 use Rattle.argument.specs.Argument.{splitLimit}
 use Rattle.argument.specs.Verdict.{Verdict, accepted, refused, andThen}
 use Rattle.argument.specs.Record.{splits, line, records, recordAt, fits}

@@ -8,9 +8,9 @@ use native.Mathlib.Omega.{arith}
 use lib.Dec.{leb, eqb}
 use borrow.Author.Tests.{lt-leb, le-leb, eq-eqb, ne-eqb}
 use Rattle.lengths.specs.Edge.{Edge, edge}
-use Rattle.rules.specs.NextPair.{firstOf}
-use Rattle.rules.specs.declared.pairs.NextPair.{NextPair}
-use Rattle.rules.specs.declared.pairs.NextPair.the-variants.{Pair, End}
+use Rattle.search.specs.NextPair.{firstOf}
+use Rattle.search.specs.declared.pairs.NextPair.{NextPair}
+use Rattle.search.specs.declared.pairs.NextPair.the-variants.{Pair, End}
 use Rattle.argument.specs.Verdict.{Verdict, accepted, refused, guard}
 use Rattle.argument.specs.Record.{How, Record, line, case, other, records, recordAt, isPoint, howFits, fits}
 use Rattle.argument.specs.Rules.{Rules}

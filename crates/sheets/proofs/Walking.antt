@@ -8,22 +8,22 @@ use mathlib.Core.List.{List}
 use native.Mathlib.Omega.{arith}
 use Rattle.lengths.specs.Edge.{Edge, edge}
 use Rattle.lengths.specs.Table.{lengthOf}
-use Rattle.rules.specs.Mark.{openIn}
-use Rattle.rules.specs.Pair.{withPair}
+use Rattle.marks.specs.Mark.{openIn}
+use Rattle.sets.specs.EdgeSet.{withPair}
 use Rattle.rules.specs.Pairs.{feasibleAfter}
-use Rattle.rules.specs.Near.{neighbours}
-use Rattle.rules.specs.Nearby.{NearbyOf}
-use Rattle.rules.specs.NextPair.{Searchable, Next}
-use Rattle.rules.specs.Split.{Bounded, Prepared, SplitAsked, SplitOf}
-use Rattle.rules.specs.Stored.{edgeList, Added, mostKnown}
-use Rattle.rules.specs.ClosingTest.{crossedBy, refusalOf, Crossable}
-use Rattle.rules.specs.declared.edge_set.EdgeSet.{EdgeSet}
-use Rattle.rules.specs.declared.near.Near.{Near}
-use Rattle.rules.specs.declared.pairs.NextPair.{NextPair}
-use Rattle.rules.specs.declared.split.Split as split
-use Rattle.rules.specs.declared.closing.Crossed.{Crossed}
-use Rattle.rules.specs.declared.closing.Crossed.the-variants.{Settled, NoCrossing, NoSaving}
-use Rattle.rules.proofs.BeyondNumbers.{two-apart}
+use Rattle.sets.specs.Near.{neighbours}
+use Rattle.search.specs.Nearby.{NearbyOf}
+use Rattle.search.specs.NextPair.{Searchable, Next}
+use Rattle.search.specs.Split.{Bounded, Prepared, SplitAsked, SplitOf}
+use Rattle.sets.specs.Stored.{edgeList, Added, mostKnown}
+use Rattle.closings.specs.ClosingTest.{crossedBy, refusalOf, Crossable}
+use Rattle.sets.specs.declared.edge_set.EdgeSet.{EdgeSet}
+use Rattle.sets.specs.declared.near.Near.{Near}
+use Rattle.search.specs.declared.pairs.NextPair.{NextPair}
+use Rattle.search.specs.declared.split.Split as split
+use Rattle.closings.specs.declared.closing.Crossed.{Crossed}
+use Rattle.closings.specs.declared.closing.Crossed.the-variants.{Settled, NoCrossing, NoSaving}
+use Rattle.sets.proofs.BeyondNumbers.{two-apart}
 use Rattle.rules.proofs.PairLists.{feasibleAfter-start, feasibleAfter-next}
 use Rattle.argument.specs.Verdict.{Verdict, accepted, refused, unless}
 use Rattle.argument.specs.Record.{records, howFits}

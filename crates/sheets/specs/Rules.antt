@@ -4,9 +4,9 @@ use mathlib.Core.List.{List}
 use lib.ListN.{set}
 use Rattle.lengths.specs.Edge.{place}
 use Rattle.lengths.specs.Table.{lengthOf}
-use Rattle.rules.specs.Closing.{Closes}
-use Rattle.rules.specs.ClosingTest.{crossedBy, refusalOf}
-use Rattle.rules.specs.Mark.{openIn}
+use Rattle.closings.specs.Closing.{Closes}
+use Rattle.closings.specs.ClosingTest.{crossedBy, refusalOf}
+use Rattle.marks.specs.Mark.{openIn}
 use Rattle.rules.specs.Pair.{FeasiblePair}
 use Rattle.rules.specs.Pairs.{feasiblePairs}
 use Rattle.argument.specs.Rules.{Rules}

@@ -7,11 +7,11 @@ use lib.ListN.{length}
 use Rattle.lengths.specs.Edge.{Edge, edge, Point, edgeCount}
 use Rattle.lengths.specs.Instance.{leastPoints}
 use Rattle.lengths.specs.Rows.{Rows}
-use Rattle.rules.specs.Split.{Lengths}
-use Rattle.rules.specs.Stored.{Held, mostKnown}
-use Rattle.rules.specs.declared.edge_set.EdgeSet.{EdgeSet}
-use Rattle.rules.specs.declared.pairs.NextPair.{NextPair}
-use Rattle.rules.specs.declared.pairs.NextPair.the-variants.{Pair, End}
+use Rattle.lengths.specs.Table.{Lengths}
+use Rattle.sets.specs.Stored.{Held, mostKnown}
+use Rattle.sets.specs.declared.edge_set.EdgeSet.{EdgeSet}
+use Rattle.search.specs.declared.pairs.NextPair.{NextPair}
+use Rattle.search.specs.declared.pairs.NextPair.the-variants.{Pair, End}
 use Rattle.argument.specs.Record.{records, howFits}
 use Rattle.argument.specs.Verdict.{Verdict, accepted, refused}
 use Rattle.argument.specs.Rules.{Rules}

@@ -3,21 +3,21 @@ use crate::sheet::Case;
 use crate::sheet::Closing;
 use crate::sheet::Record;
 use crate::sheet::Sheet;
+use closings::closing::Crossed;
+use closings::closing::crossing;
 use lengths::instance::Instance;
 use lengths::refusal;
-use rules::closing::Crossed;
-use rules::closing::crossing;
-use rules::edge_set::EdgeSet;
-use rules::near::neighbours;
-use rules::nearby;
-use rules::nearby::list_nearby;
-use rules::pairs::NextPair;
-use rules::pairs::next_pair;
-use rules::split::Split;
-use rules::split::prepare;
+use rules::legs;
+use search::nearby;
+use search::nearby::list_nearby;
+use search::pairs::NextPair;
+use search::pairs::next_pair;
+use search::split::prepare;
+use sets::edge_set::EdgeSet;
+use sets::near::neighbours;
 ghost use mathlib.Core.Path.{_≡_};
 ghost use Prim.Native.Nat.{suc};
-ghost use Rattle.rules.specs.Stored.{edgeList};
+ghost use Rattle.sets.specs.Stored.{edgeList};
 ghost use Rattle.argument.specs.Record.{isPoint, howFits, fits};
 ghost use Rattle.argument.specs.Walk.{readCase, opening, close, walk};
 ghost use Rattle.argument.specs.Walk as walking;
@@ -156,7 +156,7 @@ pub fn chain(
     ensures { λ r. ⌜ walkedOf r ≡ walk (rulesOf n (now (table .entry)) (now (marks .entry))) (now (sheet .entry))
         (opening (rulesOf n (now (table .entry)) (now (marks .entry))) (suc left) (edgeList k) i c first) ⌝ }
 {
-    let mut legs = [Split::FAR; Instance::PLACES];
+    let mut legs = [legs::FAR; Instance::PLACES];
     let bound = prepare(n, table, rows, marks, k, c, &mut legs);
     let centre = neighbours(k, c);
     let mut near = [0u16; nearby::PLACES];

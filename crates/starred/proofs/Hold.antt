@@ -13,18 +13,19 @@ use Rattle.lengths.specs.Table.{lengthOf}
 use Rattle.lengths.specs.declared.distance.Rule.the-variants.{Euc2d, Ceil2d}
 use Rattle.lengths.proofs.Distances.{distance-euc2d, euc2d-only, distance-ceil2d, ceil2d-only}
 use Rattle.lengths.proofs.Tables.{length-symmetric}
-use Rattle.rules.specs.Closing.{Ends, Crossing}
-use Rattle.rules.specs.ClosingTest.{saves?, labelling?, apart?, placed?, settledBy, crossedBy}
-use Rattle.rules.specs.Joined.{joins?, has?}
-use Rattle.rules.specs.Mark.{openIn}
-use Rattle.rules.specs.Near.{withPoint, seen, neighbours, bothOf, endsOf, within?, either?, beyond}
+use Rattle.sets.specs.EdgeSet.{Ends}
+use Rattle.closings.specs.Closing.{Crossing}
+use Rattle.closings.specs.ClosingTest.{saves?, labelling?, apart?, placed?, settledBy, crossedBy}
+use Rattle.sets.specs.Joined.{joins?, has?}
+use Rattle.marks.specs.Mark.{openIn}
+use Rattle.sets.specs.Near.{withPoint, seen, neighbours, bothOf, endsOf, within?, either?, beyond}
 use Rattle.rules.specs.Pair.{FeasiblePair}
 use Rattle.rules.specs.PairTest.{every, compatible?, leg?, stays?, unmoved?, feasible?}
 use Rattle.rules.specs.Pairs.{keep, feasiblePairs}
-use Rattle.rules.specs.Shape.{shape?, shuts?, reaches?, goesOn}
-use Rattle.rules.specs.declared.closing.Crossed.the-variants.{NoSaving}
-use Rattle.rules.proofs.ClosingExact.{no-saving-exact}
-use Rattle.rules.proofs.Exact.{has-exact, ends-sound, shape-exact, single-shape}
+use Rattle.sets.specs.Shape.{shape?, shuts?, reaches?, goesOn}
+use Rattle.closings.specs.declared.closing.Crossed.the-variants.{NoSaving}
+use Rattle.closings.proofs.ClosingExact.{no-saving-exact}
+use Rattle.sets.proofs.Exact.{has-exact, ends-sound, shape-exact, single-shape}
 use Rattle.rules.proofs.PairTests.{compatible-iff, feasiblePairs-iff}
 use Rattle.starred.specs.Table.{Example, distances, incompatible, compatible, standing, compares, saves, unsaved, starred, square, allOpen, eight, centres, Eight, Claim}
 

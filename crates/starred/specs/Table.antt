@@ -11,10 +11,10 @@ use Rattle.lengths.specs.Edge.{Edge, edge, edgeCount}
 use Rattle.lengths.specs.Measure.{measuredTable}
 use Rattle.lengths.specs.Table.{lengthOf}
 use Rattle.lengths.specs.declared.distance.Rule.the-variants.{Euc2d}
-use Rattle.rules.specs.Closing.{Saves, Crossing, Closes}
-use Rattle.rules.specs.Mark.{openIn}
+use Rattle.closings.specs.Closing.{Saves, Crossing, Closes}
+use Rattle.marks.specs.Mark.{openIn}
 use Rattle.rules.specs.Pair.{Compatible, MoveSaves, FeasiblePair}
-use Rattle.rules.specs.Rising.{Among}
+use Rattle.sets.specs.Rising.{Among}
 
 pub data Example : Type 0 where
   -- at the sum of squares S rule 1 gives d, and rule 2 gives e

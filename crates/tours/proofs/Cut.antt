@@ -7,7 +7,7 @@ use mathlib.Core.Logic.{_⊎_, inl, inr, ⊎-elim, ⊎-map}
 use native.Mathlib.Decide.{decLe}
 use native.Mathlib.Omega.{arith}
 use Rattle.lengths.specs.Edge.{edge}
-use Rattle.rules.specs.EdgeSet.{Joins}
+use Rattle.sets.specs.EdgeSet.{Joins}
 use Rattle.tours.specs.Tour.{Symmetric}
 use Rattle.tours.proofs.Bit.{same, same-self, same-fact, positive}
 use Rattle.tours.proofs.Edges.{mark, mark-fact}

@@ -2,7 +2,7 @@
 -- of edges has pq exactly when its total under `mark p q` is at least 1.
 -- So each law of the lengths of tours is a law of which edges a tour uses.
 -- Assumes nothing.
-pub use Rattle.rules.proofs.Laws.Joined.{has-sym}
+pub use Rattle.sets.proofs.Laws.Joined.{has-sym}
 use Prim.Native.Nat.{ℕ, suc, _≤_}
 use mathlib.Core.Path.{_≡_, refl, sym, _∙_, subst₂}
 use mathlib.Core.Logic.{inl, inr, ⊎-map, Dec·and}
@@ -11,7 +11,7 @@ use lib.ListN.{length}
 use native.Mathlib.Decide.{ℕ-discrete}
 use native.Mathlib.Omega.{arith}
 use Rattle.lengths.specs.Edge.{Edge, edge}
-use Rattle.rules.specs.EdgeSet.{Joins, Has, pathEdges, closedEdges}
+use Rattle.sets.specs.EdgeSet.{Joins, Has, pathEdges, closedEdges}
 use Rattle.tours.specs.Tour.{total, tourLength, Uses, Symmetric}
 use Rattle.tours.proofs.Bit.{positive, bit, bit-true, bit-false, bit-fact, bit-cong, either?}
 

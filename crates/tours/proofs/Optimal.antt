@@ -9,9 +9,11 @@ use lib.ListN.{length}
 use native.Mathlib.Decide.{decLe}
 use native.Mathlib.Omega.{arith}
 use Rattle.lengths.specs.Edge.{Edge, edge, Point}
-use Rattle.rules.specs.EdgeSet.{Joins, Has, closedEdges}
-use Rattle.rules.specs.Pair.{Compatible, withPair, MoveSaves, FeasiblePair}
-use Rattle.rules.specs.Closing.{Ends, Crossing, Closes}
+use Rattle.sets.specs.EdgeSet.{Joins, Has, closedEdges}
+use Rattle.rules.specs.Pair.{Compatible, MoveSaves, FeasiblePair}
+use Rattle.sets.specs.EdgeSet.{withPair}
+use Rattle.sets.specs.EdgeSet.{Ends}
+use Rattle.closings.specs.Closing.{Crossing, Closes}
 use Rattle.tours.specs.Tour.{total, Uses, Shortest, Symmetric, ThreeOptimal}
 use Rattle.tours.proofs.Count.{tour-once}
 use Rattle.tours.proofs.Edges.{Inside, inside-cons, joins?}

@@ -6,7 +6,7 @@ use mathlib.Core.Logic.{_⊎_, inl, inr}
 use mathlib.Core.List.{List, [], _∷_}
 use native.Mathlib.Omega.{arith}
 use Rattle.lengths.specs.Edge.{edge}
-use Rattle.rules.specs.EdgeSet.{closedEdges}
+use Rattle.sets.specs.EdgeSet.{closedEdges}
 use Rattle.tours.specs.Tour.{Tour, total, Uses}
 use Rattle.tours.proofs.Count.{tour-once}
 use Rattle.tours.proofs.Edges.{Inside, has-sym, joins-apart, mark, mark-false, mark-symmetric, uses-length}

@@ -5,7 +5,7 @@ use mathlib.Core.Logic.{_⊎_, inl, inr}
 use mathlib.Core.List.{List, [], _∷_}
 use native.Mathlib.Omega.{arith}
 use Rattle.lengths.specs.Edge.{edge}
-use Rattle.rules.specs.EdgeSet.{Joins, closedEdges}
+use Rattle.sets.specs.EdgeSet.{Joins, closedEdges}
 use Rattle.tours.specs.Tour.{Tour, total, Uses}
 use Rattle.tours.proofs.Edges.{has-sym, mark, mark-false, mark-symmetric, uses-length}
 use Rattle.tours.proofs.Segment.{_▸_, cnt, len, rev, cnt-rev, len-rev}

@@ -2,7 +2,7 @@
 use Prim.Native.Nat.{_-_}
 use native.Mathlib.Omega.{arith}
 use borrow.Author.Needs.{needs}
-use Rattle.marking.proofs.ListingLoops.{Copying, copying-start, copying-length, copying-on, all-copied}
+use Rattle.marking.proofs.ListingCopy.{Copying, copying-start, copying-length, copying-on, all-copied}
 use Rattle.marking.proofs.listing.copy.Statement.{statement}
 use Rattle.marking.proofs.listing.copy.Tie as tie
 

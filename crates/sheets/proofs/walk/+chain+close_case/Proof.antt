@@ -16,12 +16,12 @@ use Rattle.sheets.proofs.walk.close_case.Reads as close-case
 use Rattle.sheets.proofs.walk.close_case.Kinds as close-case-kinds
 use Rattle.sheets.proofs.walk.+chain+close_case.Lts-close_case as close-case-lts
 use Rattle.sheets.proofs.walk.look.Reads as look-reads
-use Rattle.rules.proofs.closing.crossing.Reads as crossing-reads
-use Rattle.rules.proofs.edge_set.EdgeSet.with_pair.Reads as with-pair-reads
-use Rattle.rules.proofs.near.neighbours.Reads as neighbours-reads
-use Rattle.rules.proofs.nearby.list_nearby.Reads as list-nearby-reads
-use Rattle.rules.proofs.pairs.next_pair.Reads as next-pair-reads
-use Rattle.rules.proofs.split.prepare.Reads as prepare-reads
+use Rattle.closings.proofs.closing.crossing.Reads as crossing-reads
+use Rattle.sets.proofs.edge_set.EdgeSet.with_pair.Reads as with-pair-reads
+use Rattle.sets.proofs.near.neighbours.Reads as neighbours-reads
+use Rattle.search.proofs.nearby.list_nearby.Reads as list-nearby-reads
+use Rattle.search.proofs.pairs.next_pair.Reads as next-pair-reads
+use Rattle.search.proofs.split.prepare.Reads as prepare-reads
 use Rattle.sheets.proofs.walk.+chain+close_case.{statement}
 use Rattle.sheets.proofs.walk.+chain+close_case.Tie.{close}
 

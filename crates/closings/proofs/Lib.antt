@@ -1,0 +1,2 @@
+pub mod ClosingExact
+pub mod Crossings

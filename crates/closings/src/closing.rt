@@ -1,0 +1,141 @@
+// The 3-opt closing (01, "Arguments": a crossing): its conditions, and the labelling that saves on both moves.
+use lengths::table::length_between;
+use sets::edge_set::EdgeSet;
+use sets::near::Ends;
+use sets::near::ends_of;
+ghost use mathlib.Core.Path.{_≡_};
+ghost use Prim.Native.Nat.{_+_};
+ghost use Rattle.lengths.specs.Table.{lengthOf};
+ghost use Rattle.closings.specs.ClosingTest.{ThreeEdges, Labelled, Crossable, pick, apart?, placed?, saves?, labelling?, crossedBy};
+ghost use Rattle.sets.specs.Stored.{edgeList, Stored};
+
+// What a 3-opt closing comes to. 01's refusals: NoCrossing is 15, NoSaving is 16, and Settled is none.
+pub enum Crossed {
+    Settled,
+    NoCrossing,
+    NoSaving,
+}
+
+// The length of the edges ab, cd and ef together.
+fn length_of_three(n: u16, table: &[u32], a: u16, b: u16, c: u16, d: u16, e: u16, f: u16) -> u64
+    requires { ⌜ ThreeEdges n (now table) a b c d e f ⌝ }
+    ensures { λ r. ⌜ r ≡ lengthOf n (now (table .entry)) a b + lengthOf n (now (table .entry)) c d + lengthOf n (now (table .entry)) e f ⌝ }
+{
+    length_between(n, table, a, b) + length_between(n, table, c, d) + length_between(n, table, e, f)
+}
+
+// Do both moves save, by this labelling: rs, px, qw for pq, rx, sw, and rs, pz, qy for pq, ry, sz?
+fn both_moves_save(
+    n: u16,
+    table: &[u32],
+    p: u16,
+    q: u16,
+    r: u16,
+    s: u16,
+    x: u16,
+    y: u16,
+    z: u16,
+    w: u16,
+) -> bool
+    requires { ⌜ Labelled n (now table) p q r s x y z w ⌝ }
+    ensures { λ b. ⌜ b ≡ saves? (lengthOf n (now (table .entry))) p q r s x y z w ⌝ }
+{
+    if length_of_three(n, table, r, s, p, x, q, w) < length_of_three(n, table, p, q, r, x, s, w) {
+        return length_of_three(n, table, r, s, p, z, q, y)
+            < length_of_three(n, table, p, q, r, y, s, z);
+    }
+    false
+}
+
+// The end that is named first: a, or b where the two are swapped (swap is 1, and 0 where not).
+fn end_by(swap: u8, a: u16, b: u16) -> u16
+    ensures { λ r. ⌜ r ≡ pick swap a b ⌝ }
+{
+    if swap == 0 {
+        return a;
+    }
+    b
+}
+
+// Do both moves save by some labelling: x and y swapped or not (i), z and w swapped or not (j)?
+fn some_labelling_saves(
+    n: u16,
+    table: &[u32],
+    p: u16,
+    q: u16,
+    r: u16,
+    s: u16,
+    x: u16,
+    y: u16,
+    z: u16,
+    w: u16,
+) -> bool
+    requires { ⌜ Labelled n (now table) p q r s x y z w ⌝ }
+    ensures { λ b. ⌜ b ≡ labelling? (lengthOf n (now (table .entry))) p q r s x y z w ⌝ }
+{
+    let mut saves = false;
+    'swaps: for i in 0..2u8 {
+        let a = end_by(i, x, y);
+        let b = end_by(i, y, x);
+        for j in 0..2u8 {
+            if both_moves_save(n, table, p, q, r, s, a, b, end_by(j, z, w), end_by(j, w, z)) {
+                saves = true;
+                break 'swaps;
+            }
+        }
+    }
+    saves
+}
+
+// Are r and s different, and neither of them p or q?
+fn centres_apart(p: u16, q: u16, r: u16, s: u16) -> bool
+    ensures { λ b. ⌜ b ≡ apart? p q r s ⌝ }
+{
+    if r == s {
+        return false;
+    }
+    if r == p {
+        return false;
+    }
+    if r == q {
+        return false;
+    }
+    if s == p {
+        return false;
+    }
+    s != q
+}
+
+// Is pq an edge of k and rs none, with the centres r and s apart from each other and from pq?
+fn well_placed(k: EdgeSet, p: u16, q: u16, r: u16, s: u16) -> bool
+    requires { ⌜ Stored k ⌝ }
+    ensures { λ b. ⌜ b ≡ placed? (edgeList k) p q r s ⌝ }
+{
+    if !k.has(p, q) {
+        return false;
+    }
+    if !centres_apart(p, q, r, s) {
+        return false;
+    }
+    !k.has(r, s)
+}
+
+// Does the 3-opt closing with the edge pq and the centres r and s settle k?
+pub fn crossing(n: u16, table: &[u32], k: EdgeSet, p: u16, q: u16, r: u16, s: u16) -> Crossed
+    requires { ⌜ Crossable n (now table) k p q r s ⌝ }
+    ensures { λ c. ⌜ c ≡ crossedBy (lengthOf n (now (table .entry))) (edgeList k) p q r s ⌝ }
+{
+    if !well_placed(k, p, q, r, s) {
+        return Crossed::NoCrossing;
+    }
+    let Ends::Two(x, y) = ends_of(k, r) else {
+        return Crossed::NoCrossing;
+    };
+    let Ends::Two(z, w) = ends_of(k, s) else {
+        return Crossed::NoCrossing;
+    };
+    if some_labelling_saves(n, table, p, q, r, s, x, y, z, w) {
+        return Crossed::Settled;
+    }
+    Crossed::NoSaving
+}

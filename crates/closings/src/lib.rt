@@ -1,0 +1,2 @@
+// The closings of a case.
+pub mod closing;

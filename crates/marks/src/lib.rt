@@ -1,0 +1,2 @@
+// The marks of the edges.
+pub mod mark;

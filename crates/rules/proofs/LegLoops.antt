@@ -1,0 +1,249 @@
+-- The loops over an array of legs: the legs where K is empty, and an edge taken into all legs. Assumes nothing.
+use Prim.Native.Nat.{ℕ, _+_, _-_, _^_, _≤_, _<_}
+use mathlib.Core.Path.{_≡_, refl, sym, _∙_, ap, subst}
+use mathlib.Core.Bool.{Bool, true, false, cond}
+use mathlib.Core.List.{List, []}
+use native.Mathlib.Omega.{arith}
+use native.Mathlib.Decide.{decLt, ℕ-discrete}
+use lib.Dec.{eqb}
+use lib.ListN.{length, getD, set, replicate, length-set, length-replicate, getD-replicate, List·getD-eq-default}
+use lib.Seq.{getD-set-same, getD-set-other}
+use Rattle.lengths.specs.Edge.{Point, IsEdgeUp, Placed, tri, place, placeUp}
+use Rattle.lengths.proofs.Edges.{tri-row, placeUp-sum, placeUp-below, edgeCount-tri, edges-fit, place-up, place-down}
+use Rattle.lengths.specs.Instance.{mostLength, mostPoints, pointPlaces}
+use Rattle.rules.specs.Legs.{legOf, narrowedBy, LegList, rowOf, OpenAsked, OpenFrom, OpenBelow, OpenLegs, NarrowAsked, Narrowed, far}
+use Rattle.marks.specs.Mark.{openIn}
+use Rattle.rules.proofs.LegsAndBound.{legOf-self, legOf-open, legOf-shut, narrowed-near}
+
+-- lists of legs
+
+pub far-legs : LegList (replicate pointPlaces far)
+far-legs = record { size = length-replicate {A = ℕ} pointPlaces far; near = near }
+  where
+    near : (x : ℕ) → getD (replicate pointPlaces far) x 0 ≤ far
+    near x = elim (decLt x pointPlaces) [
+      | yes h ↦ omega (arith, getD-replicate {A = ℕ} pointPlaces x far 0 h)
+      | no h ↦ omega (arith, List·getD-eq-default {A = ℕ} (replicate pointPlaces far) 0 {n = x} (omega (arith, length-replicate {A = ℕ} pointPlaces far)))
+    ]
+
+-- storing a leg
+module _ {legs : List ℕ} (s : LegList legs) (x m : ℕ) (inside : x ≤ mostPoints) where
+  stored-here : getD (set legs x m) x 0 ≡ m
+  stored-here = getD-set-same legs x m 0 (omega (arith, s .size))
+
+  stored-list : m ≤ far → LegList (set legs x m)
+  stored-list near = record { size = length-set legs x m ∙ s .size; near = below }
+    where
+      below : (i : ℕ) → getD (set legs x m) i 0 ≤ far
+      below i = elim (ℕ-discrete i x) [
+        | yes q ↦ omega (arith, ap (λ (j : ℕ). getD (set legs x m) j 0) q, stored-here)
+        | no q ↦ omega (arith, getD-set-other legs x i m 0 q, s .near i)
+      ]
+
+  stored-below : {f : ℕ → ℕ} → ((i : ℕ) → 1 ≤ i → i < x → getD legs i 0 ≡ f i) → m ≡ f x → (i : ℕ) → 1 ≤ i → i < x + 1 → getD (set legs x m) i 0 ≡ f i
+  stored-below {f} done e i g k = elim (ℕ-discrete i x) [
+    | yes q ↦ ap (λ (j : ℕ). getD (set legs x m) j 0) q ∙ stored-here ∙ e ∙ ap f (sym q)
+    | no q ↦ getD-set-other legs x i m 0 q ∙ done i g (omega arith)
+  ]
+
+-- legs where K is empty
+
+choice : (t : Bool) {m : ℕ} → m ≤ mostLength → cond t m far ≤ far
+choice true h = omega arith
+choice false h = omega arith
+
+away-leg : (rows : List ℕ) (n : ℕ) (marks : List ℕ) (c at x : ℕ) → (x ≡ c → ⊥)
+    → cond (eqb (getD marks (place n c x) 0) 1) (getD rows (at + x) 0) far ≡ legOf (rowOf rows at) (openIn n marks) [] c x
+unfolding openIn rowOf
+away-leg rows n marks c at x h = go (openIn n marks c x) refl
+  where
+    go : (t : Bool) → openIn n marks c x ≡ t → cond (openIn n marks c x) (rowOf rows at c x) far ≡ legOf (rowOf rows at) (openIn n marks) [] c x
+    go true e = rw e (sym (legOf-open (rowOf rows at) (openIn n marks) c x h e))
+    go false e = rw e (sym (legOf-shut (rowOf rows at) (openIn n marks) c x h e))
+
+open-self : {n : ℕ} {marks rows : List ℕ} {c at : ℕ} {legs : List ℕ} → OpenAsked n marks rows c at → OpenBelow n marks rows c at legs c → OpenBelow n marks rows c at legs (c + 1)
+open-self {n} {marks} {rows} {c} {at} {legs} a s = record {
+  list = s .list;
+  done = λ i g k. elim (ℕ-discrete i c) [
+    | yes q ↦ s .rest i (omega arith) (omega (arith, a .few, a .centre .high)) ∙ sym (legOf-self (rowOf rows at) (openIn n marks) c i q)
+    | no q ↦ s .done i g (omega arith)
+  ];
+  rest = λ i g k. s .rest i (omega arith) k;
+}
+
+pub open-start : {n : ℕ} {marks rows : List ℕ} {c at : ℕ} {legs : List ℕ} → legs ≡ replicate pointPlaces far → OpenAsked n marks rows c at → OpenFrom n marks rows c at legs 1
+open-start e a = record {
+  asked = a;
+  below = record { list = rw e far-legs; done = λ i g k. absurd (omega arith); rest = λ i g k. rw e (getD-replicate {A = ℕ} pointPlaces i far 0 (omega arith)) };
+}
+
+pub open-middle : {n : ℕ} {marks rows : List ℕ} {c at : ℕ} {legs : List ℕ} → OpenAsked n marks rows c at → OpenBelow n marks rows c at legs c → OpenFrom n marks rows c at legs (c + 1)
+open-middle a s = record { asked = a; below = open-self a s }
+
+pub open-end : {n : ℕ} {marks rows : List ℕ} {c at : ℕ} {legs : List ℕ} → OpenBelow n marks rows c at legs (n + 1) → OpenLegs n marks rows c at legs
+open-end s = record { list = s .list; each = λ x p. s .done x (p .low) (omega (arith, p .high)) }
+
+-- one more leg, of a point that is not c, by the mark that stands at the place of its edge to c
+open-on : {n : ℕ} {marks rows : List ℕ} {c at : ℕ} {legs : List ℕ} {x spot m : ℕ} → OpenAsked n marks rows c at → OpenBelow n marks rows c at legs x → Point n x → (x ≡ c → ⊥)
+    → spot ≡ place n c x → m ≡ cond (eqb (getD marks spot 0) 1) (getD rows (at + x) 0) far → OpenBelow n marks rows c at (set legs x m) (x + 1)
+open-on {n} {marks} {rows} {c} {at} {legs} {x} {spot} {m} a s p away e is = record {
+  list = stored-list (s .list) x m inside near;
+  done = stored-below (s .list) x m inside (s .done) leg;
+  rest = λ i g k. getD-set-other legs x i m 0 (λ r. omega arith) ∙ s .rest i (omega arith) k;
+}
+  where
+    inside : x ≤ mostPoints
+    inside = omega (arith, p .high, a .few)
+
+    leg : m ≡ legOf (rowOf rows at) (openIn n marks) [] c x
+    leg = is ∙ ap (λ (j : ℕ). cond (eqb (getD marks j 0) 1) (getD rows (at + x) 0) far) e ∙ away-leg rows n marks c at x away
+
+    near : m ≤ far
+    near = rw is (choice (eqb (getD marks spot 0) 1) (a .row .small x p))
+
+-- the points below c: `next` is one more than the place of the edge xc
+pub record OpeningBelow (n : ℕ) (marks rows : List ℕ) (c at : ℕ) (legs : List ℕ) (next x : ℕ) : Type 0 where
+  pub asked : OpenAsked n marks rows c at
+  pub below : OpenBelow n marks rows c at legs x
+  pub low : 1 ≤ x
+  pub high : x ≤ c
+  pub here : next + tri (n + 1 - x) ≡ tri n + (c - x)
+
+pub below-start : {n : ℕ} {marks rows : List ℕ} {c at : ℕ} {legs : List ℕ} → OpenFrom n marks rows c at legs 1 → OpeningBelow n marks rows c at legs (c - 1) 1
+below-start {n} f =
+    let e : n + 1 - 1 ≡ n = omega arith in
+    record { asked = f .asked; below = f .below; low = omega arith; high = f .asked .centre .low; here = omega (arith, ap tri e) }
+
+module _ {n : ℕ} {marks rows : List ℕ} {c at : ℕ} {legs : List ℕ} {next x : ℕ} (s : OpeningBelow n marks rows c at legs next x) (h : x < c) where
+  below-edge : IsEdgeUp n x c
+  below-edge = record { low = s .low; up = h; high = s .asked .centre .high }
+
+  below-place : next ≡ placeUp n x c + 1
+  below-place = omega (arith, placeUp-sum below-edge, s .here)
+
+  pub below-some : 1 ≤ next
+  below-some = omega (arith, below-place)
+
+  pub below-inside : next - 1 < length marks
+  below-inside = omega (arith, below-place, placeUp-below below-edge, s .asked .marked, edgeCount-tri n)
+
+  pub below-small : next < 2 ^ 32
+  below-small = omega (arith, below-place, placeUp-below below-edge, edges-fit {n = n} (omega (arith, s .asked .few)))
+
+  pub below-on : {m : ℕ} → m ≡ cond (eqb (getD marks (next - 1) 0) 1) (getD rows (at + x) 0) far
+      → OpeningBelow n marks rows c at (set legs x m) (next + (n - x - 1)) (x + 1)
+  below-on is =
+      let t : n + 1 - (x + 1) ≡ n - x = omega arith in
+      let e : next - 1 ≡ placeUp n x c = omega (arith, below-place) in
+      record {
+        asked = s .asked;
+        below = open-on (s .asked) (s .below) (record { low = s .low; high = omega (arith, s .asked .centre .high) }) (λ g. omega arith) (e ∙ sym (place-down n c x (omega arith))) is;
+        low = omega arith;
+        high = omega arith;
+        here = omega (arith, s .here, ap tri t, tri-row n x (omega (arith, s .asked .centre)), s .asked .centre);
+      }
+
+pub below-end : {n : ℕ} {marks rows : List ℕ} {c at : ℕ} {legs : List ℕ} {next x : ℕ} → OpeningBelow n marks rows c at legs next x → c ≤ x → OpenBelow n marks rows c at legs c
+below-end {n} {marks} {rows} {c} {at} {legs} {next} {x} s h = let e : x ≡ c = omega (arith, s .high) in rw e at (s .below)
+
+-- the points above c: the edge to c + 1 stands at `first`, the others behind it
+pub record OpeningAbove (n : ℕ) (marks rows : List ℕ) (c at : ℕ) (legs : List ℕ) (first i : ℕ) : Type 0 where
+  pub asked : OpenAsked n marks rows c at
+  pub below : OpenBelow n marks rows c at legs (c + 1 + i)
+  pub placed : Placed n c (c + 1) first
+  pub some : c < n
+  pub high : c + i ≤ n
+
+pub above-none : {n : ℕ} {marks rows : List ℕ} {c at : ℕ} {legs : List ℕ} → OpenFrom n marks rows c at legs (c + 1) → n ≤ c → OpenBelow n marks rows c at legs (n + 1)
+above-none {n} {marks} {rows} {c} {at} {legs} f h =
+    let e : c + 1 ≡ n + 1 = omega (arith, f .asked .centre) in
+    subst (λ (x : ℕ). OpenBelow n marks rows c at legs x) e (f .below)
+
+pub above-start : {n : ℕ} {marks rows : List ℕ} {c at : ℕ} {legs : List ℕ} {first : ℕ} → OpenFrom n marks rows c at legs (c + 1) → c < n → Placed n c (c + 1) first
+    → OpeningAbove n marks rows c at legs first 0
+above-start {n} {marks} {rows} {c} {at} {legs} f h p =
+    let e : c + 1 ≡ c + 1 + 0 = omega arith in
+    record { asked = f .asked; below = subst (λ (x : ℕ). OpenBelow n marks rows c at legs x) e (f .below); placed = p; some = h; high = omega arith }
+
+module _ {n : ℕ} {marks rows : List ℕ} {c at : ℕ} {legs : List ℕ} {first i : ℕ} (s : OpeningAbove n marks rows c at legs first i) (h : i < n - c) where
+  above-here : IsEdgeUp n c (c + 1 + i)
+  above-here = record { low = s .asked .centre .low; up = omega arith; high = omega arith }
+
+  above-place : first + i ≡ placeUp n c (c + 1 + i)
+  above-place =
+      let e : IsEdgeUp n c (c + 1) = record { low = s .asked .centre .low; up = omega arith; high = omega (arith, s .some) } in
+      omega (arith, placeUp-sum e, placeUp-sum above-here, s .placed .at, place-up n c (c + 1) (omega arith))
+
+  pub above-inside : first + i < length marks
+  above-inside = omega (arith, above-place, placeUp-below above-here, s .asked .marked, edgeCount-tri n)
+
+  pub above-on : {m : ℕ} → m ≡ cond (eqb (getD marks (first + i) 0) 1) (getD rows (at + (c + 1 + i)) 0) far
+      → OpeningAbove n marks rows c at (set legs (c + 1 + i) m) first (i + 1)
+  above-on {m} is =
+      let t : c + 1 + i + 1 ≡ c + 1 + (i + 1) = omega arith in
+      record {
+        asked = s .asked;
+        below =
+            subst
+            (λ (x : ℕ). OpenBelow n marks rows c at (set legs (c + 1 + i) m) x)
+            t
+            (open-on (s .asked) (s .below) (record { low = omega arith; high = omega arith }) (λ g. omega arith) (above-place ∙ sym (place-up n c (c + 1 + i) (omega arith))) is);
+        placed = s .placed;
+        some = s .some;
+        high = omega arith;
+      }
+
+pub above-end : {n : ℕ} {marks rows : List ℕ} {c at : ℕ} {legs : List ℕ} {first i : ℕ} → OpeningAbove n marks rows c at legs first i → n - c ≤ i → OpenBelow n marks rows c at legs (n + 1)
+above-end {n} {marks} {rows} {c} {at} {legs} {first} {i} s h =
+    let e : c + 1 + i ≡ n + 1 = omega (arith, s .high) in
+    subst (λ (x : ℕ). OpenBelow n marks rows c at legs x) e (s .below)
+
+-- narrowing: the legs below x have taken in pq, the others are as they were
+
+pub record Narrowing (n : ℕ) (rows legs₀ : List ℕ) (ps qs pq cp cq : ℕ) (legs : List ℕ) (x : ℕ) : Type 0 where
+  pub low : 1 ≤ x
+  pub within : x ≤ n + 1
+  pub list : LegList legs
+  pub done : (i : ℕ) → 1 ≤ i → i < x
+      → getD legs i 0 ≡ narrowedBy (getD legs₀ i 0) (getD legs₀ i 0 + pq) (cp + getD rows (qs + i) 0) (cq + getD rows (ps + i) 0)
+  pub rest : (i : ℕ) → x ≤ i → getD legs i 0 ≡ getD legs₀ i 0
+
+pub narrowing-start : {n : ℕ} {rows legs : List ℕ} {ps qs pq cp cq : ℕ} → NarrowAsked n rows legs ps qs pq cp cq → Narrowing n rows legs ps qs pq cp cq legs 1
+narrowing-start a = record { low = omega arith; within = omega arith; list = a .list; done = λ i g k. absurd (omega arith); rest = λ i h. refl }
+
+module _ {n : ℕ} {rows legs₀ : List ℕ} {ps qs pq cp cq : ℕ} {legs : List ℕ} {x : ℕ} (a : NarrowAsked n rows legs₀ ps qs pq cp cq)
+    (s : Narrowing n rows legs₀ ps qs pq cp cq legs x) (h : x ≤ n) where
+  here : Point n x
+  here = record { low = s .low; high = h }
+
+  pub narrowing-both : getD legs x 0 + pq ≤ 12000000
+  narrowing-both = omega (arith, s .list .near x, a .short .first)
+
+  pub narrowing-one : cp + getD rows (qs + x) 0 ≤ 4000000
+  narrowing-one = omega (arith, a .row-q .small x here, a .short .second)
+
+  pub narrowing-other : cq + getD rows (ps + x) 0 ≤ 4000000
+  narrowing-other = omega (arith, a .row-p .small x here, a .short .third)
+
+  pub narrowing-on : {m : ℕ} → m ≡ narrowedBy (getD legs x 0) (getD legs x 0 + pq) (cp + getD rows (qs + x) 0) (cq + getD rows (ps + x) 0)
+      → Narrowing n rows legs₀ ps qs pq cp cq (set legs x m) (x + 1)
+  narrowing-on {m} e =
+      let inside : x ≤ mostPoints = omega (arith, a .few) in
+      record {
+        low = omega arith;
+        within = omega arith;
+        list = stored-list (s .list) x m inside (rw e (narrowed-near (getD legs x 0) (getD legs x 0 + pq) (cp + getD rows (qs + x) 0) (cq + getD rows (ps + x) 0) (s .list .near x)));
+        done =
+            stored-below
+            (s .list)
+            x
+            m
+            inside
+            (s .done)
+            (e ∙ ap (λ (l : ℕ). narrowedBy l (l + pq) (cp + getD rows (qs + x) 0) (cq + getD rows (ps + x) 0)) (s .rest x (omega arith)));
+        rest = λ i g. getD-set-other legs x i m 0 (λ r. omega arith) ∙ s .rest i (omega arith);
+      }
+
+pub narrowing-end : {n : ℕ} {rows legs₀ : List ℕ} {ps qs pq cp cq : ℕ} {legs : List ℕ} {x : ℕ} → Narrowing n rows legs₀ ps qs pq cp cq legs x → n < x
+    → Narrowed n rows legs₀ ps qs pq cp cq legs
+narrowing-end s h = record { list = s .list; each = λ i p. s .done i (p .low) (omega (arith, p .high)) }

@@ -1,0 +1,88 @@
+-- `rules::split::open_below` meets its contract: the invariant is `OpeningBelow`, that the legs below x are filled in and `next` is one more than the place of xc. Assumes nothing.
+use Prim.Native.Nat.{_-_}
+use native.Mathlib.Omega.{arith}
+use Rattle.rules.proofs.LegLoops.{OpeningBelow, below-start, below-some, below-inside, below-small, below-on, below-end}
+use borrow.Author.Needs.{needs}
+use Rattle.rules.proofs.legs.open_below.Statement.{statement}
+use Rattle.rules.proofs.legs.open_below.Tie as tie
+
+abbrev Inv-loop : tie.InvT-loop
+Inv-loop n marks c rows at legs₀ size last next₀ x₀ legs next x = OpeningBelow n marks rows c at legs next x
+
+abbrev μ-loop : tie.MeasureT-loop
+μ-loop n marks c rows at legs₀ size last next₀ x₀ legs next x = c - x
+
+sub-next : tie.Need-sub-next Inv-loop μ-loop
+sub-next c = search needs
+
+loop-holds : tie.Need-loop-holds Inv-loop μ-loop
+loop-holds c = below-start (c .before .before .pre)
+
+sub-open-leg : tie.Need-sub-open-leg Inv-loop μ-loop
+sub-open-leg c = omega (arith, below-some (c .before .loop .inv) (c .loop-test .taken))
+
+shared-slice-read-open-leg : tie.Need-shared-slice-read-open-leg Inv-loop μ-loop
+shared-slice-read-open-leg c = omega (arith, below-inside (c .before .before .loop .inv) (c .before .loop-test .taken))
+
+add-open-leg : tie.Need-add-open-leg Inv-loop μ-loop
+add-open-leg c = search needs
+
+mul-open-leg : tie.Need-mul-open-leg Inv-loop μ-loop
+mul-open-leg c = search needs
+
+shared-slice-read-open-leg-2 : tie.Need-shared-slice-read-open-leg-2 Inv-loop μ-loop
+shared-slice-read-open-leg-2 c = search needs
+
+open-leg-requires : tie.Need-open-leg-requires Inv-loop μ-loop
+open-leg-requires c κs = search needs
+
+mul-legs : tie.Need-mul-legs Inv-loop μ-loop
+mul-legs c = search needs
+
+element-write-legs : tie.Need-element-write-legs Inv-loop μ-loop
+element-write-legs c = search needs
+
+sub-next-2 : tie.Need-sub-next-2 Inv-loop μ-loop
+sub-next-2 c = search needs
+
+sub-next-3 : tie.Need-sub-next-3 Inv-loop μ-loop
+sub-next-3 c = search needs
+
+add-next : tie.Need-add-next Inv-loop μ-loop
+add-next c = omega (arith, below-small (c .before .before .before .before .loop .inv) (c .before .before .before .loop-test .taken))
+
+add-x : tie.Need-add-x Inv-loop μ-loop
+add-x c = search needs
+
+loop-less : tie.Need-loop-less Inv-loop μ-loop
+loop-less c = search needs
+
+loop-again : tie.Need-loop-again Inv-loop μ-loop
+loop-again c = below-on (c .before .before .before .before .loop .inv) (c .before .before .before .loop-test .taken) (c .open-leg .ensures)
+
+returns : tie.Need-returns Inv-loop μ-loop
+returns c = below-end (c .before .loop .inv) (c .loop-test .left)
+
+pub open-below-spec : {M : Type 1} → statement M
+open-below-spec =
+    tie.close
+    (tie.spec
+    Inv-loop
+    μ-loop
+    sub-next
+    loop-holds
+    sub-open-leg
+    shared-slice-read-open-leg
+    add-open-leg
+    mul-open-leg
+    shared-slice-read-open-leg-2
+    open-leg-requires
+    mul-legs
+    element-write-legs
+    sub-next-2
+    sub-next-3
+    add-next
+    add-x
+    loop-less
+    loop-again
+    returns)

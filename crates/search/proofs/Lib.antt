@@ -1,0 +1,11 @@
+pub mod FirstFrom
+pub mod ListingChoice
+pub mod ListingLoops
+pub mod ListingRows
+pub mod OneComparison
+pub mod PairSearch
+pub mod Preparing
+pub mod Ranks
+pub mod RowSearch
+pub mod RowShapes
+pub mod SingleEdge

@@ -1,0 +1,127 @@
+-- The pairs that `find_pairs` finds are the feasible ones of K = {ab}, by either search: at a point apart from K's edge every pair that passes the comparison is
+-- feasible but ab itself, which the row of its lower point bars. Assumes nothing.
+use Prim.Native.Nat.{ℕ, _≤_, _<_}
+use mathlib.Core.Path.{_≡_, refl, sym, _∙_, ap, ap₂, subst}
+use mathlib.Core.Bool.{Bool, false, not, _&&_}
+use mathlib.Core.List.{List, [], _∷_}
+use mathlib.Core.Logic.{_⊎_, inl, inr}
+use native.Mathlib.Omega.{arith}
+use native.Mathlib.Decide.{ℕ-discrete, decLt}
+use lib.Dec.{eqb}
+use lib.ListN.{length}
+use borrow.Author.Tests.{eq-eqb, ne-eqb}
+use Rattle.lengths.specs.Edge.{Edge, edge, IsEdgeUp, edges}
+use Rattle.lengths.specs.Table.{lengthOf}
+use Rattle.sets.specs.Joined.{joins?}
+use Rattle.marks.specs.Mark.{openIn}
+use Rattle.search.specs.NextPair.{passes?}
+use Rattle.rules.specs.Pairs.{keep, feasiblePairs}
+use Rattle.search.specs.Split.{Prepared, SplitOf}
+use Rattle.sets.specs.Stored.{edgeList, Single}
+use Rattle.sets.specs.declared.edge_set.EdgeSet.{EdgeSet}
+use Rattle.search.proofs.SingleEdge.{single-pairs}
+use Rattle.search.specs.Listing.{pairsAt, numbersOf, stands?, barredIn, apart?, SearchAsked, FindAsked, Found}
+
+-- c is a point of ab: the search pair by pair
+
+pub end-asked : {n : ℕ} {table marks : List ℕ} {a b c : ℕ} {found : List ℕ} {k : EdgeSet} → FindAsked n table marks a b c found → Single a b k → SearchAsked n table marks k c found
+end-asked {n} g s = record { split = record { legs = g .legs; held = s .held n (g .first) (g .second); one = s .one }; room = g .room }
+
+same-found : {ps qs : List Edge} {count : ℕ} {found : List ℕ} → ps ≡ qs → Found ps count found → Found qs count found
+same-found e f = record { counted = f .counted ∙ ap length e; front = f .front ∙ ap numbersOf e; few = f .few; room = f .room }
+
+pub end-found : {n : ℕ} {table marks : List ℕ} {a b c : ℕ} {found₀ : List ℕ} {k : EdgeSet} {count : ℕ} {found : List ℕ} → FindAsked n table marks a b c found₀ → Single a b k
+    → Found (feasiblePairs n (lengthOf n table) (openIn n marks) (edgeList k) c) count found → Found (pairsAt n table marks a b c) count found
+unfolding pairsAt
+end-found {n} {table} {marks} {c = c} g s f = same-found (ap (λ (K : List Edge). feasiblePairs n (lengthOf n table) (openIn n marks) K c) (s .edges)) f
+
+-- c is not: the search row by row
+
+module _ (low high x z : ℕ) (rises : low < high) (first : 1 ≤ x) (up : x < z) where
+  barred-here : x ≡ low → eqb z (barredIn low high x) ≡ eqb z high
+  unfolding barredIn
+  barred-here e = rw (eq-eqb x low e)
+
+  barred-elsewhere : (x ≡ low → ⊥) → eqb z (barredIn low high x) ≡ false
+  unfolding barredIn
+  barred-elsewhere h = rw (ne-eqb x low h) (ne-eqb z 0 (λ e. omega arith))
+
+  barred-up : eqb z (barredIn low high x) ≡ joins? low high x z
+  unfolding joins?
+  barred-up = elim (ℕ-discrete x low) [
+    | yes e ↦ elim (ℕ-discrete z high) [
+      | yes f ↦ rw (barred-here e, eq-eqb z high f, eq-eqb low x (sym e), eq-eqb high z (sym f))
+      | no f ↦ rw (
+        barred-here e,
+        ne-eqb z high f,
+        eq-eqb low x (sym e),
+        ne-eqb high z (λ g. f (sym g)),
+        ne-eqb low z (λ g. omega arith),
+      )
+    ]
+    | no e ↦ elim (ℕ-discrete low z) [
+      | yes f ↦ rw (barred-elsewhere e, ne-eqb low x (λ g. e (sym g)), eq-eqb low z f, ne-eqb high x (λ g. omega arith))
+      | no f ↦ rw (barred-elsewhere e, ne-eqb low x (λ g. e (sym g)), ne-eqb low z f)
+    ]
+  ]
+
+  barred-down : eqb z (barredIn low high x) ≡ joins? high low x z
+  unfolding joins?
+  barred-down = elim (ℕ-discrete x low) [
+    | yes e ↦ elim (ℕ-discrete z high) [
+      | yes f ↦ rw (
+        barred-here e,
+        eq-eqb z high f,
+        ne-eqb high x (λ g. omega arith),
+        eq-eqb high z (sym f),
+        eq-eqb low x (sym e),
+      )
+      | no f ↦ rw (barred-here e, ne-eqb z high f, ne-eqb high x (λ g. omega arith), ne-eqb high z (λ g. f (sym g)))
+    ]
+    | no e ↦ elim (ℕ-discrete high z) [
+      | yes f ↦ rw (
+        barred-elsewhere e,
+        ne-eqb high x (λ g. omega arith),
+        eq-eqb high z f,
+        ne-eqb low x (λ g. e (sym g)),
+      )
+      | no f ↦ elim (ℕ-discrete high x) [
+        | yes g ↦ rw (barred-elsewhere e, eq-eqb high x g, ne-eqb low z (λ h. omega arith), ne-eqb high z f)
+        | no g ↦ rw (barred-elsewhere e, ne-eqb high x g, ne-eqb high z f)
+      ]
+    ]
+  ]
+
+-- low and high are the points of ab
+record Ordered (a b low high : ℕ) : Type 0 where
+  rises : low < high
+  points : ((a ≡ low) × (b ≡ high)) ⊎ ((a ≡ high) × (b ≡ low))
+
+barred-edge : {a b low high : ℕ} → Ordered a b low high → (x z : ℕ) → 1 ≤ x → x < z → eqb z (barredIn low high x) ≡ joins? a b x z
+barred-edge {a} {b} {low} {high} o x z first up = go (o .points)
+  where
+    go : ((a ≡ low) × (b ≡ high)) ⊎ ((a ≡ high) × (b ≡ low)) → eqb z (barredIn low high x) ≡ joins? a b x z
+    go (inl e) = barred-up low high x z (o .rises) first up ∙ ap₂ (λ (p q : ℕ). joins? p q x z) (sym (e .0)) (sym (e .1))
+    go (inr e) = barred-down low high x z (o .rises) first up ∙ ap₂ (λ (p q : ℕ). joins? p q x z) (sym (e .0)) (sym (e .1))
+
+pub prepared-single : {n : ℕ} {table marks : List ℕ} {a b c : ℕ} {k : EdgeSet} {legs : List ℕ} {bound : ℕ} → Single a b k → SplitOf n table marks k c legs bound
+    → Prepared n (lengthOf n table) (openIn n marks) (edge a b ∷ []) c legs bound
+prepared-single {n} {table} {marks} {c = c} {legs = legs} {bound = bound} k p = subst (λ (K : List Edge). Prepared n (lengthOf n table) (openIn n marks) K c legs bound) (k .edges) (p .prepared)
+
+module _ {n : ℕ} {table marks : List ℕ} {a b c : ℕ} {found₀ legs : List ℕ} {bound : ℕ} (g : FindAsked n table marks a b c found₀) (c-a : c ≡ a → ⊥) (c-b : c ≡ b → ⊥)
+    (p : Prepared n (lengthOf n table) (openIn n marks) (edge a b ∷ []) c legs bound) where
+  apart-pairs : {low high : ℕ} → Ordered a b low high → keep (apart? n table legs bound low high) (edges n) ≡ pairsAt n table marks a b c
+  unfolding pairsAt apart? stands?
+  apart-pairs {low} {high} o = single-pairs (g .legs .lengths) p (g .least) (g .apart) c-a c-b (apart? n table legs bound low high) same
+    where
+      same : (x y : ℕ) → IsEdgeUp n x y → passes? n table legs bound x y && not (eqb y (barredIn low high x)) ≡ passes? n table legs bound x y && not (joins? a b x y)
+      same x y u = ap (λ (t : Bool). passes? n table legs bound x y && not t) (barred-edge o x y (u .low) (u .up))
+
+  pub apart-up : {count : ℕ} {found : List ℕ} → a < b → Found (keep (apart? n table legs bound a b) (edges n)) count found → Found (pairsAt n table marks a b c) count found
+  apart-up h f = same-found (apart-pairs (record { rises = h; points = inl (refl, refl) })) f
+
+  pub apart-down : {count : ℕ} {found : List ℕ} → b ≤ a → Found (keep (apart? n table legs bound b a) (edges n)) count found → Found (pairsAt n table marks a b c) count found
+  apart-down h f = same-found (apart-pairs (record { rises = below; points = inr (refl, refl) })) f
+    where
+      below : b < a
+      below = elim (decLt b a) [ yes q ↦ q | no q ↦ absurd (g .apart (omega arith)) ]

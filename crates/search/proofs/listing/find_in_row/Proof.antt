@@ -1,0 +1,150 @@
+-- `marking::listing::find_in_row` meets its contract: `Rowing` holds at the loop's head, and the measure is what is left of the row. Assumes nothing.
+use Prim.Native.Nat.{_+_, _-_, _*_}
+use native.Mathlib.Omega.{arith}
+use lib.Seq.{lt-length-set}
+use borrow.Author.Needs.{needs}
+use Rattle.search.proofs.ListingRows.{row-far, Rowing, row-edge, rowing-start, rowing-on, rowing-end, in-table, place-small, has-room, one-more}
+use Rattle.search.proofs.listing.find_in_row.Statement.{statement}
+use Rattle.search.proofs.listing.find_in_row.Tie as tie
+
+abbrev Inv-loop : tie.InvT-loop
+Inv-loop n table legs bound x barred found₀ before leg cost first start left skip count₀ i₀ found count i =
+    Rowing n table legs bound x barred found₀ before cost first found count i
+
+abbrev μ-loop : tie.MeasureT-loop
+μ-loop n table legs bound x barred found₀ before leg cost first start left skip count₀ i₀ found count i = n - x - i
+
+mul-leg : tie.Need-mul-leg Inv-loop μ-loop
+mul-leg c = search needs
+
+element-copy-out-leg : tie.Need-element-copy-out-leg Inv-loop μ-loop
+element-copy-out-leg c = search needs
+
+returns : tie.Need-returns Inv-loop μ-loop
+returns c = row-far (c .before .before .before .before .args .barred) (c .before .before .before .before .pre) (c .if1 .taken)
+
+add-cost : tie.Need-add-cost Inv-loop μ-loop
+add-cost c = omega (arith, c .before .before .before .before .pre .bounded .list .near (c .before .before .before .before .args .x))
+
+add-place : tie.Need-add-place Inv-loop μ-loop
+add-place c = search needs
+
+place-requires : tie.Need-place-requires Inv-loop μ-loop
+place-requires c κs = row-edge (c .before .before .before .before .pre)
+
+add-start : tie.Need-add-start Inv-loop μ-loop
+add-start c = search needs
+
+sub-left : tie.Need-sub-left Inv-loop μ-loop
+sub-left c = search needs
+
+loop-holds : tie.Need-loop-holds Inv-loop μ-loop
+loop-holds c = rowing-start (c .before .before .before .before .before .args .barred) (c .before .before .before .before .before .pre) (c .place .ensures .at)
+
+cast-at : tie.Need-cast-at Inv-loop μ-loop
+cast-at c = omega (arith, has-room (c .before .loop .inv) (c .loop-test .taken))
+
+mul-at : tie.Need-mul-at Inv-loop μ-loop
+mul-at c = omega (arith, has-room (c .before .loop .inv) (c .loop-test .taken))
+
+add-z : tie.Need-add-z Inv-loop μ-loop
+add-z c = search needs
+
+mul-found : tie.Need-mul-found Inv-loop μ-loop
+mul-found c = omega (arith, has-room (c .before .loop .inv) (c .loop-test .taken))
+
+slice-write-found : tie.Need-slice-write-found Inv-loop μ-loop
+slice-write-found c = omega (arith, has-room (c .before .loop .inv) (c .loop-test .taken))
+
+cast-found : tie.Need-cast-found Inv-loop μ-loop
+cast-found c = search needs
+
+add-found : tie.Need-add-found Inv-loop μ-loop
+add-found c = omega (arith, has-room (c .before .loop .inv) (c .loop-test .taken))
+
+mul-found-2 : tie.Need-mul-found-2 Inv-loop μ-loop
+mul-found-2 c = omega (arith, has-room (c .before .loop .inv) (c .loop-test .taken))
+
+slice-write-found-2 : tie.Need-slice-write-found-2 Inv-loop μ-loop
+slice-write-found-2 c = lt-length-set (c .before .loop .found) (2 * c .before .loop .count) (c .before .before .before .before .before .before .before .args .x) (has-room (c .before .loop .inv) (c .loop-test .taken) .1)
+
+mul-kept : tie.Need-mul-kept Inv-loop μ-loop
+mul-kept c = search needs
+
+element-copy-out-kept : tie.Need-element-copy-out-kept Inv-loop μ-loop
+element-copy-out-kept c = search needs
+
+add-kept : tie.Need-add-kept Inv-loop μ-loop
+add-kept c = omega (arith, c .before .before .before .before .before .before .before .before .pre .bounded .list .near (c .before .before .before .before .before .before .before .before .args .x), c .before .before .before .before .before .before .before .before .pre .bounded .list .near (c .before .before .before .before .before .before .before .before .args .x + 1 + c .before .before .loop .i))
+
+add-kept-2 : tie.Need-add-kept-2 Inv-loop μ-loop
+add-kept-2 c = omega (arith, place-small (c .before .before .loop .inv) (c .before .loop-test .taken))
+
+mul-kept-2 : tie.Need-mul-kept-2 Inv-loop μ-loop
+mul-kept-2 c = omega (arith, place-small (c .before .before .loop .inv) (c .before .loop-test .taken))
+
+shared-slice-read-kept : tie.Need-shared-slice-read-kept Inv-loop μ-loop
+shared-slice-read-kept c = in-table (c .before .before .before .loop .inv) (c .before .before .loop-test .taken)
+
+add-kept-3 : tie.Need-add-kept-3 Inv-loop μ-loop
+add-kept-3 c = omega (arith, c .before .before .before .before .before .before .before .before .before .pre .lengths .small (c .before .before .before .before .place .result + c .before .before .before .loop .i), c .before .before .before .before .before .before .before .before .before .pre .bounded .tight)
+
+kept-requires : tie.Need-kept-requires Inv-loop μ-loop
+kept-requires c κs = search needs
+
+add-count : tie.Need-add-count Inv-loop μ-loop
+add-count c = omega (arith, has-room (c .before .before .before .before .loop .inv) (c .before .before .before .loop-test .taken), one-more (c .before .before .before .before .loop .inv) (c .before .before .before .loop-test .taken) (c .kept .ensures))
+
+add-i : tie.Need-add-i Inv-loop μ-loop
+add-i c = search needs
+
+loop-less : tie.Need-loop-less Inv-loop μ-loop
+loop-less c = search needs
+
+loop-again : tie.Need-loop-again Inv-loop μ-loop
+loop-again c = rowing-on (c .before .before .before .before .loop .inv) (c .before .before .before .loop-test .taken) (c .kept .ensures)
+
+same-length : tie.Need-same-length Inv-loop μ-loop
+same-length c = c .before .loop .inv .size
+
+returns-2 : tie.Need-returns-2 Inv-loop μ-loop
+returns-2 c = rowing-end (c .before .loop .inv) (c .loop-test .left)
+
+pub find-in-row-spec : {M : Type 1} → statement M
+find-in-row-spec =
+    tie.close
+    (tie.spec
+    Inv-loop
+    μ-loop
+    mul-leg
+    element-copy-out-leg
+    returns
+    add-cost
+    add-place
+    place-requires
+    add-start
+    sub-left
+    loop-holds
+    cast-at
+    mul-at
+    add-z
+    mul-found
+    slice-write-found
+    cast-found
+    add-found
+    mul-found-2
+    slice-write-found-2
+    mul-kept
+    element-copy-out-kept
+    add-kept
+    add-kept-2
+    mul-kept-2
+    shared-slice-read-kept
+    add-kept-3
+    kept-requires
+    add-count
+    add-i
+    loop-less
+    loop-again
+    same-length
+    returns-2)

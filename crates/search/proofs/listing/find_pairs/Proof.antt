@@ -1,0 +1,66 @@
+-- `marking::listing::find_pairs` meets its contract: each search has its lemma in `ListingChoice`. Assumes nothing.
+use borrow.Author.Needs.{needs}
+use Rattle.search.proofs.ListingChoice.{end-asked, end-found, prepared-single, apart-up, apart-down}
+use Rattle.search.proofs.listing.find_pairs.Statement.{statement}
+use Rattle.search.proofs.listing.find_pairs.Tie as tie
+
+single-requires : tie.Need-single-requires
+single-requires c κs = search needs
+
+find-at-end-requires : tie.Need-find-at-end-requires
+find-at-end-requires c κs = end-asked (c .before .before .before .before .before .before .pre) (c .before .before .single .ensures)
+
+same-length : tie.Need-same-length
+same-length c = search needs
+
+returns : tie.Need-returns
+returns c = end-found (c .before .before .before .before .before .before .before .before .before .pre) (c .before .before .before .before .before .single .ensures) (c .before .before .find-at-end .ensures)
+
+find-at-end-requires-2 : tie.Need-find-at-end-requires-2
+find-at-end-requires-2 c κs = end-asked (c .before .before .before .before .before .before .before .pre) (c .before .before .before .single .ensures)
+
+same-length-2 : tie.Need-same-length-2
+same-length-2 c = search needs
+
+returns-2 : tie.Need-returns-2
+returns-2 c = end-found (c .before .before .before .before .before .before .before .before .before .before .pre) (c .before .before .before .before .before .before .single .ensures) (c .before .before .find-at-end2 .ensures)
+
+prepare-single-requires : tie.Need-prepare-single-requires
+prepare-single-requires c κs = end-asked (c .before .before .before .before .before .before .pre) (c .before .before .single .ensures) .split
+
+find-apart-requires : tie.Need-find-apart-requires
+find-apart-requires c κs = search needs
+
+same-length-3 : tie.Need-same-length-3
+same-length-3 c = search needs
+
+returns-3 : tie.Need-returns-3
+returns-3 c = apart-up (c .before .before .before .before .before .before .before .before .before .before .before .before .before .before .pre) (c .before .before .before .before .before .before .before .before .before .if1 .left) (c .before .before .before .before .before .before .before .before .if2 .left) (prepared-single (c .before .before .before .before .before .before .before .before .before .before .single .ensures) (c .before .before .before .before .before .before .before .prepare-single .ensures)) (c .before .before .before .before .before .if3 .taken) (c .before .before .find-apart .ensures)
+
+find-apart-requires-2 : tie.Need-find-apart-requires-2
+find-apart-requires-2 c κs = search needs
+
+same-length-4 : tie.Need-same-length-4
+same-length-4 c = search needs
+
+returns-4 : tie.Need-returns-4
+returns-4 c = apart-down (c .before .before .before .before .before .before .before .before .before .before .before .before .before .before .pre) (c .before .before .before .before .before .before .before .before .before .if1 .left) (c .before .before .before .before .before .before .before .before .if2 .left) (prepared-single (c .before .before .before .before .before .before .before .before .before .before .single .ensures) (c .before .before .before .before .before .before .before .prepare-single .ensures)) (c .before .before .before .before .before .if3 .left) (c .before .before .find-apart2 .ensures)
+
+pub find-pairs-spec : {M : Type 1} → statement M
+find-pairs-spec =
+    tie.close
+    (tie.spec
+    single-requires
+    find-at-end-requires
+    same-length
+    returns
+    find-at-end-requires-2
+    same-length-2
+    returns-2
+    prepare-single-requires
+    find-apart-requires
+    same-length-3
+    returns-3
+    find-apart-requires-2
+    same-length-4
+    returns-4)

@@ -1,0 +1,16 @@
+-- `marking::listing::kept` meets its contract: a test read as a number is 1 or 0. Assumes nothing.
+use mathlib.Core.Bool.{_&&_, not}
+use lib.Dec.{eqb, leb}
+use borrow.Author.Needs.{needs}
+use Rattle.search.proofs.ListingRows.{byte-ones}
+use Rattle.search.proofs.listing.kept.Statement.{statement}
+use Rattle.search.proofs.listing.kept.Tie as tie
+
+cast-result : tie.Need-cast-result
+cast-result c = search needs
+
+returns : tie.Need-returns
+returns c = byte-ones (leb (c .args .cost) (c .args .most) && not (eqb (c .args .z) (c .args .barred)))
+
+pub kept-spec : {M : Type 1} → statement M
+kept-spec = tie.close (tie.spec cast-result returns)

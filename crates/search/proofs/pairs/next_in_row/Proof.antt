@@ -1,0 +1,157 @@
+-- `rules::pairs::next_in_row` meets its contract: the loop's invariant is `Scanning`, the measure what is left of the row. Assumes nothing.
+use Prim.Native.Nat.{_+_, _-_}
+use native.Mathlib.Omega.{arith}
+use borrow.Author.Needs.{needs}
+use Rattle.search.proofs.RowSearch.{Scanning, row-far, row-over, row-rank, scan-start, scan-below, scan-inside, scan-small, scan-room, scan-rises, scan-found, scan-on, scan-end}
+use Rattle.search.proofs.pairs.next_in_row.Statement.{statement}
+use Rattle.search.proofs.pairs.next_in_row.Tie as tie
+
+abbrev Inv-loop : tie.InvT-loop
+Inv-loop n table legs near rank bound x y leg cost after first at₀ z₀ at z = Scanning n table legs near rank bound x y cost first at z
+
+abbrev μ-loop : tie.MeasureT-loop
+μ-loop n table legs near rank bound x y leg cost after first at₀ z₀ at z = n + 1 - z
+
+mul-leg : tie.Need-mul-leg Inv-loop μ-loop
+mul-leg c = search needs
+
+element-copy-out-leg : tie.Need-element-copy-out-leg Inv-loop μ-loop
+element-copy-out-leg c = search needs
+
+add-result : tie.Need-add-result Inv-loop μ-loop
+add-result c = search needs
+
+returns : tie.Need-returns Inv-loop μ-loop
+returns c = row-far (c .before .before .before .pre) (c .if1 .taken)
+
+add-result-2 : tie.Need-add-result-2 Inv-loop μ-loop
+add-result-2 c = search needs
+
+returns-2 : tie.Need-returns-2 Inv-loop μ-loop
+returns-2 c = row-over (c .before .before .before .before .pre) (c .if2 .taken)
+
+add-cost : tie.Need-add-cost Inv-loop μ-loop
+add-cost c = omega (arith, c .before .before .before .before .pre .bounded .list .near (c .before .before .before .before .args .x))
+
+add-after : tie.Need-add-after Inv-loop μ-loop
+add-after c = search needs
+
+place-requires : tie.Need-place-requires Inv-loop μ-loop
+place-requires c κs = search needs
+
+add-at : tie.Need-add-at Inv-loop μ-loop
+add-at c = search needs
+
+mul-at : tie.Need-mul-at Inv-loop μ-loop
+mul-at c = search needs
+
+element-copy-out-at : tie.Need-element-copy-out-at Inv-loop μ-loop
+element-copy-out-at c = search needs
+
+cast-at : tie.Need-cast-at Inv-loop μ-loop
+cast-at c = omega (arith, row-rank (c .before .before .before .before .before .before .pre))
+
+mul-z : tie.Need-mul-z Inv-loop μ-loop
+mul-z c = omega (arith, row-rank (c .before .before .before .before .before .before .pre))
+
+element-copy-out-z : tie.Need-element-copy-out-z Inv-loop μ-loop
+element-copy-out-z c = omega (arith, row-rank (c .before .before .before .before .before .before .pre))
+
+loop-holds : tie.Need-loop-holds Inv-loop μ-loop
+loop-holds c = scan-start (c .before .before .before .before .before .before .before .pre) (c .before .before .place .ensures .at)
+
+cast-if3 : tie.Need-cast-if3 Inv-loop μ-loop
+cast-if3 c = search needs
+
+mul-if3 : tie.Need-mul-if3 Inv-loop μ-loop
+mul-if3 c = search needs
+
+element-copy-out-if3 : tie.Need-element-copy-out-if3 Inv-loop μ-loop
+element-copy-out-if3 c = search needs
+
+add-if3 : tie.Need-add-if3 Inv-loop μ-loop
+add-if3 c =
+    let start = c .before .before .before .before .before .before .before .before .before .before in
+    let near = start .pre .bounded .list .near in
+    omega (arith, near (start .args .x), near (c .before .before .loop .z))
+
+sub-if3 : tie.Need-sub-if3 Inv-loop μ-loop
+sub-if3 c = scan-below (c .before .before .loop .inv)
+
+cast-if3-2 : tie.Need-cast-if3-2 Inv-loop μ-loop
+cast-if3-2 c = search needs
+
+add-if3-2 : tie.Need-add-if3-2 Inv-loop μ-loop
+add-if3-2 c = omega (arith, scan-small (c .before .before .loop .inv) (c .before .loop-test .taken))
+
+mul-if3-2 : tie.Need-mul-if3-2 Inv-loop μ-loop
+mul-if3-2 c = omega (arith, scan-small (c .before .before .loop .inv) (c .before .loop-test .taken))
+
+shared-slice-read-if3 : tie.Need-shared-slice-read-if3 Inv-loop μ-loop
+shared-slice-read-if3 c = scan-inside (c .before .before .before .loop .inv) (c .before .before .loop-test .taken)
+
+add-if3-3 : tie.Need-add-if3-3 Inv-loop μ-loop
+add-if3-3 c =
+    let start = c .before .before .before .before .before .before .before .before .before .before .before in
+    omega (arith, start .pre .lengths .small (c .before .before .before .before .before .before .place .result + (c .before .before .before .loop .z - (start .args .x + 1))), start .pre .bounded .tight)
+
+returns-3 : tie.Need-returns-3 Inv-loop μ-loop
+returns-3 c = scan-found (c .before .before .before .before .loop .inv) (c .before .before .before .loop-test .taken) (c .if3 .taken)
+
+add-at-2 : tie.Need-add-at-2 Inv-loop μ-loop
+add-at-2 c = omega (arith, scan-room (c .before .before .before .before .loop .inv) (c .before .before .before .loop-test .taken))
+
+mul-z-2 : tie.Need-mul-z-2 Inv-loop μ-loop
+mul-z-2 c = omega (arith, scan-room (c .before .before .before .before .loop .inv) (c .before .before .before .loop-test .taken))
+
+element-copy-out-z-2 : tie.Need-element-copy-out-z-2 Inv-loop μ-loop
+element-copy-out-z-2 c = omega (arith, scan-room (c .before .before .before .before .loop .inv) (c .before .before .before .loop-test .taken))
+
+loop-less : tie.Need-loop-less Inv-loop μ-loop
+loop-less c = omega (arith, scan-rises (c .before .before .before .before .before .loop .inv) (c .before .before .before .before .loop-test .taken), c .before .before .before .before .loop-test .taken)
+
+loop-again : tie.Need-loop-again Inv-loop μ-loop
+loop-again c = scan-on (c .before .before .before .before .before .loop .inv) (c .before .before .before .before .loop-test .taken) (c .before .if3 .left)
+
+returns-4 : tie.Need-returns-4 Inv-loop μ-loop
+returns-4 c = scan-end (c .before .loop .inv) (c .loop-test .left)
+
+pub next-in-row-spec : {M : Type 1} → statement M
+next-in-row-spec =
+    tie.close
+    (tie.spec
+    Inv-loop
+    μ-loop
+    mul-leg
+    element-copy-out-leg
+    add-result
+    returns
+    add-result-2
+    returns-2
+    add-cost
+    add-after
+    place-requires
+    add-at
+    mul-at
+    element-copy-out-at
+    cast-at
+    mul-z
+    element-copy-out-z
+    loop-holds
+    cast-if3
+    mul-if3
+    element-copy-out-if3
+    add-if3
+    sub-if3
+    cast-if3-2
+    add-if3-2
+    mul-if3-2
+    shared-slice-read-if3
+    add-if3-3
+    returns-3
+    add-at-2
+    mul-z-2
+    element-copy-out-z-2
+    loop-less
+    loop-again
+    returns-4)

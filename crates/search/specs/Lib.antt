@@ -1,0 +1,4 @@
+pub mod Listing
+pub mod Nearby
+pub mod NextPair
+pub mod Split

@@ -1,0 +1,163 @@
+// The feasible pairs of K = {ab} at c, all of them: row by row, or one after another at an end of the edge.
+use crate::nearby;
+use crate::nearby::list_nearby;
+use crate::pairs::NextPair;
+use crate::pairs::next_pair;
+use crate::split::prepare_single;
+use lengths::edge;
+use lengths::instance::Instance;
+use rules::legs;
+use sets::edge_set::EdgeSet;
+use sets::near::neighbours;
+ghost use mathlib.Core.Bool.{_&&_, not};
+ghost use mathlib.Core.Path.{_≡_};
+ghost use lib.Dec.{eqb, leb};
+ghost use Rattle.lengths.specs.Edge.{edges};
+ghost use Rattle.lengths.specs.Table.{lengthOf};
+ghost use Rattle.marks.specs.Mark.{openIn};
+ghost use Rattle.rules.specs.Pairs.{keep, feasiblePairs};
+ghost use Rattle.sets.specs.Stored.{edgeList};
+ghost use Rattle.search.specs.Listing.{pairsAt, ones, barredIn, apart?, RowAsked, RowFound, ApartAsked, SearchAsked, FindAsked, Found};
+
+// 1 where the pair stands: its cost is at most what it may be, and z is not barred.
+fn kept(cost: u32, most: u32, z: usize, barred: usize) -> u16
+    ensures { λ r. ⌜ r ≡ ones (leb cost most && not (eqb z barred)) ⌝ }
+{
+    ((cost <= most) & (z != barred)) as u16
+}
+
+// Writes the pairs of x with the points above it behind the pairs that are there already, and answers how many there are then.
+// Each pair is written first and counted only if it stands, so that no branch depends on it. Where c-x is no leg, no pair of x stands.
+fn find_in_row(
+    n: u16,
+    table: &[u32],
+    legs: &[u32; Instance::PLACES],
+    bound: u32,
+    x: u16,
+    barred: u16,
+    found: &mut [u16],
+    before: u16,
+) -> u16
+    requires { ⌜ RowAsked n (now table) (now legs) bound x (now found) before ⌝ }
+    ensures { λ r. ⌜ RowFound n (now (table .entry)) (now (legs .entry)) bound x barred (now (found .entry)) before r (now (found .exit)) ⌝ }
+{
+    let leg = legs[x as usize];
+    if leg == legs::FAR {
+        return before;
+    }
+    let cost = leg + Instance::MOST_LENGTH;
+    let first = edge::place(n, x, x + 1);
+    let start = x as usize + 1;
+    let left = n as usize - x as usize;
+    let skip = barred as usize;
+    let mut count = before;
+    let mut i = 0;
+    while i < left {
+        let at = 2 * count as usize;
+        let z = start + i;
+        found[at] = x;
+        found[at + 1] = z as u16;
+        count += kept(cost + legs[z], table[first + i] + bound, z, skip);
+        i += 1;
+    }
+    count
+}
+
+// The point that is barred in the row of x, 0 for none: the edges c-low, c-high and low-high would be a cycle of three.
+fn barred_in(low: u16, high: u16, x: u16) -> u16
+    ensures { λ r. ⌜ r ≡ barredIn low high x ⌝ }
+{
+    if x == low {
+        return high;
+    }
+    0
+}
+
+// Writes the feasible pairs at a point apart from K's edge, whose ends are low and high, row by row, and answers how many there are.
+fn find_apart(
+    n: u16,
+    table: &[u32],
+    legs: &[u32; Instance::PLACES],
+    bound: u32,
+    low: u16,
+    high: u16,
+    found: &mut [u16],
+) -> u16
+    requires { ⌜ ApartAsked n (now table) (now legs) bound (now found) ⌝ }
+    ensures { λ r. ⌜ Found (keep (apart? n (now (table .entry)) (now (legs .entry)) bound low high) (edges n)) r (now (found .exit)) ⌝ }
+{
+    let mut count: u16 = 0;
+    let mut x: u16 = 1;
+    while x < n {
+        count = find_in_row(
+            n,
+            table,
+            legs,
+            bound,
+            x,
+            barred_in(low, high, x),
+            found,
+            count,
+        );
+        x += 1;
+    }
+    count
+}
+
+// Writes the feasible pairs of k at c, x then y for each, and answers how many there are: for an end c of k's edge.
+fn find_at_end(n: u16, table: &[u32], marks: &[u8], k: EdgeSet, c: u16, found: &mut [u16]) -> u16
+    requires { ⌜ SearchAsked n (now table) (now marks) k c (now found) ⌝ }
+    ensures { λ r. ⌜ Found (feasiblePairs n (lengthOf n (now (table .entry))) (openIn n (now (marks .entry))) (edgeList k) c) r (now (found .exit)) ⌝ }
+{
+    let split = prepare_single(n, table, marks, k, c);
+    let legs = split.legs;
+    let bound = split.bound;
+    let centre = neighbours(k, c);
+    let mut near = [0u16; nearby::PLACES];
+    let mut rank = [0u16; nearby::PLACES];
+    list_nearby(n, &legs, &mut near, &mut rank);
+    let mut x: u16 = 1;
+    let mut y: u16 = 1;
+    let mut count: u16 = 0;
+    loop {
+        let next = next_pair(n, table, &legs, &near, &rank, bound, c, centre, k, x, y);
+        let NextPair::Pair(a, b) = next else {
+            return count;
+        };
+        let at = 2 * count as usize;
+        found[at] = a;
+        found[at + 1] = b;
+        count += 1;
+        x = a;
+        y = b;
+    }
+}
+
+// Writes the feasible pairs of K = {ab} at c, x then y for each, and answers how many there are.
+pub fn find_pairs(
+    n: u16,
+    table: &[u32],
+    marks: &[u8],
+    a: u16,
+    b: u16,
+    c: u16,
+    found: &mut [u16],
+) -> u16
+    requires { ⌜ FindAsked n (now table) (now marks) a b c (now found) ⌝ }
+    ensures { λ r. ⌜ Found (pairsAt n (now (table .entry)) (now (marks .entry)) a b c) r (now (found .exit)) ⌝ }
+{
+    let k = EdgeSet::single(a, b);
+    if c == a {
+        return find_at_end(n, table, marks, k, c, found);
+    }
+    if c == b {
+        return find_at_end(n, table, marks, k, c, found);
+    }
+    let split = prepare_single(n, table, marks, k, c);
+    let legs = split.legs;
+    let bound = split.bound;
+    if a < b {
+        return find_apart(n, table, &legs, bound, a, b, found);
+    }
+    find_apart(n, table, &legs, bound, b, a, found)
+}

@@ -1,0 +1,40 @@
+// The points whose leg is not FAR: the only ones that the search for a pair visits.
+use lengths::instance::Instance;
+use rules::legs;
+ghost use mathlib.Core.Path.{_≡_};
+ghost use mathlib.Core.Bool.{cond};
+ghost use lib.Dec.{eqb};
+ghost use Rattle.rules.specs.Legs.{far};
+ghost use Rattle.search.specs.Nearby.{NearbyAsked, NearbyOf};
+
+// A place for each point, one for 0, which is no point, and one for n + 1.
+pub const PLACES: usize = Instance::PLACES + 1;
+
+// 1 for a leg that is not FAR, else 0: no branch.
+fn one_if_near(leg: u32) -> u16
+    ensures { λ r. ⌜ r ≡ cond (eqb leg far) 0 1 ⌝ }
+{
+    (leg != legs::FAR) as u16
+}
+
+// Lists the points whose leg is not FAR in `near`, rising, and behind them n + 1. rank[w] is the place there of the first that is w or above.
+pub fn list_nearby(
+    n: u16,
+    legs: &[u32; Instance::PLACES],
+    near: &mut [u16; PLACES],
+    rank: &mut [u16; PLACES],
+)
+    requires { ⌜ NearbyAsked n (now near) (now rank) ⌝ }
+    ensures { λ _. ⌜ NearbyOf n (now (legs .entry)) (now (near .exit)) (now (rank .exit)) ⌝ }
+{
+    let mut count: u16 = 0;
+    let mut x: u16 = 1;
+    while x <= n {
+        rank[x as usize] = count;
+        near[count as usize] = x;
+        count += one_if_near(legs[x as usize]);
+        x += 1;
+    }
+    rank[x as usize] = count;
+    near[count as usize] = x;
+}

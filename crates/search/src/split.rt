@@ -1,0 +1,200 @@
+// What the search at a split point looks up for every pair, computed once.
+use lengths::edge;
+use lengths::instance::Instance;
+use lengths::rows::fill_row;
+use lengths::table::length_between;
+use rules::bound;
+use rules::bound::tighten;
+use rules::legs;
+use rules::legs::narrow;
+use rules::legs::open_legs;
+use sets::edge_set::EdgeSet;
+ghost use Prim.Native.Nat.{_+_, _*_, _<_};
+ghost use mathlib.Core.Path.{_≡_};
+ghost use mathlib.Core.List.{[], _∷_};
+ghost use lib.ListN.{length, getD, replicate};
+ghost use Rattle.rules.specs.Legs.{far};
+ghost use Rattle.search.specs.Split.{TakeAsked, TakenIn, TriangleAsked, TriangleIn, SingleAsked, SplitAsked, SplitOf, EdgeAsked, EdgeRowsAsked, EdgeRows, EdgeTriangle, EdgeLegsAsked, EdgeLegs};
+ghost use Rattle.rules.specs.Bound.{boundOf};
+ghost use Rattle.lengths.specs.Edge.{edge};
+ghost use Rattle.lengths.specs.Instance.{pointPlaces};
+ghost use Rattle.lengths.specs.Table.{lengthOf};
+
+// legs[x] is the length from the split point c to x where cx is open and compatible with every edge of K, else FAR.
+// A pair x, y meets conditions 1, 4 and 5 exactly when legs[x] + legs[y] + MOST_LENGTH is at most l(xy) + bound.
+pub struct Split {
+    pub legs: [u32; Instance::PLACES],
+    pub bound: u32,
+}
+
+// What taking in the edge pq reads: where the rows of p and q begin, and the three lengths between c, p and q.
+struct Triangle {
+    ps: usize,
+    qs: usize,
+    pq: u32,
+    cp: u32,
+    cq: u32,
+}
+
+// Where the row of v begins among the rows of all points.
+fn row_start(n: u16, v: u16) -> usize
+    ensures { λ r. ⌜ r ≡ (n + 1) * v ⌝ }
+{
+    (n as usize + 1) * v as usize
+}
+
+// The length to x by the row that begins at `at`.
+fn length_in(rows: &[u32], at: usize, x: u16) -> u32
+    requires { ⌜ at + x < length (now rows) ⌝ }
+    ensures { λ r. ⌜ r ≡ getD (now (rows .entry)) (at + x) 0 ⌝ }
+{
+    rows[at + x as usize]
+}
+
+// The triangle of c and the edge pq, by the rows of all points.
+fn triangle_of(n: u16, rows: &[u32], c: u16, p: u16, q: u16) -> Triangle
+    requires { ⌜ TriangleAsked n (now rows) c p q ⌝ }
+    ensures { λ r. ⌜ TriangleIn n (now (rows .entry)) c p q r ⌝ }
+{
+    let cs = row_start(n, c);
+    let ps = row_start(n, p);
+    let qs = row_start(n, q);
+    let pq = length_in(rows, ps, q);
+    let cp = length_in(rows, cs, p);
+    let cq = length_in(rows, cs, q);
+    Triangle {
+        ps: ps,
+        qs: qs,
+        pq: pq,
+        cp: cp,
+        cq: cq,
+    }
+}
+
+// Takes the edge uv of K into the legs, and answers the bound with it: an edge that touches c changes neither.
+fn take_in(
+    n: u16,
+    table: &[u32],
+    rows: &[u32],
+    c: u16,
+    u: u16,
+    v: u16,
+    legs: &mut [u32; Instance::PLACES],
+    bound: u32,
+) -> u32
+    requires { ⌜ TakeAsked n (now table) (now rows) c u v (now legs) bound ⌝ }
+    ensures { λ r. ⌜ TakenIn n (now (table .entry)) c u v (now (legs .entry)) bound (now (legs .exit)) r ⌝ }
+{
+    if u == c {
+        return bound;
+    }
+    if v == c {
+        return bound;
+    }
+    let t = triangle_of(n, rows, c, u, v);
+    narrow(n, rows, legs, t.ps, t.qs, t.pq, t.cp, t.cq);
+    tighten(c, u, v, t.pq, t.cp, t.cq, bound)
+}
+
+// What the search looks up for k at c: writes the legs, which are all FAR when lent, and answers the bound.
+// The table is there to name the lengths: the rows hold them.
+pub fn prepare(
+    n: u16,
+    table: &[u32],
+    rows: &[u32],
+    marks: &[u8],
+    k: EdgeSet,
+    c: u16,
+    legs: &mut [u32; Instance::PLACES],
+) -> u32
+    requires { ⌜ SplitAsked n (now table) (now rows) (now marks) k c ⌝ }
+    requires { ⌜ now legs ≡ replicate pointPlaces far ⌝ }
+    ensures { λ r. ⌜ SplitOf n (now (table .entry)) (now (marks .entry)) k c (now (legs .exit)) r ⌝ }
+{
+    let from = k.from;
+    let to = k.to;
+    let count = k.count;
+    let at = row_start(n, c);
+    open_legs(n, marks, c, rows, at, legs);
+    let mut bound = bound::LOOSE;
+    let mut i = 0;
+    while i < count {
+        bound = take_in(n, table, rows, c, from[i], to[i], legs, bound);
+        i += 1;
+    }
+    bound
+}
+
+// Writes the rows of c, a and b side by side.
+fn fill_edge_rows(n: u16, table: &[u32], a: u16, b: u16, c: u16, rows: &mut [u32])
+    requires { ⌜ EdgeRowsAsked n (now table) a b c (now rows) ⌝ }
+    ensures { λ _. ⌜ EdgeRows n (now (table .entry)) a b c (now (rows .exit)) ⌝ }
+{
+    fill_row(n, table, c, rows, 0);
+    fill_row(n, table, a, rows, Instance::PLACES);
+    fill_row(n, table, b, rows, 2 * Instance::PLACES);
+}
+
+// The triangle of c and the edge ab, by the table and these rows.
+fn edge_triangle(n: u16, table: &[u32], a: u16, b: u16, c: u16) -> Triangle
+    requires { ⌜ EdgeAsked n (now table) a b c ⌝ }
+    ensures { λ r. ⌜ EdgeTriangle n (now (table .entry)) a b c r ⌝ }
+{
+    let ab = length_between(n, table, a, b) as u32;
+    let ca = length_between(n, table, c, a) as u32;
+    let cb = length_between(n, table, c, b) as u32;
+    Triangle {
+        ps: Instance::PLACES,
+        qs: 2 * Instance::PLACES,
+        pq: ab,
+        cp: ca,
+        cq: cb,
+    }
+}
+
+// The legs of K = {ab} at c.
+fn legs_for_edge(
+    n: u16,
+    table: &[u32],
+    marks: &[u8],
+    a: u16,
+    b: u16,
+    c: u16,
+) -> [u32; Instance::PLACES]
+    requires { ⌜ EdgeLegsAsked n (now table) (now marks) a b c ⌝ }
+    ensures { λ r. ⌜ EdgeLegs n (now (table .entry)) (now (marks .entry)) a b c r ⌝ }
+{
+    let mut rows = [0u32; 3 * Instance::PLACES];
+    fill_edge_rows(n, table, a, b, c, &mut rows);
+    let mut legs = [legs::FAR; Instance::PLACES];
+    open_legs(n, marks, c, &rows, 0, &mut legs);
+    let t = edge_triangle(n, table, a, b, c);
+    narrow(n, &rows, &mut legs, t.ps, t.qs, t.pq, t.cp, t.cq);
+    legs
+}
+
+// The bound of K = {ab} at c.
+fn bound_for_edge(n: u16, table: &[u32], a: u16, b: u16, c: u16) -> u32
+    requires { ⌜ EdgeAsked n (now table) a b c ⌝ }
+    ensures { λ r. ⌜ r ≡ boundOf (lengthOf n (now (table .entry))) (edge a b ∷ []) c ⌝ }
+{
+    let t = edge_triangle(n, table, a, b, c);
+    tighten(c, a, b, t.pq, t.cp, t.cq, bound::LOOSE)
+}
+
+// What the search looks up for a set k of one edge at c, by three rows alone.
+pub fn prepare_single(n: u16, table: &[u32], marks: &[u8], k: EdgeSet, c: u16) -> Split
+    requires { ⌜ SingleAsked n (now table) (now marks) k c ⌝ }
+    ensures { λ r. ⌜ SplitOf n (now (table .entry)) (now (marks .entry)) k c (r .legs) (r .bound) ⌝ }
+{
+    let from = k.from;
+    let to = k.to;
+    let a = from[0];
+    let b = to[0];
+    let legs = legs_for_edge(n, table, marks, a, b, c);
+    let bound = bound_for_edge(n, table, a, b, c);
+    Split {
+        legs: legs,
+        bound: bound,
+    }
+}

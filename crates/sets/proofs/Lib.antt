@@ -1,0 +1,4 @@
+pub mod BeyondNumbers
+pub mod Exact
+pub mod Laws
+pub mod Rising
