@@ -10,26 +10,22 @@ use Rattle.lengths.specs.Edge.{Edge, edge, edges, edgeCount, row, rows, tri}
 use Rattle.lengths.proofs.Edges.{edgeCount-tri, tri-mono, length-edges}
 use Rattle.lengths.specs.Instance.{mostEdges, mostPoints, pointPlaces}
 use Rattle.sets.specs.EdgeSet.{count}
-use Rattle.report.specs.Text.{Room, Wrote, decimal, field, pointsWord, edgesWord, struckWord, space, verdictWord, recordWord, openWord, lineEnd}
+use Rattle.text.specs.Words.{Room, Wrote}
+use Rattle.text.specs.Decimal.{field}
+use Rattle.text.proofs.Writing.{length-three}
+use Rattle.text.proofs.Decimals.{field-length}
+use Rattle.report.specs.Lines.{pointsWord, edgesWord, struckWord, space, verdictWord, recordWord, openWord, lineEnd}
 use Rattle.report.specs.Lines.{pointsLine, struckLine, markLine, markLines, struckLines, verdictLine, allLines, Large, LinesAsked, StrikesAsked}
-use Rattle.report.proofs.Decimals.{decimal-length}
 
 pub edges-few : {n : ℕ} → n ≤ mostPoints → edgeCount n ≤ mostEdges
 unfolding tri
 edges-few {n} h = omega (arith, edgeCount-tri n, tri-mono n mostPoints h)
 
-field-length : (k : ℕ) (word : List ℕ) (n : ℕ) → n < 10 ^ suc k → length (field word n) ≤ length word + suc k
-unfolding field
-field-length k word n h = omega (arith, length-append word (decimal n), decimal-length k n h)
-
-line-length : (t u v : List ℕ) → length (t ++ u ++ v) ≡ length t + length u + length v
-line-length t u v = omega (arith, length-append (t ++ u) v, length-append t u)
-
 struck-length : (a b : ℕ) → a ≤ mostPoints → b ≤ mostPoints → length (struckLine a b) ≤ 15
 unfolding struckLine
 struck-length a b h g = omega (
   arith,
-  line-length (field struckWord a) (field space b) lineEnd,
+  length-three (field struckWord a) (field space b) lineEnd,
   field-length 2 struckWord a (omega arith),
   field-length 2 space b (omega arith),
 )
@@ -77,7 +73,7 @@ points-length : (n : ℕ) → n ≤ mostPoints → length (pointsLine n) ≤ 23
 unfolding pointsLine
 points-length n h = omega (
   arith,
-  line-length (field pointsWord n) (field edgesWord (edgeCount n)) lineEnd,
+  length-three (field pointsWord n) (field edgesWord (edgeCount n)) lineEnd,
   field-length 2 pointsWord n (omega arith),
   field-length 4 edgesWord (edgeCount n) (omega (arith, edges-few h)),
 )
@@ -87,7 +83,7 @@ unfolding verdictLine
 verdict-length number rec opens h g k = omega (
   arith,
   length-append (field verdictWord number ++ field recordWord rec ++ field openWord opens) lineEnd,
-  line-length (field verdictWord number) (field recordWord rec) (field openWord opens),
+  length-three (field verdictWord number) (field recordWord rec) (field openWord opens),
   field-length 4 verdictWord number (omega arith),
   field-length 4 recordWord rec (omega arith),
   field-length 4 openWord opens (omega arith),
@@ -111,7 +107,7 @@ all-room {n} {number} {rec} {marks} {out} p h g = record {
   room = omega (
     arith,
     p .large,
-    line-length (pointsLine n) (struckLines n marks) (verdictLine number rec (count 1 marks)),
+    length-three (pointsLine n) (struckLines n marks) (verdictLine number rec (count 1 marks)),
     points-length n (p .few),
     strikes-length n marks (p .some) (p .few),
     verdict-length number rec (count 1 marks) h g (omega (arith, p .marked, edges-few (p .few), count-few 1 marks)),

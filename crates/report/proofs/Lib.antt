@@ -1,10 +1,8 @@
 pub mod Bounds
 pub mod Counting
-pub mod Decimals
 pub mod Fronts
 pub mod Headers
 pub mod Measurings
 pub mod Reports
 pub mod Sheets
 pub mod Striking
-pub mod Writing

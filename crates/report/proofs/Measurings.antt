@@ -20,7 +20,7 @@ use Rattle.marking.specs.Bytes.{whole16}
 use Rattle.marking.specs.Fresh.{freshMarks}
 use Rattle.marking.specs.Marking.{markSheet}
 use Rattle.report.specs.Input.{coordinatesIn, recordsIn, headerBytes, pointBytes}
-use Rattle.report.specs.Text.{Wrote}
+use Rattle.text.specs.Words.{Wrote}
 use Rattle.report.specs.Lines.{lastLine}
 use Rattle.report.specs.Output.{textBy, measuredText, markedText}
 

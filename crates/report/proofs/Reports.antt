@@ -11,7 +11,7 @@ use Rattle.lengths.specs.Instance.{mostEdges, mostPoints}
 use Rattle.sheets.specs.Results.{resultOf}
 use Rattle.sheets.specs.declared.verdict.Verdict.{Verdict}
 use Rattle.sheets.specs.declared.verdict.Verdict.the-variants.{Accepted, Refused}
-use Rattle.report.specs.Text.{Wrote}
+use Rattle.text.specs.Words.{Wrote}
 use Rattle.report.specs.Lines.{allLines, LinesAsked}
 use Rattle.report.specs.Input.{headerOf}
 use Rattle.report.specs.Output.{markedText, textFor, outputOf, MarkingAsked, InstanceAsked, Places, Reported}

@@ -21,7 +21,7 @@ use Rattle.marking.specs.Tests.{tested}
 use Rattle.marking.specs.declared.tests.Tested.{Tested}
 use Rattle.marking.specs.declared.tests.Tested.the-variants as tests
 use Rattle.marking.specs.declared.fresh.Fresh.{Fresh}
-use Rattle.report.specs.Text.{Wrote}
+use Rattle.text.specs.Words.{Wrote}
 use Rattle.report.specs.Input.{coordinatesIn, headerBytes, pointBytes}
 use Rattle.report.specs.Output.{markedText}
 

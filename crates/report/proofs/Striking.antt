@@ -11,9 +11,9 @@ use borrow.Author.Tests.{eq-eqb, ne-eqb}
 use Rattle.lengths.specs.Edge.{Edge, edge, edges, edgeCount, tri, placeUp, IsEdgeUp}
 use Rattle.lengths.proofs.Edges.{length-edges, edges-at, next-in-row, next-row}
 use Rattle.lengths.specs.Instance.{mostPoints}
-use Rattle.report.specs.Text.{Room, Wrote}
+use Rattle.text.specs.Words.{Room, Wrote}
 use Rattle.report.specs.Lines.{struckLine, markLine, markLines, struckLines, StrikesAsked}
-use Rattle.report.proofs.Writing.{wrote-none, rest-on}
+use Rattle.text.proofs.Writing.{wrote-none, rest-on}
 
 -- the line of a mark
 struck-line : (a b : ℕ) {mark : ℕ} → mark ≡ 0 → markLine mark a b ≡ struckLine a b

@@ -1,4 +1,4 @@
--- The program's lines (01, "Layers and program").
+-- The program's lines (01, "Layers and program"), and their words in ASCII.
 use Prim.Native.Nat.{ℕ, _≤_}
 use mathlib.Core.Path.{_≡_}
 use mathlib.Core.Bool.{true, false}
@@ -8,7 +8,33 @@ use lib.ListN.{length}
 use Rattle.lengths.specs.Edge.{Edge, edge, edges, edgeCount}
 use Rattle.lengths.specs.Instance.{mostPoints}
 use Rattle.sets.specs.EdgeSet.{count}
-use Rattle.report.specs.Text.{field, pointsWord, edgesWord, struckWord, space, verdictWord, recordWord, openWord, lineEnd, Room}
+use Rattle.text.specs.Words.{Room}
+use Rattle.text.specs.Decimal.{field}
+
+-- `points `, ` edges `, `struck `, a space, `verdict `, ` record `, ` open ` and the end of a line
+abbrev pub pointsWord : List ℕ
+pointsWord = 112 ∷ 111 ∷ 105 ∷ 110 ∷ 116 ∷ 115 ∷ 32 ∷ []
+
+abbrev pub edgesWord : List ℕ
+edgesWord = 32 ∷ 101 ∷ 100 ∷ 103 ∷ 101 ∷ 115 ∷ 32 ∷ []
+
+abbrev pub struckWord : List ℕ
+struckWord = 115 ∷ 116 ∷ 114 ∷ 117 ∷ 99 ∷ 107 ∷ 32 ∷ []
+
+abbrev pub space : List ℕ
+space = 32 ∷ []
+
+abbrev pub verdictWord : List ℕ
+verdictWord = 118 ∷ 101 ∷ 114 ∷ 100 ∷ 105 ∷ 99 ∷ 116 ∷ 32 ∷ []
+
+abbrev pub recordWord : List ℕ
+recordWord = 32 ∷ 114 ∷ 101 ∷ 99 ∷ 111 ∷ 114 ∷ 100 ∷ 32 ∷ []
+
+abbrev pub openWord : List ℕ
+openWord = 32 ∷ 111 ∷ 112 ∷ 101 ∷ 110 ∷ 32 ∷ []
+
+abbrev pub lineEnd : List ℕ
+lineEnd = 10 ∷ []
 
 -- "Line one: n and the edge count"
 unfoldable pub pointsLine : ℕ → List ℕ

@@ -2,4 +2,3 @@
 mod header;
 mod lines;
 pub mod report;
-mod text;

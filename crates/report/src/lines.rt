@@ -1,12 +1,12 @@
 // The program's lines, each into a buffer at a place; each answers the next place.
-use crate::text::put_field;
-use crate::text::put_word;
 use lengths::edge;
 use lengths::refusal;
+use text::decimal::put_field;
+use text::words::put_word;
 ghost use Prim.Native.Nat.{_≤_};
 ghost use lib.ListN.{length};
 ghost use Rattle.lengths.specs.Instance.{mostEdges, mostPoints};
-ghost use Rattle.report.specs.Text.{Room, Wrote};
+ghost use Rattle.text.specs.Words.{Room, Wrote};
 ghost use Rattle.report.specs.Lines.{pointsLine, struckLine, markLine, struckLines, verdictLine, lastLine, allLines, Large, StrikesAsked, LinesAsked, OpenIs};
 
 // Line one: n and the edge count.
@@ -14,8 +14,8 @@ fn put_points(n: u16, out: &mut [u8], at: usize) -> usize
     requires { ⌜ (n ≤ mostPoints) × Room (now out) at (pointsLine n) ⌝ }
     ensures { λ r. ⌜ Wrote (now (out .entry)) at (pointsLine n) r (now (out .exit)) ⌝ }
 {
-    let edges = edge::count(n) as u16;
-    let mut next = put_field(b"points ", n, out, at);
+    let edges = edge::count(n) as u32;
+    let mut next = put_field(b"points ", n as u32, out, at);
     next = put_field(b" edges ", edges, out, next);
     put_word(b"\n", out, next)
 }
@@ -25,8 +25,8 @@ fn put_struck(a: u16, b: u16, out: &mut [u8], at: usize) -> usize
     requires { ⌜ Room (now out) at (struckLine a b) ⌝ }
     ensures { λ r. ⌜ Wrote (now (out .entry)) at (struckLine a b) r (now (out .exit)) ⌝ }
 {
-    let mut next = put_field(b"struck ", a, out, at);
-    next = put_field(b" ", b, out, next);
+    let mut next = put_field(b"struck ", a as u32, out, at);
+    next = put_field(b" ", b as u32, out, next);
     put_word(b"\n", out, next)
 }
 
@@ -84,9 +84,9 @@ fn put_verdict(number: u8, rec: u16, opens: u16, out: &mut [u8], at: usize) -> u
     requires { ⌜ Room (now out) at (verdictLine number rec opens) ⌝ }
     ensures { λ r. ⌜ Wrote (now (out .entry)) at (verdictLine number rec opens) r (now (out .exit)) ⌝ }
 {
-    let mut next = put_field(b"verdict ", number as u16, out, at);
-    next = put_field(b" record ", rec, out, next);
-    next = put_field(b" open ", opens, out, next);
+    let mut next = put_field(b"verdict ", number as u32, out, at);
+    next = put_field(b" record ", rec as u32, out, next);
+    next = put_field(b" open ", opens as u32, out, next);
     put_word(b"\n", out, next)
 }
 

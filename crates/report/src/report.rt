@@ -17,8 +17,8 @@ ghost use Rattle.sheets.specs.Results.{resultOf};
 ghost use Rattle.marking.specs.Bytes.{whole16};
 ghost use Rattle.marking.specs.Fresh.{freshMarks};
 ghost use Rattle.marking.specs.Marking.{markSheet};
+ghost use Rattle.text.specs.Words.{Wrote};
 ghost use Rattle.report.specs.Input.{coordinatesIn, recordsIn};
-ghost use Rattle.report.specs.Text.{Wrote};
 ghost use Rattle.report.specs.Lines.{LinesAsked};
 ghost use Rattle.report.specs.Output.{markedText, measuredText, MarkingAsked, InstanceAsked, Places, Reported};
 

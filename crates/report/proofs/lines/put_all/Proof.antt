@@ -2,7 +2,7 @@
 use native.Mathlib.Omega.{arith}
 use denote.Ref.{now}
 use Rattle.report.specs.Lines.{allLines}
-use Rattle.report.proofs.Writing.{room-1, room-2, room-3, wrote-three}
+use Rattle.text.proofs.Writing.{room-1, room-2, room-3, wrote-three}
 use Rattle.report.proofs.Bounds.{edges-few, all-room, strikes-asked, verdict-room, verdict-wrote}
 use borrow.Author.Needs.{needs}
 use Rattle.report.proofs.lines.put_all.Statement.{statement}

@@ -1,8 +1,8 @@
 -- `report::lines::put_points` meets its contract: two fields and the end of the line. Assumes nothing.
 use native.Mathlib.Omega.{arith}
-use Rattle.report.specs.Text.{edgesWord}
-use Rattle.report.specs.Lines.{pointsLine}
-use Rattle.report.proofs.Writing.{room-1, room-2, room-3, wrote-three, field-room, field-wrote}
+use Rattle.report.specs.Lines.{edgesWord, pointsLine}
+use Rattle.text.proofs.Writing.{room-1, room-2, room-3, wrote-three}
+use Rattle.text.proofs.Decimals.{field-room, field-wrote}
 use Rattle.report.proofs.Bounds.{edges-few}
 use borrow.Author.Needs.{needs}
 use Rattle.report.proofs.lines.put_points.Statement.{statement}

@@ -1,6 +1,6 @@
 -- `report::lines::put_struck` meets its contract: two fields and the end of the line. Assumes nothing.
 use Rattle.report.specs.Lines.{struckLine}
-use Rattle.report.proofs.Writing.{room-1, room-2, room-3, wrote-three}
+use Rattle.text.proofs.Writing.{room-1, room-2, room-3, wrote-three}
 use borrow.Author.Needs.{needs}
 use Rattle.report.proofs.lines.put_struck.Statement.{statement}
 use Rattle.report.proofs.lines.put_struck.Tie as tie

@@ -1,6 +1,6 @@
 -- `report::lines::put_verdict` meets its contract: three fields and the end of the line. Assumes nothing.
 use Rattle.report.specs.Lines.{verdictLine}
-use Rattle.report.proofs.Writing.{room-first, room-second, room-1, room-2, room-3, wrote-both, wrote-three}
+use Rattle.text.proofs.Writing.{room-first, room-second, room-1, room-2, room-3, wrote-both, wrote-three}
 use borrow.Author.Needs.{needs}
 use Rattle.report.proofs.lines.put_verdict.Statement.{statement}
 use Rattle.report.proofs.lines.put_verdict.Tie as tie

@@ -1,16 +1,17 @@
--- The proof of the cycle of calls {put_number}: its measure is the number. Assumes nothing.
+-- The proof of the cycle of calls {put_number}: its measure is the number. What is promised stands first, so that a wrong digit is refused
+-- there and not where room is asked for it. Assumes nothing.
 use mathlib.Core.Path.{_∙_}
 use native.Mathlib.Omega.{arith}
-use Rattle.report.proofs.Decimals.{digit-asked-last, wrote-last, tenth-room, digit-asked-more, wrote-more}
+use Rattle.text.proofs.Decimals.{digit-asked-last, wrote-last, tenth-room, digit-asked-more, wrote-more}
 use Prim.Native.Nat.{ℕ, _<_}
 use borrow.Fn.Kinds.{In}
 use borrow.Fn.PlainCycle.{Measures, is, falls, and}
-use Rattle.report.proofs.text.put_number.Reads as put-number
-use Rattle.report.proofs.text.put_number.Kinds as put-number-kinds
-use Rattle.report.proofs.text.+put_number.Lts-put_number as put-number-lts
-use Rattle.report.proofs.text.put_digit.Reads as put-digit-reads
-use Rattle.report.proofs.text.+put_number.{statement}
-use Rattle.report.proofs.text.+put_number.Tie.{close}
+use Rattle.text.proofs.decimal.put_number.Reads as put-number
+use Rattle.text.proofs.decimal.put_number.Kinds as put-number-kinds
+use Rattle.text.proofs.decimal.+put_number.Lts-put_number as put-number-lts
+use Rattle.text.proofs.decimal.put_digit.Reads as put-digit-reads
+use Rattle.text.proofs.decimal.+put_number.{statement}
+use Rattle.text.proofs.decimal.+put_number.Tie.{close}
 
 abbrev μ-put-number : Measures 1 put-number-kinds.ps ℕ
 μ-put-number κs a = a .0
@@ -22,6 +23,26 @@ put-number-at t =
 abbrev put-number-below : ℕ → In 1 put-number-kinds.ps
 put-number-below t =
     and 1 put-number-kinds.ps (falls 1 put-number-kinds.ps _<_ μ-put-number t) put-number.Pre
+
+put-number-returns-2 : (t : ℕ) → put-number-lts.Need-returns-2 (
+  put-digit-reads.Asked,
+  put-digit-reads.Learnt,
+  put-number-below t,
+  put-number.Post,
+) (put-number-at t) put-number.Post
+put-number-returns-2 t c =
+    let d = c .before .before in
+    let p = d .before .before .before .before in
+    let k = p .before .before in
+    wrote-more (k .before .before .args .n) (k .if1 .left) (p .put-number .ensures) (d .put-digit2 .ensures)
+
+put-number-returns : (t : ℕ) → put-number-lts.Need-returns (
+  put-digit-reads.Asked,
+  put-digit-reads.Learnt,
+  put-number-below t,
+  put-number.Post,
+) (put-number-at t) put-number.Post
+put-number-returns t c = wrote-last (c .before .before .before .before .if1 .taken) (c .before .before .put-digit .ensures)
 
 put-number-put-digit-requires : (t : ℕ) → put-number-lts.Need-put-digit-requires (
   put-digit-reads.Asked,
@@ -38,14 +59,6 @@ put-number-same-length : (t : ℕ) → put-number-lts.Need-same-length (
   put-number.Post,
 ) (put-number-at t) put-number.Post
 put-number-same-length t c = c .before .before .put-digit .ensures .kept
-
-put-number-returns : (t : ℕ) → put-number-lts.Need-returns (
-  put-digit-reads.Asked,
-  put-digit-reads.Learnt,
-  put-number-below t,
-  put-number.Post,
-) (put-number-at t) put-number.Post
-put-number-returns t c = wrote-last (c .before .before .before .before .if1 .taken) (c .before .before .put-digit .ensures)
 
 put-number-put-number-requires : (t : ℕ) → put-number-lts.Need-put-number-requires (
   put-digit-reads.Asked,
@@ -65,7 +78,7 @@ put-number-put-digit-requires-2 t c κs =
     let p = c .before .before .before in
     let k = p .before .before in
     let s = k .before .before in
-    digit-asked-more (s .args .n) (k .if1 .left) (s .pre .1) (p .put-number .ensures)
+    digit-asked-more (s .args .n) (k .if1 .left) (s .pre .1) (p .put-number .ensures) (omega arith)
 
 put-number-same-length-2 : (t : ℕ) → put-number-lts.Need-same-length-2 (
   put-digit-reads.Asked,
@@ -74,18 +87,6 @@ put-number-same-length-2 : (t : ℕ) → put-number-lts.Need-same-length-2 (
   put-number.Post,
 ) (put-number-at t) put-number.Post
 put-number-same-length-2 t c = c .before .before .put-digit2 .ensures .kept ∙ c .before .before .before .before .before .before .put-number .ensures .kept
-
-put-number-returns-2 : (t : ℕ) → put-number-lts.Need-returns-2 (
-  put-digit-reads.Asked,
-  put-digit-reads.Learnt,
-  put-number-below t,
-  put-number.Post,
-) (put-number-at t) put-number.Post
-put-number-returns-2 t c =
-    let d = c .before .before in
-    let p = d .before .before .before .before in
-    let k = p .before .before in
-    wrote-more (k .before .before .args .n) (k .if1 .left) (p .put-number .ensures) (d .put-digit2 .ensures)
 
 pub +put-number-spec : {M : Type 1} → statement M
 +put-number-spec = close μ-put-number λ t. put-number-lts.spec (

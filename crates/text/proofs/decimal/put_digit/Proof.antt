@@ -1,8 +1,8 @@
--- `report::text::put_digit` meets its contract. Assumes nothing.
-use Rattle.report.proofs.Writing.{wrote-one}
+-- `text::decimal::put_digit` meets its contract. Assumes nothing.
+use Rattle.text.proofs.Writing.{wrote-one}
 use borrow.Author.Needs.{needs}
-use Rattle.report.proofs.text.put_digit.Statement.{statement}
-use Rattle.report.proofs.text.put_digit.Tie as tie
+use Rattle.text.proofs.decimal.put_digit.Statement.{statement}
+use Rattle.text.proofs.decimal.put_digit.Tie as tie
 
 cast-out : tie.Need-cast-out
 cast-out c = search needs

@@ -1,9 +1,9 @@
--- `report::text::put_field` meets its contract: a word, then a number. Assumes nothing.
-use Rattle.report.specs.Text.{field}
-use Rattle.report.proofs.Writing.{room-first, room-second, wrote-both}
+-- `text::decimal::put_field` meets its contract: a word, then a number. Assumes nothing.
+use Rattle.text.specs.Decimal.{field}
+use Rattle.text.proofs.Writing.{room-first, room-second, wrote-both}
 use borrow.Author.Needs.{needs}
-use Rattle.report.proofs.text.put_field.Statement.{statement}
-use Rattle.report.proofs.text.put_field.Tie as tie
+use Rattle.text.proofs.decimal.put_field.Statement.{statement}
+use Rattle.text.proofs.decimal.put_field.Tie as tie
 
 put-word-requires : tie.Need-put-word-requires
 unfolding field

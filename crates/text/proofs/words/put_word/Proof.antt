@@ -1,11 +1,11 @@
--- `report::text::put_word` meets its contract: `Copying` holds at the loop's head. Assumes nothing.
+-- `text::words::put_word` meets its contract: `Copying` holds at the loop's head. Assumes nothing.
 use Prim.Native.Nat.{_-_}
 use native.Mathlib.Omega.{arith}
 use borrow.Author.Needs.{needs}
 use lib.ListN.{length}
-use Rattle.report.proofs.Writing.{Copying, copy-none, copy-more, copy-done}
-use Rattle.report.proofs.text.put_word.Statement.{statement}
-use Rattle.report.proofs.text.put_word.Tie as tie
+use Rattle.text.proofs.Writing.{Copying, copy-none, copy-more, copy-done}
+use Rattle.text.proofs.words.put_word.Statement.{statement}
+use Rattle.text.proofs.words.put_word.Tie as tie
 
 abbrev Inv-loop : tie.InvT-loop
 Inv-loop word out₀ at i₀ out i = Copying out₀ at word i out

@@ -1,4 +1,4 @@
--- Decimal digits: the text of a number from that of its tenth, its length, and that it is the number. Assumes nothing.
+-- Decimal digits: the text of a number from that of its tenth, its length, that it is the number, and fields. Assumes nothing.
 use Prim.Native.Nat.{ℕ, zero, suc, _+_, _-_, _*_, _/_, _%_, _^_, _≤_, _<_}
 use mathlib.Core.Path.{_≡_, refl, sym, _∙_, ap}
 use mathlib.Core.List.{List, [], _∷_, _++_}
@@ -8,8 +8,9 @@ use native.Mathlib.Omega.{arith}
 use lib.ListN.{length, length-append, List·getD-append}
 use lib.Seq.{getD-append-seam}
 use borrow.Author.Tests.{lt-ltb, le-ltb}
-use Rattle.report.specs.Text.{digits, decimal, valueFrom, IsDecimal, Room, Wrote, DigitAsked}
-use Rattle.report.proofs.Writing.{room-first, room-second, wrote-both}
+use Rattle.text.specs.Words.{Room, Wrote}
+use Rattle.text.specs.Decimal.{digits, decimal, valueFrom, IsDecimal, field, DigitAsked}
+use Rattle.text.proofs.Writing.{room-first, room-second, wrote-both}
 
 digits-last : (k n : ℕ) → n < 10 → digits (suc k) n ≡ (48 + n) ∷ []
 unfolding digits
@@ -108,8 +109,20 @@ module _ {out : List ℕ} {at : ℕ} (n : ℕ) (h : 10 ≤ n) where
   pub tenth-room : Room out at (decimal n) → Room out at (decimal (n / 10))
   tenth-room p = room-first ((48 + n % 10) ∷ []) (whole-room p)
 
-  pub digit-asked-more : {mid : List ℕ} {r : ℕ} → Room out at (decimal n) → Wrote out at (decimal (n / 10)) r mid → DigitAsked mid r (n % 10)
-  digit-asked-more p w = record { small = omega arith; inside = let q = room-second (whole-room p) w .room in omega arith }
+  pub digit-asked-more : {mid : List ℕ} {r d : ℕ} → Room out at (decimal n) → Wrote out at (decimal (n / 10)) r mid → d < 10 → DigitAsked mid r d
+  digit-asked-more p w g = record { small = g; inside = let q = room-second (whole-room p) w .room in omega arith }
 
   pub wrote-more : {mid left : List ℕ} {r s : ℕ} → Wrote out at (decimal (n / 10)) r mid → Wrote mid r ((48 + n % 10) ∷ []) s left → Wrote out at (decimal n) s left
   wrote-more v w = rw (decimal-more n h) (wrote-both v w)
+
+-- a field of an equal number
+pub field-room : {out : List ℕ} {at n e : ℕ} (word : List ℕ) → e ≡ n → Room out at (field word n) → Room out at (field word e)
+field-room word h p = rw h p
+
+pub field-wrote : {out left : List ℕ} {at r n e : ℕ} (word : List ℕ) → e ≡ n → Wrote out at (field word e) r left → Wrote out at (field word n) r left
+field-wrote word h w = rw (sym h) w
+
+-- a field of a number below 10 ^ k has at most k bytes behind its word
+pub field-length : (k : ℕ) (word : List ℕ) (n : ℕ) → n < 10 ^ suc k → length (field word n) ≤ length word + suc k
+unfolding field
+field-length k word n h = omega (arith, length-append word (decimal n), decimal-length k n h)

@@ -7,7 +7,7 @@ use native.Mathlib.Numerals.{add-one}
 use native.Mathlib.Omega.{arith}
 use lib.ListN.{length, take, drop, getD, set, length-append, length-set}
 use lib.Seq.{take-suc, take-suc-set, take-length, drop-set-lt, drop-drop}
-use Rattle.report.specs.Text.{Room, Wrote, field}
+use Rattle.text.specs.Words.{Room, Wrote}
 
 -- the room of a text is room for what it begins with, and, once that is written, for the rest
 pub room-first : {out : List ℕ} {at : ℕ} {t : List ℕ} (u : List ℕ) → Room out at (t ++ u) → Room out at t
@@ -71,6 +71,9 @@ copy-done {out} {at} {word} {i} {left} c h =
     rw t at (c .wrote)
 
 -- three texts in a row
+pub length-three : (t u v : List ℕ) → length (t ++ u ++ v) ≡ length t + length u + length v
+length-three t u v = omega (arith, length-append (t ++ u) v, length-append t u)
+
 pub room-1 : {out : List ℕ} {at : ℕ} {t : List ℕ} (u v : List ℕ) → Room out at (t ++ u ++ v) → Room out at t
 room-1 u v p = room-first u (room-first v p)
 
@@ -83,10 +86,3 @@ room-3 p w x = room-second p (wrote-both w x)
 pub wrote-three : {out mid end left : List ℕ} {at r s q : ℕ} {t u v : List ℕ} → Wrote out at t r mid → Wrote mid r u s end → Wrote end s v q left
     → Wrote out at (t ++ u ++ v) q left
 wrote-three w x y = wrote-both (wrote-both w x) y
-
--- a field of an equal number
-pub field-room : {out : List ℕ} {at n e : ℕ} (word : List ℕ) → e ≡ n → Room out at (field word n) → Room out at (field word e)
-field-room word h p = rw h p
-
-pub field-wrote : {out left : List ℕ} {at r n e : ℕ} (word : List ℕ) → e ≡ n → Wrote out at (field word e) r left → Wrote out at (field word n) r left
-field-wrote word h w = rw (sym h) w

@@ -1,23 +1,12 @@
-// Text into a buffer: each function writes at a place and answers the next place.
+// Numbers in decimal into a buffer, alone or behind a word: each function writes at a place and answers the next place.
+use crate::words::put_word;
 ghost use mathlib.Core.List.{[], _∷_};
 ghost use Prim.Native.Nat.{_+_};
-ghost use Rattle.report.specs.Text.{DigitAsked, Room, Wrote, decimal, field};
-
-// Writes a word.
-pub fn put_word(word: &[u8], out: &mut [u8], at: usize) -> usize
-    requires { ⌜ Room (now out) at (now word) ⌝ }
-    ensures { λ r. ⌜ Wrote (now (out .entry)) at (now (word .entry)) r (now (out .exit)) ⌝ }
-{
-    let mut i = 0;
-    while i < word.len() {
-        out[at + i] = word[i];
-        i += 1;
-    }
-    at + i
-}
+ghost use Rattle.text.specs.Words.{Room, Wrote};
+ghost use Rattle.text.specs.Decimal.{DigitAsked, decimal, field};
 
 // Writes a digit.
-fn put_digit(digit: u16, out: &mut [u8], at: usize) -> usize
+fn put_digit(digit: u32, out: &mut [u8], at: usize) -> usize
     requires { ⌜ DigitAsked (now out) at digit ⌝ }
     ensures { λ r. ⌜ Wrote (now (out .entry)) at ((48 + digit) ∷ []) r (now (out .exit)) ⌝ }
 {
@@ -26,7 +15,7 @@ fn put_digit(digit: u16, out: &mut [u8], at: usize) -> usize
 }
 
 // Writes a number in decimal: the digits of a tenth of it, then its last digit.
-pub fn put_number(n: u16, out: &mut [u8], at: usize) -> usize
+pub fn put_number(n: u32, out: &mut [u8], at: usize) -> usize
     requires { ⌜ Room (now out) at (decimal n) ⌝ }
     ensures { λ r. ⌜ Wrote (now (out .entry)) at (decimal n) r (now (out .exit)) ⌝ }
 {
@@ -38,7 +27,7 @@ pub fn put_number(n: u16, out: &mut [u8], at: usize) -> usize
 }
 
 // Writes a word and a number.
-pub fn put_field(word: &[u8], n: u16, out: &mut [u8], at: usize) -> usize
+pub fn put_field(word: &[u8], n: u32, out: &mut [u8], at: usize) -> usize
     requires { ⌜ Room (now out) at (field (now word) n) ⌝ }
     ensures { λ r. ⌜ Wrote (now (out .entry)) at (field (now (word .entry)) n) r (now (out .exit)) ⌝ }
 {

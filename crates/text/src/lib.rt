@@ -1,0 +1,3 @@
+// Texts into a buffer that the caller lends: words, and numbers in decimal.
+pub mod decimal;
+pub mod words;
