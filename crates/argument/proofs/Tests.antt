@@ -1,5 +1,5 @@
 -- Each test of the walk against what it means: points, records that fit, the next pair, indices that may be entered.
-pub use Rattle.sets.proofs.Laws.Bools.{and-true as both}
+pub use Rattle.lists.proofs.Bools.{and-true as both}
 use Prim.Native.Nat.{ℕ, _≤_, _<_}
 use mathlib.Core.Path.{_≡_, refl, _∙_, ap, ap₂}
 use mathlib.Core.Bool.{true, not, false≢true}
@@ -7,7 +7,7 @@ use mathlib.Core.List.{List, [], _∷_}
 use lib.Dec.{leb}
 use borrow.Author.Tests.{leb-true, le-leb, lt-leb, ltb-true, lt-ltb, le-ltb, eqb-true, eqb-false, eq-eqb, ne-eqb, not-true}
 use Rattle.lengths.specs.Edge.{Edge, edge, Point}
-use Rattle.lengths.proofs.Bools.{and-both}
+use Rattle.lists.proofs.Bools.{and-both}
 use Rattle.argument.specs.Verdict.{Verdict, accepted, refused}
 use Rattle.argument.specs.Record.{How, splits, crosses, records, isPoint, howFits, fits}
 use Rattle.argument.specs.Layout.{Enters}

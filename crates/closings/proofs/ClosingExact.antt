@@ -17,7 +17,7 @@ use Rattle.closings.specs.ClosingTest.{saves?, labelling?, apart?, place
 use Rattle.sets.specs.declared.near.Ends as near
 use Rattle.sets.specs.declared.near.Ends.the-variants.{Two, Other}
 use Rattle.closings.specs.declared.closing.Crossed.the-variants.{Settled, NoCrossing, NoSaving}
-use Rattle.sets.proofs.Laws.Bools.{and-true, or-true, true-or}
+use Rattle.lists.proofs.Bools.{and-true, or-true, true-or}
 use Rattle.sets.proofs.Laws.Joined.{has-exact}
 use Rattle.sets.proofs.Laws.Near.{ends-sound, ends-complete}
 use Rattle.closings.proofs.Crossings.{unplaced, no-ends-r, no-ends-s, both-ends, answer}

@@ -17,7 +17,7 @@ use Rattle.sets.specs.Stored.{edgeList}
 use Rattle.sets.specs.declared.edge_set.EdgeSet.{EdgeSet}
 use Rattle.sets.specs.declared.near.Ends.the-variants.{Two, Other}
 use Rattle.closings.specs.declared.closing.Crossed.the-variants.{Settled, NoCrossing, NoSaving}
-use Rattle.sets.proofs.Laws.Bools.{true-or}
+use Rattle.lists.proofs.Bools.{true-or}
 use Rattle.sets.proofs.Laws.Near.{ends-sound}
 use Rattle.sets.proofs.Laws.Stored.{held-points}
 

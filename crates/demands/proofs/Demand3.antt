@@ -12,7 +12,7 @@ use borrow.Author.Tests.{le-leb, eq-eqb}
 use Rattle.lengths.specs.Edge.{edgeCount, place}
 use Rattle.lengths.specs.Instance.{leastPoints, mostPoints, inRange}
 use Rattle.lengths.specs.Table.{lengthOf}
-use Rattle.lengths.specs.Test.{unless}
+use Rattle.lists.specs.Test.{unless}
 use Rattle.lengths.proofs.Edges.{edgeCount-tri, tri-suc, tri-mono, place-below, three-way}
 use Rattle.marks.specs.Mark.{openIn}
 use Rattle.tours.specs.Tour.{Uses, Shortest, ThreeOptimal}
@@ -22,7 +22,7 @@ use Rattle.argument.proofs.Safe.{sheet-safe, run-keeps}
 use Rattle.sheets.specs.Rules.{markingOf}
 use Rattle.sheets.specs.Sheets.{wholeSheet}
 use Rattle.marking.specs.Bytes.{whole16, whole32}
-use Rattle.marking.specs.Fresh.{freshAnswer, freshMarks, freshLeft}
+use Rattle.marks.specs.Fresh.{freshAnswer, freshMarks, freshLeft}
 use Rattle.marking.specs.Marking.{markSheet, markTested, turnedDown}
 use Rattle.marking.specs.Tests.{tested}
 use Rattle.marking.proofs.Tested.{passed}

@@ -10,7 +10,7 @@ use native.Mathlib.Decide.{decLe, ℕ-discrete}
 use native.Mathlib.Omega.{arith}
 use lib.ListN.{length}
 use Rattle.lengths.specs.Edge.{Point}
-use Rattle.sets.specs.EdgeSet.{count}
+use Rattle.lists.specs.Count.{count}
 use Rattle.tours.specs.Tour.{Tour, tourLength, Shortest}
 use Rattle.tours.proofs.Bit.{same-self}
 use Rattle.tours.proofs.Count.{count-cons, tour-length}

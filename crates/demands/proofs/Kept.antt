@@ -20,7 +20,8 @@ use Rattle.tours.proofs.Edges.{inside-cons, has-sym}
 use Rattle.tours.proofs.Neighbours.{tour-no-loop, uses-point}
 use Rattle.tours.proofs.Optimal.{OwnPair, optimal-feasible, optimal-not-closed}
 use Rattle.argument.specs.Safety.{Upheld, Guarded}
-use Rattle.sheets.specs.Rules.{rulesOf, strikeIn, markingOf}
+use Rattle.sheets.specs.Rules.{rulesOf, markingOf}
+use Rattle.marks.specs.Mark.{strikeIn}
 use Rattle.demands.proofs.Lawful.{lawful}
 use Rattle.demands.proofs.Strikes.{length-struck, struck-other}
 

@@ -1,10 +1,9 @@
-pub mod Answers
-pub mod Lawful
-pub mod Strikes
 pub mod Changed
-pub mod Listed
-pub mod Measured
-pub mod Exists
-pub mod Kept
 pub mod Demand2
 pub mod Demand3
+pub mod Exists
+pub mod Kept
+pub mod Lawful
+pub mod Listed
+pub mod Measured
+pub mod Strikes

@@ -9,7 +9,7 @@ use lib.ListN.{length, drop, length-append, length-drop}
 use lib.Seq.{take-at, drop-at}
 use borrow.Author.Tests.{leb-true}
 use Rattle.lengths.specs.Edge.{Edge, edge}
-use Rattle.lengths.specs.Test.{unless}
+use Rattle.lists.specs.Test.{unless}
 use Rattle.marks.specs.Mark.{openIn}
 use Rattle.argument.specs.Record.{splits, fits}
 use Rattle.argument.specs.Rules.{NamesFeasible, single}
@@ -26,7 +26,7 @@ use Rattle.marking.specs.declared.tests.Tested.{Tested}
 use Rattle.marking.specs.declared.tests.Tested.the-variants.{Points, Refused}
 use Rattle.demands.specs.Listed.{ListsFeasible}
 use Rattle.demands.proofs.Lawful.{lawful}
-use Rattle.demands.proofs.Answers.{answered}
+use Rattle.lists.proofs.Tests.{answered}
 
 length-numbers : (es : List Edge) → length (numbersOf es) ≡ 2 * length es
 unfolding numbersOf

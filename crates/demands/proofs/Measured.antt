@@ -14,7 +14,7 @@ use Rattle.lengths.specs.Edge.{Point, edgeCount}
 use Rattle.lengths.specs.Instance.{mostCoordinate, mostSquares, inRange}
 use Rattle.lengths.specs.Measure.{xOf, yOf, gapOf, squares, measuredTable, known, measured, tableAfter, Located}
 use Rattle.lengths.specs.Table.{lengthOf}
-use Rattle.lengths.specs.Test.{allAtMost}
+use Rattle.lists.specs.Test.{allAtMost}
 use Rattle.lengths.specs.declared.distance.NamedRule.the-variants.{Known}
 use Rattle.lengths.specs.declared.distance.Rule.{Rule}
 use Rattle.lengths.specs.declared.distance.Rule.the-variants.{Euc2d, Ceil2d}
@@ -26,7 +26,7 @@ use Rattle.lengths.proofs.Limits.{limit-each}
 use Rattle.lengths.proofs.Tables.{length-self}
 use Rattle.marking.proofs.Tested.{range-admits}
 use Rattle.demands.specs.Measured.{Measures}
-use Rattle.demands.proofs.Answers.{answered}
+use Rattle.lists.proofs.Tests.{answered}
 
 not-done : {number rec : ℕ} → Refused number rec ≡ Done → ⊥
 not-done e = let z : _≡_ {A = ℕ} 0 1 = cc in omega arith

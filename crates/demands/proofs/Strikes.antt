@@ -13,7 +13,7 @@ use Rattle.lengths.specs.Edge.{edge, IsEdge, edgeCount, place}
 use Rattle.lengths.proofs.Edges.{place-below, place-injective, place-symmetric}
 use Rattle.sets.specs.EdgeSet.{Joins}
 use Rattle.marks.specs.Mark.{openIn}
-use Rattle.sheets.specs.Rules.{strikeIn}
+use Rattle.marks.specs.Mark.{strikeIn}
 use Rattle.demands.specs.Marked.{differences}
 
 -- nothing differs from itself

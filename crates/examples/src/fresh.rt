@@ -6,8 +6,8 @@ use answers::tally::some_marks;
 use answers::tally::subject;
 use answers::tally::text;
 use check::same;
-use marking::fresh::Fresh;
-use marking::fresh::fresh_marks;
+use marks::fresh::Fresh;
+use marks::fresh::fresh_marks;
 
 // Marks that nothing was written to.
 const UNTOUCHED: [u8; 7] = [0, 2, 0, 2, 0, 2, 0];

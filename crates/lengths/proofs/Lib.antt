@@ -1,5 +1,4 @@
 pub mod Bisect
-pub mod Bools
 pub mod Coordinates
 pub mod Distances
 pub mod Edges

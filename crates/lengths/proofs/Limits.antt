@@ -11,8 +11,8 @@ use lib.Dec.{leb}
 use lib.ListN.{length, getD, drop, drop-of-length-le}
 use lib.Seq.{drop-cons}
 use borrow.Author.Tests.{le-leb, lt-leb, leb-true}
-use Rattle.lengths.specs.Test.{allAtMost, AtMost}
-use Rattle.lengths.proofs.Bools.{and-left, and-right}
+use Rattle.lists.specs.Test.{allAtMost, AtMost}
+use Rattle.lists.proofs.Bools.{and-left, and-right}
 
 -- the loop of the test, at number i: `within` and the numbers that are left say what the test of all says
 pub record Looked (limit : ℕ) (xs : List ℕ) (within : Bool) (i : ℕ) : Type 0 where

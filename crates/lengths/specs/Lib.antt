@@ -4,4 +4,3 @@ pub mod Instance
 pub mod Measure
 pub mod Rows
 pub mod Table
-pub mod Test

@@ -8,7 +8,7 @@ use lib.ListN.{length, getD}
 use Rattle.lengths.specs.Distance.{distanceBy, ruleOf}
 use Rattle.lengths.specs.Edge.{Edge, edge, edges, edgeCount}
 use Rattle.lengths.specs.Instance.{inRange, mostCoordinate, mostPoints}
-use Rattle.lengths.specs.Test.{allAtMost, AtMost, unless}
+use Rattle.lists.specs.Test.{allAtMost, AtMost, unless}
 use Rattle.lengths.specs.declared.distance.Rule.{Rule}
 use Rattle.lengths.specs.declared.distance.NamedRule.{NamedRule}
 use Rattle.lengths.specs.declared.distance.NamedRule.the-variants.{Known, Unknown}

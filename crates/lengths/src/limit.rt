@@ -1,6 +1,6 @@
 // The test of a limit on every number of a slice.
 ghost use mathlib.Core.Path.{_≡_};
-ghost use Rattle.lengths.specs.Test.{allAtMost};
+ghost use Rattle.lists.specs.Test.{allAtMost};
 
 // Is no number above the limit?
 pub fn all_at_most(numbers: &[u32], limit: u32) -> bool

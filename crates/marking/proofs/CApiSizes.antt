@@ -11,7 +11,7 @@ use lib.Seq.{length-take-le}
 use borrow.Author.Tests.{ne-eqb}
 use Rattle.lengths.specs.Edge.{edgeCount, tri}
 use Rattle.lengths.specs.Instance.{inRange, leastPoints, mostEdges, mostPoints}
-use Rattle.lengths.specs.Test.{unless}
+use Rattle.lists.specs.Test.{unless}
 use Rattle.lengths.proofs.Edges.{edgeCount-tri, tri-mono}
 use Rattle.argument.specs.Sheet.{Result}
 use Rattle.sheets.specs.Results.{resultOf}

@@ -1,7 +1,6 @@
 pub mod BytesDecoded
 pub mod CApiAnswers
 pub mod CApiSizes
-pub mod FreshMarks
 pub mod ListingAnswers
 pub mod ListingCopy
 pub mod MarkingSheets

@@ -8,7 +8,7 @@ use lib.Dec.{leb}
 use lib.ListN.{length, take, drop}
 use borrow.Author.Tests.{le-leb, lt-leb}
 use Rattle.lengths.specs.Edge.{edgeCount}
-use Rattle.lengths.specs.Test.{unless}
+use Rattle.lists.specs.Test.{unless}
 use Rattle.marks.specs.Mark.{openIn, Marked}
 use Rattle.argument.specs.Record.{splits, fits}
 use Rattle.argument.proofs.Tests.{Fits, fits-means}

@@ -7,7 +7,7 @@ use mathlib.Core.List.{List}
 use native.Mathlib.Nat.{mul-le-mul}
 use native.Mathlib.Omega.{arith}
 use lib.ListN.{length}
-use Rattle.lengths.specs.Test.{unless}
+use Rattle.lists.specs.Test.{unless}
 use Rattle.argument.specs.Record.{records}
 use Rattle.argument.specs.Sheet.{Result, sheet}
 use Rattle.sheets.proofs.Records.{sheet-records, sheet-admitted, sheet-refused}

@@ -10,7 +10,7 @@ use lib.ListN.{length, getD, List·getD-eq-default}
 use borrow.Author.Tests.{eqb-true}
 use Rattle.lengths.specs.Edge.{edgeCount}
 use Rattle.lengths.specs.Instance.{inRange, leastPoints, admission, mostLength}
-use Rattle.lengths.specs.Test.{allAtMost, unless}
+use Rattle.lists.specs.Test.{allAtMost, unless}
 use Rattle.lengths.proofs.Instances.{Admits, admitted}
 use Rattle.lengths.proofs.Limits.{limit-each}
 use Rattle.lengths.specs.Table.{Lengths}

@@ -11,9 +11,10 @@ use lib.Dec.{eqb}
 use lib.ListN.{length, getD}
 use borrow.Author.Tests.{eq-eqb, eqb-true}
 use Rattle.lengths.specs.Edge.{Point}
-use Rattle.lengths.proofs.Bools.{and-left, and-right, and-both}
+use Rattle.lists.proofs.Bools.{and-left, and-right, and-both}
 use Rattle.lengths.proofs.Edges.{place-symmetric}
-use Rattle.sets.specs.EdgeSet.{count, closedEdges}
+use Rattle.lists.specs.Count.{count}
+use Rattle.sets.specs.EdgeSet.{closedEdges}
 use Rattle.marks.specs.Mark.{openIn}
 use Rattle.rules.specs.PairTest.{every}
 use Rattle.rules.proofs.PairTests.{every-has, has-every}

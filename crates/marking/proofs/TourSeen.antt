@@ -12,7 +12,7 @@ use lib.ListN.{length, getD, take, set, length-set, replicate, length-replicate,
 use lib.Seq.{take-all, getD-set-same, getD-set-other}
 use borrow.Author.Tests.{ltb-true, ltb-false, lt-ltb}
 use Rattle.lengths.specs.Edge.{Point}
-use Rattle.sets.specs.EdgeSet.{count}
+use Rattle.lists.specs.Count.{count}
 use Rattle.argument.specs.Record.{isPoint}
 use Rattle.argument.proofs.Tests.{is-point, point-is}
 use Rattle.lengths.specs.Instance.{mostPoints, pointPlaces}

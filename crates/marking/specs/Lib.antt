@@ -1,6 +1,5 @@
 pub mod Bytes
 pub mod CApi
-pub mod Fresh
 pub mod Listing
 pub mod Marking
 pub mod Tests

@@ -4,7 +4,7 @@ use mathlib.Core.Path.{_≡_}
 use mathlib.Core.List.{List, _++_}
 use lib.Dec.{leb}
 use lib.ListN.{length, drop}
-use Rattle.lengths.specs.Test.{unless}
+use Rattle.lists.specs.Test.{unless}
 use Rattle.marks.specs.Mark.{openIn}
 use Rattle.rules.specs.Pairs.{keep}
 use Rattle.argument.specs.Record.{splits, fits}

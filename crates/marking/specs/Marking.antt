@@ -2,7 +2,7 @@
 use Prim.Native.Nat.{ℕ}
 use mathlib.Core.List.{List}
 use lib.ListN.{length}
-use Rattle.lengths.specs.Test.{unless}
+use Rattle.lists.specs.Test.{unless}
 use Rattle.argument.specs.Verdict.{refused}
 use Rattle.argument.specs.Sheet.{Result, sheet}
 use Rattle.sheets.specs.Rules.{markingOf}

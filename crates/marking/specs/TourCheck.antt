@@ -8,8 +8,9 @@ use lib.ListN.{length}
 use Rattle.lengths.specs.Edge.{edgeCount}
 use Rattle.lengths.specs.Instance.{leastPoints, mostPoints}
 use Rattle.lengths.specs.Table.{lengthOf}
-use Rattle.lengths.specs.Test.{unless}
-use Rattle.sets.specs.EdgeSet.{count, closedEdges}
+use Rattle.lists.specs.Test.{unless}
+use Rattle.lists.specs.Count.{count}
+use Rattle.sets.specs.EdgeSet.{closedEdges}
 use Rattle.marks.specs.Mark.{openIn}
 use Rattle.rules.specs.PairTest.{every}
 use Rattle.tours.specs.Tour.{tourLength}

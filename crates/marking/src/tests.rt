@@ -4,29 +4,14 @@ use lengths::instance::Admission;
 use lengths::instance::Instance;
 use lengths::limit::all_at_most;
 use lengths::refusal;
+use marks::mark::marks_within;
 ghost use mathlib.Core.Path.{_≡_};
-ghost use Rattle.lengths.specs.Test.{allAtMost};
 ghost use Rattle.marking.specs.Tests.{tested};
 
 // What the tests answer: the number of points, or the number of the first refusal.
 pub enum Tested {
     Points(u16),
     Refused(u8),
-}
-
-// Is each mark 0 or 1?
-fn marks_within(marks: &[u8]) -> bool
-    ensures { λ r. ⌜ r ≡ allAtMost 1 (now (marks .entry)) ⌝ }
-{
-    let mut within = true;
-    let mut i = 0;
-    while i < marks.len() {
-        if 1 < marks[i] {
-            within = false;
-        }
-        i += 1;
-    }
-    within
 }
 
 // Tests 1, 2, 5 and 6: the number of points, the table's size and its entries, the marks' size and their bytes.

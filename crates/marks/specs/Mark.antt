@@ -4,12 +4,27 @@ use mathlib.Core.Path.{_≡_}
 use mathlib.Core.Bool.{Bool}
 use mathlib.Core.List.{List}
 use lib.Dec.{eqb}
-use lib.ListN.{length, getD}
+use lib.ListN.{length, getD, set}
 use Rattle.lengths.specs.Edge.{IsEdge, edgeCount, place}
+
+-- "1 open, 0 struck"
+abbrev pub openMark : ℕ
+openMark = 1
+
+abbrev pub struckMark : ℕ
+struckMark = 0
+
+-- the edge at this place is open
+abbrev pub openAt : List ℕ → ℕ → Bool
+openAt marks i = eqb (getD marks i 0) openMark
 
 -- the edge ab is open
 unfoldable pub openIn : ℕ → List ℕ → ℕ → ℕ → Bool
-openIn n marks a b = eqb (getD marks (place n a b) 0) 1
+openIn n marks a b = openAt marks (place n a b)
+
+-- the marks with the edge ab struck
+unfoldable pub strikeIn : ℕ → List ℕ → ℕ → ℕ → List ℕ
+strikeIn n marks a b = set marks (place n a b) struckMark
 
 -- ab is an edge, and the marks are those of n points
 pub record Marked (n : ℕ) (marks : List ℕ) (a b : ℕ) : Type 0 where

@@ -1,2 +1,4 @@
-// The marks of the edges.
+// The marks of the edges: what a mark is, fresh marks, how many edges are open.
+pub mod counting;
+pub mod fresh;
 pub mod mark;

@@ -2,10 +2,10 @@
 // Slices cross as they are, and an answer is a refusal number alone, or a count.
 use lengths::measure::Measured;
 use lengths::measure::measure;
-use marking::fresh::Fresh;
-use marking::fresh::fresh_marks;
 use marking::listing::Listed;
 use marking::listing::list_pairs;
+use marks::fresh::Fresh;
+use marks::fresh::fresh_marks;
 
 // "Measure": the refusal number, or 0.
 #[no_mangle]

@@ -9,7 +9,7 @@ use lib.ListN.{length, length-append}
 use Rattle.lengths.specs.Edge.{Edge, edge, edges, edgeCount, row, rows, tri}
 use Rattle.lengths.proofs.Edges.{edgeCount-tri, tri-mono, length-edges}
 use Rattle.lengths.specs.Instance.{mostEdges, mostPoints, pointPlaces}
-use Rattle.sets.specs.EdgeSet.{count}
+use Rattle.lists.specs.Count.{count}
 use Rattle.text.specs.Words.{Room, Wrote}
 use Rattle.text.specs.Decimal.{field}
 use Rattle.text.proofs.Writing.{length-three}

@@ -1,5 +1,4 @@
 pub mod Bounds
-pub mod Counting
 pub mod Fronts
 pub mod Headers
 pub mod Measurings

@@ -11,13 +11,13 @@ use Rattle.lengths.specs.Distance.{ruleOf}
 use Rattle.lengths.specs.Edge.{edgeCount}
 use Rattle.lengths.specs.Instance.{inRange, mostCoordinate}
 use Rattle.lengths.specs.Measure.{measured, measuredTable, tableAfter, leftBy, known, MeasuredAs}
-use Rattle.lengths.specs.Test.{unless, allAtMost}
+use Rattle.lists.specs.Test.{unless, allAtMost}
 use Rattle.lengths.specs.declared.distance.NamedRule.{NamedRule}
 use Rattle.lengths.specs.declared.distance.NamedRule.the-variants.{Known, Unknown}
 use Rattle.lengths.specs.declared.measure.Measured.{Measured}
 use Rattle.lengths.specs.declared.measure.Measured.the-variants.{Done, Refused}
 use Rattle.marking.specs.Bytes.{whole16}
-use Rattle.marking.specs.Fresh.{freshMarks}
+use Rattle.marks.specs.Fresh.{freshMarks}
 use Rattle.marking.specs.Marking.{markSheet}
 use Rattle.report.specs.Input.{coordinatesIn, recordsIn, headerBytes, pointBytes}
 use Rattle.text.specs.Words.{Wrote}

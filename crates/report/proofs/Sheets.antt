@@ -15,12 +15,12 @@ use Rattle.sheets.specs.Results.{resultOf}
 use Rattle.sheets.specs.Sheets.{wholeSheet, mostNumbers, recordSize}
 use Rattle.sheets.specs.declared.verdict.Verdict.{Verdict}
 use Rattle.marking.specs.Bytes.{numbers16, numbers32, whole16, whole32, fitting16, fitting32, Decoded}
-use Rattle.marking.specs.Fresh.{freshAnswer, freshMarks, FreshAs}
+use Rattle.marks.specs.Fresh.{freshAnswer, freshMarks, FreshAs}
 use Rattle.marking.specs.Marking.{markSheet, markTested}
 use Rattle.marking.specs.Tests.{tested}
 use Rattle.marking.specs.declared.tests.Tested.{Tested}
 use Rattle.marking.specs.declared.tests.Tested.the-variants as tests
-use Rattle.marking.specs.declared.fresh.Fresh.{Fresh}
+use Rattle.marks.specs.declared.fresh.Fresh.{Fresh}
 use Rattle.text.specs.Words.{Wrote}
 use Rattle.report.specs.Input.{coordinatesIn, headerBytes, pointBytes}
 use Rattle.report.specs.Output.{markedText}

@@ -4,7 +4,7 @@ use mathlib.Core.List.{List}
 use lib.Dec.{leb}
 use lib.ListN.{length, take, drop, getD}
 use Rattle.lengths.specs.Instance.{inRange, mostPoints}
-use Rattle.lengths.specs.Test.{unless}
+use Rattle.lists.specs.Test.{unless}
 use Rattle.sheets.specs.Sheets.{mostNumbers}
 use Rattle.marking.specs.Bytes.{numbers32, whole16}
 use Rattle.report.specs.declared.header.Header.{Header}

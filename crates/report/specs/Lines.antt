@@ -7,7 +7,7 @@ use lib.Dec.{eqb}
 use lib.ListN.{length}
 use Rattle.lengths.specs.Edge.{Edge, edge, edges, edgeCount}
 use Rattle.lengths.specs.Instance.{mostPoints}
-use Rattle.sets.specs.EdgeSet.{count}
+use Rattle.lists.specs.Count.{count}
 use Rattle.text.specs.Words.{Room}
 use Rattle.text.specs.Decimal.{field}
 
@@ -90,8 +90,3 @@ pub record LinesAsked (n : ℕ) (marks out : List ℕ) : Type 0 where
   pub few : n ≤ mostPoints
   pub marked : length marks ≡ edgeCount n
   pub large : Large out
-
--- so many marks are 1, and no more than there are
-pub record OpenIs (marks : List ℕ) (r : ℕ) : Type 0 where
-  pub counted : r ≡ count 1 marks
-  pub few : r ≤ length marks

@@ -8,12 +8,12 @@ use Rattle.lengths.specs.Distance.{ruleOf}
 use Rattle.lengths.specs.Edge.{edgeCount}
 use Rattle.lengths.specs.Instance.{inRange, mostCoordinate}
 use Rattle.lengths.specs.Measure.{measuredTable}
-use Rattle.lengths.specs.Test.{unless, allAtMost}
+use Rattle.lists.specs.Test.{unless, allAtMost}
 use Rattle.lengths.specs.declared.distance.NamedRule.{NamedRule}
 use Rattle.lengths.specs.declared.distance.NamedRule.the-variants.{Known, Unknown}
 use Rattle.argument.specs.Verdict.{Verdict, accepted, refused}
 use Rattle.argument.specs.Sheet.{Result}
-use Rattle.marking.specs.Fresh.{freshMarks}
+use Rattle.marks.specs.Fresh.{freshMarks}
 use Rattle.marking.specs.Marking.{markSheet}
 use Rattle.report.specs.Input.{headerBytes, pointBytes, headerOf, coordinatesIn, recordsIn}
 use Rattle.report.specs.Lines.{lastLine, allLines, Large}

@@ -1,13 +1,15 @@
 // The program's lines, each into a buffer at a place; each answers the next place.
 use lengths::edge;
 use lengths::refusal;
+use marks::counting::open_edges;
+use marks::mark;
 use text::decimal::put_field;
 use text::words::put_word;
 ghost use Prim.Native.Nat.{_≤_};
 ghost use lib.ListN.{length};
 ghost use Rattle.lengths.specs.Instance.{mostEdges, mostPoints};
 ghost use Rattle.text.specs.Words.{Room, Wrote};
-ghost use Rattle.report.specs.Lines.{pointsLine, struckLine, markLine, struckLines, verdictLine, lastLine, allLines, Large, StrikesAsked, LinesAsked, OpenIs};
+ghost use Rattle.report.specs.Lines.{pointsLine, struckLine, markLine, struckLines, verdictLine, lastLine, allLines, Large, StrikesAsked, LinesAsked};
 
 // Line one: n and the edge count.
 fn put_points(n: u16, out: &mut [u8], at: usize) -> usize
@@ -35,7 +37,7 @@ fn put_mark(mark: u8, a: u16, b: u16, out: &mut [u8], at: usize) -> usize
     requires { ⌜ Room (now out) at (markLine mark a b) ⌝ }
     ensures { λ r. ⌜ Wrote (now (out .entry)) at (markLine mark a b) r (now (out .exit)) ⌝ }
 {
-    if mark == 0 {
+    if mark == mark::STRUCK {
         return put_struck(a, b, out, at);
     }
     at
@@ -61,22 +63,6 @@ fn put_strikes(n: u16, marks: &[u8], out: &mut [u8], at: usize) -> usize
         }
     }
     next
-}
-
-// How many edges are open.
-fn open_edges(marks: &[u8]) -> u16
-    requires { ⌜ length (now marks) ≤ mostEdges ⌝ }
-    ensures { λ r. ⌜ OpenIs (now (marks .entry)) r ⌝ }
-{
-    let mut opens: u16 = 0;
-    let mut i = 0;
-    while i < marks.len() {
-        if marks[i] == 1 {
-            opens += 1;
-        }
-        i += 1;
-    }
-    opens
 }
 
 // The last line: refusal number or 0, its record or 0, edges open.

@@ -12,7 +12,7 @@ use Rattle.lengths.specs.Edge.{Point, IsEdgeUp, Placed, tri, place, placeUp}
 use Rattle.lengths.proofs.Edges.{tri-row, placeUp-sum, placeUp-below, edgeCount-tri, edges-fit, place-up, place-down}
 use Rattle.lengths.specs.Instance.{mostLength, mostPoints, pointPlaces}
 use Rattle.rules.specs.Legs.{legOf, narrowedBy, LegList, rowOf, OpenAsked, OpenFrom, OpenBelow, OpenLegs, NarrowAsked, Narrowed, far}
-use Rattle.marks.specs.Mark.{openIn}
+use Rattle.marks.specs.Mark.{openAt, openIn}
 use Rattle.rules.proofs.LegsAndBound.{legOf-self, legOf-open, legOf-shut, narrowed-near}
 
 -- lists of legs
@@ -84,9 +84,9 @@ pub open-end : {n : ℕ} {marks rows : List ℕ} {c at : ℕ} {legs : List ℕ} 
 open-end s = record { list = s .list; each = λ x p. s .done x (p .low) (omega (arith, p .high)) }
 
 -- one more leg, of a point that is not c, by the mark that stands at the place of its edge to c
-open-on : {n : ℕ} {marks rows : List ℕ} {c at : ℕ} {legs : List ℕ} {x spot m : ℕ} → OpenAsked n marks rows c at → OpenBelow n marks rows c at legs x → Point n x → (x ≡ c → ⊥)
-    → spot ≡ place n c x → m ≡ cond (eqb (getD marks spot 0) 1) (getD rows (at + x) 0) far → OpenBelow n marks rows c at (set legs x m) (x + 1)
-open-on {n} {marks} {rows} {c} {at} {legs} {x} {spot} {m} a s p away e is = record {
+open-on : {n : ℕ} {marks rows : List ℕ} {c at : ℕ} {legs : List ℕ} {x spot m : ℕ} {b : Bool} → OpenAsked n marks rows c at → OpenBelow n marks rows c at legs x → Point n x → (x ≡ c → ⊥)
+    → spot ≡ place n c x → b ≡ openAt marks spot → m ≡ cond b (getD rows (at + x) 0) far → OpenBelow n marks rows c at (set legs x m) (x + 1)
+open-on {n} {marks} {rows} {c} {at} {legs} {x} {spot} {m} {b} a s p away e o is = record {
   list = stored-list (s .list) x m inside near;
   done = stored-below (s .list) x m inside (s .done) leg;
   rest = λ i g k. getD-set-other legs x i m 0 (λ r. omega arith) ∙ s .rest i (omega arith) k;
@@ -96,10 +96,10 @@ open-on {n} {marks} {rows} {c} {at} {legs} {x} {spot} {m} a s p away e is = reco
     inside = omega (arith, p .high, a .few)
 
     leg : m ≡ legOf (rowOf rows at) (openIn n marks) [] c x
-    leg = is ∙ ap (λ (j : ℕ). cond (eqb (getD marks j 0) 1) (getD rows (at + x) 0) far) e ∙ away-leg rows n marks c at x away
+    leg = is ∙ ap (λ (t : Bool). cond t (getD rows (at + x) 0) far) (o ∙ ap (openAt marks) e) ∙ away-leg rows n marks c at x away
 
     near : m ≤ far
-    near = rw is (choice (eqb (getD marks spot 0) 1) (a .row .small x p))
+    near = rw is (choice b (a .row .small x p))
 
 -- the points below c: `next` is one more than the place of the edge xc
 pub record OpeningBelow (n : ℕ) (marks rows : List ℕ) (c at : ℕ) (legs : List ℕ) (next x : ℕ) : Type 0 where
@@ -130,14 +130,14 @@ module _ {n : ℕ} {marks rows : List ℕ} {c at : ℕ} {legs : List ℕ} {next 
   pub below-small : next < 2 ^ 32
   below-small = omega (arith, below-place, placeUp-below below-edge, edges-fit {n = n} (omega (arith, s .asked .few)))
 
-  pub below-on : {m : ℕ} → m ≡ cond (eqb (getD marks (next - 1) 0) 1) (getD rows (at + x) 0) far
+  pub below-on : {b : Bool} {m : ℕ} → b ≡ openAt marks (next - 1) → m ≡ cond b (getD rows (at + x) 0) far
       → OpeningBelow n marks rows c at (set legs x m) (next + (n - x - 1)) (x + 1)
-  below-on is =
+  below-on o is =
       let t : n + 1 - (x + 1) ≡ n - x = omega arith in
       let e : next - 1 ≡ placeUp n x c = omega (arith, below-place) in
       record {
         asked = s .asked;
-        below = open-on (s .asked) (s .below) (record { low = s .low; high = omega (arith, s .asked .centre .high) }) (λ g. omega arith) (e ∙ sym (place-down n c x (omega arith))) is;
+        below = open-on (s .asked) (s .below) (record { low = s .low; high = omega (arith, s .asked .centre .high) }) (λ g. omega arith) (e ∙ sym (place-down n c x (omega arith))) o is;
         low = omega arith;
         high = omega arith;
         here = omega (arith, s .here, ap tri t, tri-row n x (omega (arith, s .asked .centre)), s .asked .centre);
@@ -177,9 +177,9 @@ module _ {n : ℕ} {marks rows : List ℕ} {c at : ℕ} {legs : List ℕ} {first
   pub above-inside : first + i < length marks
   above-inside = omega (arith, above-place, placeUp-below above-here, s .asked .marked, edgeCount-tri n)
 
-  pub above-on : {m : ℕ} → m ≡ cond (eqb (getD marks (first + i) 0) 1) (getD rows (at + (c + 1 + i)) 0) far
+  pub above-on : {b : Bool} {m : ℕ} → b ≡ openAt marks (first + i) → m ≡ cond b (getD rows (at + (c + 1 + i)) 0) far
       → OpeningAbove n marks rows c at (set legs (c + 1 + i) m) first (i + 1)
-  above-on {m} is =
+  above-on {m = m} o is =
       let t : c + 1 + i + 1 ≡ c + 1 + (i + 1) = omega arith in
       record {
         asked = s .asked;
@@ -187,7 +187,7 @@ module _ {n : ℕ} {marks rows : List ℕ} {c at : ℕ} {legs : List ℕ} {first
             subst
             (λ (x : ℕ). OpenBelow n marks rows c at (set legs (c + 1 + i) m) x)
             t
-            (open-on (s .asked) (s .below) (record { low = omega arith; high = omega arith }) (λ g. omega arith) (above-place ∙ sym (place-up n c (c + 1 + i) (omega arith))) is);
+            (open-on (s .asked) (s .below) (record { low = omega arith; high = omega arith }) (λ g. omega arith) (above-place ∙ sym (place-up n c (c + 1 + i) (omega arith))) o is);
         placed = s .placed;
         some = s .some;
         high = omega arith;

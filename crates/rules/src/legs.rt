@@ -1,10 +1,10 @@
 // The legs at a split point: the length to each point, FAR where conditions 1 and 4 rule it out.
 use lengths::edge;
 use lengths::instance::Instance;
+use marks::mark::open_at;
 ghost use Prim.Native.Nat.{_+_, _*_, _<_};
 ghost use mathlib.Core.Path.{_≡_};
 ghost use mathlib.Core.Bool.{cond};
-ghost use lib.Dec.{eqb};
 ghost use lib.ListN.{length};
 ghost use Rattle.rules.specs.Legs.{far, narrowedBy, OpenFrom, OpenBelow, OpenLegs, NarrowAsked, Narrowed};
 ghost use Rattle.lengths.specs.Edge.{edge};
@@ -12,11 +12,11 @@ ghost use Rattle.lengths.specs.Edge.{edge};
 // More than any pair may cost: the leg of a point that conditions 1 and 4 rule out.
 pub const FAR: u32 = 5 * Instance::MOST_LENGTH;
 
-// The leg where K is empty of a point that is not c, by the mark of its edge to c and the length.
-fn open_leg(mark: u8, length: u32) -> u32
-    ensures { λ r. ⌜ r ≡ cond (eqb mark 1) length far ⌝ }
+// The leg where K is empty of a point that is not c: the length, where its edge to c is open.
+fn open_leg(opened: bool, length: u32) -> u32
+    ensures { λ r. ⌜ r ≡ cond opened length far ⌝ }
 {
-    if mark == 1 {
+    if opened {
         return length;
     }
     FAR
@@ -39,7 +39,7 @@ fn open_below(
     let mut next = last - 1;
     let mut x = 1;
     while x < last {
-        legs[x] = open_leg(marks[next - 1], rows[at + x]);
+        legs[x] = open_leg(open_at(marks, next - 1), rows[at + x]);
         next += size - x - 1;
         x += 1;
     }
@@ -66,7 +66,7 @@ fn open_above(
     let mut i = 0;
     while i < left {
         let x = first + i;
-        legs[x] = open_leg(marks[place + i], rows[at + x]);
+        legs[x] = open_leg(open_at(marks, place + i), rows[at + x]);
         i += 1;
     }
 }

@@ -1,4 +1,4 @@
-pub mod FirstFrom
+pub mod KeptRows
 pub mod ListingChoice
 pub mod ListingLoops
 pub mod ListingRows

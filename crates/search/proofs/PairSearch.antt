@@ -13,7 +13,8 @@ use Rattle.lengths.specs.Instance.{mostPoints}
 use Rattle.lengths.specs.Table.{lengthOf}
 use Rattle.rules.specs.PairTest.{feasible?}
 use Rattle.sets.specs.Near.{neighbours, within?, beyond}
-use Rattle.search.specs.Nearby.{near?, firstFrom}
+use Rattle.search.specs.Nearby.{near?}
+use Rattle.lists.specs.FirstFrom.{firstFrom}
 use Rattle.sets.specs.Shape.{shuts?, shape?}
 use Rattle.rules.specs.Pairs.{keep, pairsAfter, feasibleAfter}
 use Rattle.lengths.specs.Table.{Lengths}
@@ -23,7 +24,8 @@ use Rattle.search.specs.NextPair.{passes?, allowed?, fits?, firstOf, Sea
 use Rattle.sets.specs.declared.edge_set.EdgeSet.{EdgeSet}
 use Rattle.sets.specs.declared.near.Near.{Near}
 use Rattle.search.specs.declared.pairs.NextPair.the-variants.{Pair, End}
-use Rattle.search.proofs.FirstFrom.{firstFrom-yes, firstFrom-no, firstFrom-low, firstFrom-found, keep-skip}
+use Rattle.lists.proofs.FirstFrom.{firstFrom-yes, firstFrom-no, firstFrom-low, firstFrom-found}
+use Rattle.search.proofs.KeptRows.{keep-skip}
 use Rattle.rules.proofs.PairLists.{pairsAfter-end, keep-yes, keep-no, keep-append, rows-after, feasibleAfter-next}
 use Rattle.search.proofs.RowSearch.{far-row-fails}
 use Rattle.search.proofs.OneComparison.{feasible-passes}

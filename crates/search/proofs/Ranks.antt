@@ -12,8 +12,9 @@ use lib.ListN.{length, getD, set, replicate, length-set, length-replicate}
 use lib.Seq.{getD-set-same, getD-set-other}
 use borrow.Author.Tests.{eqb-true, not-true, not-false}
 use Rattle.lengths.specs.Instance.{mostPoints}
-use Rattle.search.specs.Nearby.{near?, firstFrom, NearbyAsked, NearbyOf, nearPlaces}
-use Rattle.search.proofs.FirstFrom.{firstFrom-yes, firstFrom-no, firstFrom-stays, firstFrom-ends}
+use Rattle.search.specs.Nearby.{near?, NearbyAsked, NearbyOf, nearPlaces}
+use Rattle.lists.specs.FirstFrom.{firstFrom}
+use Rattle.lists.proofs.FirstFrom.{firstFrom-yes, firstFrom-no, firstFrom-stays, firstFrom-ends}
 use Rattle.rules.specs.Legs.{far}
 
 -- a point that is not near has a FAR leg

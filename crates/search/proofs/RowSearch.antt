@@ -10,20 +10,22 @@ use native.Mathlib.Decide.{ℕ-discrete}
 use lib.Dec.{eqb, leb}
 use lib.ListN.{length, getD}
 use borrow.Author.Tests.{eq-eqb, ne-eqb, le-leb, lt-leb}
+use Rattle.lists.proofs.Bools.{and-no, and-yes}
 use Rattle.lengths.specs.Edge.{IsEdgeUp, place, placeUp}
 use Rattle.lengths.specs.Table.{lengthOf}
 use Rattle.lengths.proofs.Edges.{placeUp-below, edgeCount-tri, place-up, edges-fit}
 use Rattle.lengths.proofs.Tables.{length-up}
 use Rattle.lengths.specs.Instance.{mostLength, mostPoints}
 use Rattle.sets.specs.Near.{either?, within?}
-use Rattle.search.specs.Nearby.{near?, firstFrom}
+use Rattle.search.specs.Nearby.{near?}
+use Rattle.lists.specs.FirstFrom.{firstFrom}
 use Rattle.search.specs.NextPair.{passes?, allowed?, RowAsked}
 use Rattle.lengths.specs.Table.{Lengths}
 use Rattle.search.specs.Split.{Bounded}
 use Rattle.rules.specs.Legs.{far}
 use Rattle.sets.specs.declared.near.Near.{Near}
 use Rattle.sets.specs.declared.near.Near.the-variants.{None, One, Two, More}
-use Rattle.search.proofs.FirstFrom.{firstFrom-yes, firstFrom-no, firstFrom-low, firstFrom-high, firstFrom-found, firstFrom-none, firstFrom-at, firstFrom-same, firstFrom-skip}
+use Rattle.lists.proofs.FirstFrom.{firstFrom-yes, firstFrom-no, firstFrom-low, firstFrom-high, firstFrom-found, firstFrom-none, firstFrom-at, firstFrom-same, firstFrom-skip}
 use Rattle.search.proofs.Ranks.{far-leg, rank-first}
 use Rattle.lengths.proofs.Tables.{length-small}
 
@@ -171,14 +173,6 @@ module _ {n : ℕ} {table legs near rank : List ℕ} {bound x y cost first at z 
 
 -- next_with: the row of x where c has the neighbour a
 
-and-true : (t : Bool) → t && true ≡ t
-and-true true = refl
-and-true false = refl
-
-and-false : (t : Bool) → t && false ≡ false
-and-false true = refl
-and-false false = refl
-
 module _ {n : ℕ} {table legs near rank : List ℕ} {bound x y : ℕ} (r : RowAsked n table legs near rank bound x y) where
   -- no pair of the row is allowed
   row-none : (centre : Near) → ((i : ℕ) → suc y ≤ i → i < suc y + (n - y) → allowed? n table legs bound centre x i ≡ false)
@@ -244,13 +238,13 @@ module _ {n : ℕ} {table legs near rank : List ℕ} {bound x y : ℕ} (r : RowA
   unfolding allowed? within? either?
   beside-second a b h e =
       e ∙ firstFrom-same (allowed? n table legs bound (One a) x) (allowed? n table legs bound (Two a b) x)
-      (λ i. rw (eq-eqb b x h, and-true (eqb a x || eqb a i))) (suc y) (n - y)
+      (λ i. rw (eq-eqb b x h, and-yes (eqb a x || eqb a i))) (suc y) (n - y)
 
   pub beside-neither : (a b : ℕ) → (a ≡ b → ⊥) → (a ≡ x → ⊥) → (b ≡ x → ⊥)
       → n + 1 ≡ firstFrom (allowed? n table legs bound (Two a b) x) (suc y) (n - y)
   unfolding allowed? within? either?
   beside-neither a b apart h g = row-none (Two a b) (λ i l u. elim (ℕ-discrete a i) [
-    | yes q ↦ rw (ne-eqb a x h, ne-eqb b x g, ne-eqb b i (λ e. apart (q ∙ sym e)), and-false (eqb a i))
+    | yes q ↦ rw (ne-eqb a x h, ne-eqb b x g, ne-eqb b i (λ e. apart (q ∙ sym e)), and-no (eqb a i))
     | no q ↦ rw (ne-eqb a x h, ne-eqb a i q)
   ])
 

@@ -6,10 +6,11 @@ use mathlib.Core.Bool.{Bool, true, false, not, _&&_}
 use mathlib.Core.List.{List}
 use native.Mathlib.Omega.{arith}
 use native.Mathlib.Numerals.{add-one}
+use Rattle.lists.proofs.Bools.{and-no}
 use Rattle.lengths.specs.Edge.{Edge}
 use Rattle.sets.specs.Beyond.{nextOf, fork, ShutsAsked}
 use Rattle.sets.specs.Near.{neighbours, beyond}
-use Rattle.search.specs.Nearby.{firstFrom}
+use Rattle.lists.specs.FirstFrom.{firstFrom}
 use Rattle.search.specs.NextPair.{allowed?, fits?, BesideAsked, Searchable}
 use Rattle.sets.specs.Shape.{shuts?}
 use Rattle.sets.specs.Stored.{edgeList}
@@ -17,11 +18,7 @@ use Rattle.sets.specs.declared.edge_set.EdgeSet.{EdgeSet}
 use Rattle.sets.specs.declared.near.Near.{Near}
 use Rattle.sets.specs.declared.near.Next.the-variants.{Fork}
 use Rattle.sets.proofs.BeyondNumbers.{beyond-asked, next-fork}
-use Rattle.search.proofs.FirstFrom.{firstFrom-yes, firstFrom-no, firstFrom-low, firstFrom-high, firstFrom-found, firstFrom-none, firstFrom-skip}
-
-and-false : (t : Bool) → t && false ≡ false
-and-false true = refl
-and-false false = refl
+use Rattle.lists.proofs.FirstFrom.{firstFrom-yes, firstFrom-no, firstFrom-low, firstFrom-high, firstFrom-found, firstFrom-none, firstFrom-skip}
 
 module _ (n : ℕ) (table legs : List ℕ) (bound : ℕ) (centre : Near) (K : List Edge) (c x : ℕ) where
   not-allowed : (i : ℕ) → allowed? n table legs bound centre x i ≡ false → fits? n table legs bound centre K c x i ≡ false
@@ -31,7 +28,7 @@ module _ (n : ℕ) (table legs : List ℕ) (bound : ℕ) (centre : Near) (K : Li
   -- where x has several neighbours beyond c, no point fits
   forked : beyond (neighbours K x) c ≡ Fork → (i : ℕ) → fits? n table legs bound centre K c x i ≡ false
   unfolding fits? shuts?
-  forked e i = rw e (and-false (allowed? n table legs bound centre x i))
+  forked e i = rw e (and-no (allowed? n table legs bound centre x i))
 
   -- an allowed point fits where it shuts nothing
   fits-by : (ahead i : ℕ) → nextOf ahead ≡ beyond (neighbours K x) c → allowed? n table legs bound centre x i ≡ true

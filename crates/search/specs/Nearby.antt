@@ -5,6 +5,7 @@ use mathlib.Core.Bool.{Bool, true, false, not}
 use mathlib.Core.List.{List}
 use lib.Dec.{eqb}
 use lib.ListN.{length, getD}
+use Rattle.lists.specs.FirstFrom.{firstFrom}
 use Rattle.lengths.specs.Instance.{mostPoints, pointPlaces}
 use Rattle.rules.specs.Legs.{far}
 
@@ -15,11 +16,6 @@ near? legs x = not (eqb (getD legs x 0) far)
 -- a place for each point, for 0 and for n + 1
 abbrev pub nearPlaces : ℕ
 nearPlaces = pointPlaces + 1
-
--- the first of the k numbers from z on that passes the test, z + k where none does
-unfoldable pub firstFrom : (ℕ → Bool) → ℕ → ℕ → ℕ
-firstFrom test z zero = z
-firstFrom test z (suc k) = elim (test z) [ true ↦ z | false ↦ firstFrom test (suc z) k ]
 
 -- what listing them is asked about: an instance's points, and a place for each, for 0 and for n + 1
 pub record NearbyAsked (n : ℕ) (near rank : List ℕ) : Type 0 where

@@ -11,7 +11,7 @@ use sets::near::Near;
 use sets::shape::shuts;
 ghost use mathlib.Core.Path.{_≡_};
 ghost use Prim.Native.Nat.{suc, _-_};
-ghost use Rattle.search.specs.Nearby.{firstFrom};
+ghost use Rattle.lists.specs.FirstFrom.{firstFrom};
 ghost use Rattle.search.specs.NextPair.{passes?, allowed?, fits?, RowAsked, BesideAsked, Searchable, Next};
 ghost use Rattle.sets.specs.Stored.{edgeList};
 

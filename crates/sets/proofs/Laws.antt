@@ -1,6 +1,5 @@
 -- General laws of the crate: Bools, stored edges, what an edge list has, neighbours, points of a list, cycles, and the path that the cycle
 -- test follows. Each file assumes nothing.
-pub mod Bools
 pub mod Stored
 pub mod Joined
 pub mod Near

@@ -4,6 +4,7 @@ use mathlib.Core.Path.{_≡_}
 use mathlib.Core.List.{List, [], _∷_}
 use mathlib.Core.Logic.{_⊎_}
 use lib.ListN.{length}
+use Rattle.lists.specs.Count.{count}
 use Rattle.lengths.specs.Edge.{Edge, edge}
 
 -- the edge e is ab, in either order
@@ -14,11 +15,6 @@ Joins (edge p q) a b = ((p ≡ a) × (q ≡ b)) ⊎ ((p ≡ b) × (q ≡ a))
 abbrev pub Has : List Edge → ℕ → ℕ → Type 0
 Has [] a b = ⊥
 Has (e ∷ es) a b = Joins e a b ⊎ Has es a b
-
--- how often v stands in a list of points
-unfoldable pub count : ℕ → List ℕ → ℕ
-count v [] = 0
-count v (u ∷ us) = elim (lib.Dec.eqb u v) [ mathlib.Core.Bool.true ↦ 1 + count v us | mathlib.Core.Bool.false ↦ count v us ]
 
 -- the edges of the path from a over the points vs to z
 unfoldable pub pathEdges : ℕ → List ℕ → ℕ → List Edge

@@ -27,7 +27,8 @@ use Rattle.argument.proofs.Equations.{close-splits, judged}
 use Rattle.argument.proofs.Sheet.{turn-over, turn-8, turn-9, turn-stops, turn-strikes, turn-rises, lines-over, lines-stop, lines-go-on}
 use Rattle.sheets.specs.Lines.{LineAsked, TurnedAs, judgedOf, placeOf, turnedOf, marksAfter}
 use Rattle.sheets.specs.Results.{resultOf}
-use Rattle.sheets.specs.Rules.{rulesOf, markingOf, strikeIn}
+use Rattle.sheets.specs.Rules.{rulesOf, markingOf}
+use Rattle.marks.specs.Mark.{strikeIn}
 use Rattle.sheets.specs.Sheets.{recordOf, mostRecords}
 use Rattle.sheets.specs.Walks.{walkedOf, Tried, ChainAsked}
 use Rattle.sheets.specs.declared.line.Judged.{Judged}

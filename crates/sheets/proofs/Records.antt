@@ -9,7 +9,7 @@ use native.Mathlib.Omega.{arith}
 use lib.Dec.{leb, eqb}
 use lib.ListN.{length, getD}
 use borrow.Author.Tests.{eq-eqb, ne-eqb, le-leb, lt-leb, leb-true, eqb-true, eqb-false, not-true}
-use Rattle.lengths.proofs.Bools.{and-left, and-right}
+use Rattle.lists.proofs.Bools.{and-left, and-right}
 use Rattle.argument.specs.Record.{Record, line, case, other, splits, crosses, records, field, bare, content, recordAt}
 use Rattle.sheets.specs.Sheets.{wholeSheet, sheetAdmission, Readable, mostNumbers, mostRecords, recordSize}
 use Rattle.sheets.specs.declared.sheet.Sheet.{Sheet}

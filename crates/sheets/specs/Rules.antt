@@ -1,12 +1,10 @@
 -- The rules of an instance under its marks, as the layer of arguments knows them, and the marks as lists of bytes.
 use Prim.Native.Nat.{ℕ}
 use mathlib.Core.List.{List}
-use lib.ListN.{set}
-use Rattle.lengths.specs.Edge.{place}
 use Rattle.lengths.specs.Table.{lengthOf}
 use Rattle.closings.specs.Closing.{Closes}
 use Rattle.closings.specs.ClosingTest.{crossedBy, refusalOf}
-use Rattle.marks.specs.Mark.{openIn}
+use Rattle.marks.specs.Mark.{openIn, strikeIn}
 use Rattle.rules.specs.Pair.{FeasiblePair}
 use Rattle.rules.specs.Pairs.{feasiblePairs}
 use Rattle.argument.specs.Rules.{Rules}
@@ -22,10 +20,6 @@ rulesOf n table marks =
       pairs = feasiblePairs n (lengthOf n table) (openIn n marks);
       closing = λ K p q r s. refusalOf (crossedBy (lengthOf n table) K p q r s);
     }
-
--- the marks with the edge ab struck
-unfoldable pub strikeIn : ℕ → List ℕ → ℕ → ℕ → List ℕ
-strikeIn n marks a b = set marks (place n a b) 0
 
 -- marks of n points with these lengths
 abbrev pub markingOf : ℕ → List ℕ → Marking (List ℕ)

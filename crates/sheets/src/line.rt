@@ -7,9 +7,9 @@ use crate::verdict::Verdict;
 use crate::walk::Walked;
 use crate::walk::chain;
 use crate::walk::points_fit;
-use lengths::edge;
 use lengths::refusal;
 use marks::mark::is_open;
+use marks::mark::strike;
 use sets::edge_set::EdgeSet;
 ghost use mathlib.Core.Path.{_≡_};
 ghost use Rattle.marks.specs.Mark.{openIn};
@@ -19,7 +19,8 @@ ghost use Rattle.argument.specs.Line as judging;
 ghost use Rattle.argument.specs.Sheet as lines;
 ghost use Rattle.sheets.specs.Lines.{LineAsked, TurnedAs, judgedOf};
 ghost use Rattle.sheets.specs.Results.{resultOf};
-ghost use Rattle.sheets.specs.Rules.{rulesOf, markingOf, strikeIn};
+ghost use Rattle.sheets.specs.Rules.{rulesOf, markingOf};
+ghost use Rattle.marks.specs.Mark.{strikeIn};
 ghost use Rattle.sheets.specs.Sheets.{recordOf};
 ghost use Rattle.sheets.specs.Walks.{Tried};
 
@@ -143,15 +144,6 @@ pub fn mark_line(
         }
         Judged::Refused(number, at) => Turned::Refused(number, at),
     }
-}
-
-// Marks the edge ab struck. Nothing else in the program writes a mark that is not fresh.
-fn strike(n: u16, marks: &mut [u8], a: u16, b: u16)
-    requires { ⌜ mark.Marked n (now marks) a b ⌝ }
-    ensures { λ _. ⌜ now (marks .exit) ≡ strikeIn n (now (marks .entry)) a b ⌝ }
-{
-    let at = edge::place(n, a, b);
-    marks[at] = 0;
 }
 
 // The lines of a sheet of so many records, from record 1 on.

@@ -11,7 +11,7 @@ use borrow.Author.Tests.{eqb-true, eqb-false}
 use native.Mathlib.Decide.{ℕ-discrete, decLe}
 use native.Mathlib.Omega.{arith}
 use Rattle.lengths.specs.Edge.{Point}
-use Rattle.sets.specs.EdgeSet.{count}
+use Rattle.lists.specs.Count.{count}
 use Rattle.tours.specs.Tour.{Tour}
 use Rattle.tours.proofs.Bit.{same, same-true, same-false, same-self}
 

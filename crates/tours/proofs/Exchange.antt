@@ -6,7 +6,8 @@ use mathlib.Core.Path.{_≡_, _∙_}
 use mathlib.Core.List.{List, [], _∷_}
 use native.Mathlib.Omega.{arith}
 use Rattle.lengths.specs.Edge.{Edge, edge}
-use Rattle.sets.specs.EdgeSet.{count, closedEdges}
+use Rattle.lists.specs.Count.{count}
+use Rattle.sets.specs.EdgeSet.{closedEdges}
 use Rattle.tours.specs.Tour.{Tour, total, tourLength, Uses, Symmetric, Exchange}
 use Rattle.tours.proofs.Count.{tour-counts}
 use Rattle.tours.proofs.Edges.{Inside, inside-nil, inside-cons}

@@ -9,7 +9,8 @@ use lib.ListN.{length}
 use native.Mathlib.Decide.{ℕ-discrete}
 use native.Mathlib.Omega.{arith}
 use Rattle.lengths.specs.Edge.{Edge, Point}
-use Rattle.sets.specs.EdgeSet.{count, closedEdges, AtMostTwo}
+use Rattle.lists.specs.Count.{count}
+use Rattle.sets.specs.EdgeSet.{closedEdges, AtMostTwo}
 use Rattle.tours.specs.Tour.{Tour, tourLength, Uses, Symmetric}
 use Rattle.tours.proofs.Bit.{same, same-self, positive}
 use Rattle.tours.proofs.Count.{tour-once, tour-length}

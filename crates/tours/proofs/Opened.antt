@@ -8,7 +8,8 @@ use mathlib.Core.List.{List, [], _∷_}
 use lib.ListN.{length}
 use native.Mathlib.Omega.{arith}
 use Rattle.lengths.specs.Edge.{edge}
-use Rattle.sets.specs.EdgeSet.{Joins, count, closedEdges}
+use Rattle.sets.specs.EdgeSet.{Joins, closedEdges}
+use Rattle.lists.specs.Count.{count}
 use Rattle.tours.specs.Tour.{tourLength, Uses, Symmetric}
 use Rattle.tours.proofs.Bit.{positive}
 use Rattle.tours.proofs.Edges.{mark, mark-fact, mark-symmetric, uses-length, one, length-one}

@@ -5,7 +5,7 @@ use mathlib.Core.Path.{_≡_, refl}
 use mathlib.Core.List.{List, [], _∷_}
 use native.Mathlib.Decide.{ℕ-discrete, decLe}
 use native.Mathlib.Omega.{arith}
-use Rattle.sets.specs.EdgeSet.{count}
+use Rattle.lists.specs.Count.{count}
 use Rattle.tours.specs.Tour.{Tour}
 use Rattle.tours.proofs.Bit.{same-true, same-false}
 use Rattle.tours.proofs.Count.{count-cons}

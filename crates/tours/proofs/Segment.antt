@@ -5,7 +5,8 @@ use Prim.Native.Nat.{ℕ, _+_, _≤_}
 use mathlib.Core.Path.{_≡_, refl, sym, _∙_, ap, ap₂}
 use mathlib.Core.List.{List, [], _∷_, _++_, append-assoc, reverse, reverse-append}
 use native.Mathlib.Omega.{arith}
-use Rattle.sets.specs.EdgeSet.{count, pathEdges, closedEdges}
+use Rattle.lists.specs.Count.{count}
+use Rattle.sets.specs.EdgeSet.{pathEdges, closedEdges}
 use Rattle.tours.specs.Tour.{total, tourLength, Symmetric}
 use Rattle.tours.proofs.Bit.{same, same-self}
 use Rattle.tours.proofs.Count.{count-cons}

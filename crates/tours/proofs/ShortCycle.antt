@@ -7,7 +7,8 @@ use mathlib.Core.Logic.{_⊎_, inl, inr, ⊎-elim}
 use mathlib.Core.List.{List, [], _∷_}
 use native.Mathlib.Omega.{arith}
 use Rattle.lengths.specs.Edge.{Edge, Point}
-use Rattle.sets.specs.EdgeSet.{count, closedEdges, Cycle, NoShortCycle}
+use Rattle.lists.specs.Count.{count}
+use Rattle.sets.specs.EdgeSet.{closedEdges, Cycle, NoShortCycle}
 use Rattle.tours.specs.Tour.{Tour, Uses}
 use Rattle.tours.proofs.Bit.{same-self, same-fact, positive}
 use Rattle.tours.proofs.Count.{count-cons, tour-once, length-all}

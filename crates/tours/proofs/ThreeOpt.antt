@@ -7,7 +7,8 @@ use mathlib.Core.Logic.{_⊎_, inl, inr}
 use mathlib.Core.List.{List, [], _∷_}
 use native.Mathlib.Omega.{arith}
 use Rattle.lengths.specs.Edge.{edge}
-use Rattle.sets.specs.EdgeSet.{count, closedEdges}
+use Rattle.lists.specs.Count.{count}
+use Rattle.sets.specs.EdgeSet.{closedEdges}
 use Rattle.tours.specs.Tour.{Tour, total, tourLength, Uses, Symmetric}
 use Rattle.tours.proofs.Bit.{same, same-false, positive}
 use Rattle.tours.proofs.Count.{tour-once}

@@ -4,7 +4,7 @@ use Prim.Native.Nat.{ℕ, _+_}
 use mathlib.Core.Path.{_≡_, refl, sym, _∙_, ap, ap₂}
 use mathlib.Core.List.{List, [], _∷_, _++_, append-nil, reverse}
 use native.Mathlib.Omega.{arith}
-use Rattle.sets.specs.EdgeSet.{count}
+use Rattle.lists.specs.Count.{count}
 use Rattle.tours.specs.Tour.{Tour, tourLength, Symmetric}
 use Rattle.tours.proofs.Count.{count-append, tour-counts}
 use Rattle.tours.proofs.Segment.{Seg, _▸_, len, rev, cnt-rev, len-rev, list, count-list, length-list, list-join, list-rev, Segment, segment}

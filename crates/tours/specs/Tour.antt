@@ -4,7 +4,8 @@ use mathlib.Core.Path.{_≡_}
 use mathlib.Core.List.{List, [], _∷_}
 use lib.ListN.{length}
 use Rattle.lengths.specs.Edge.{Edge, edge, Point}
-use Rattle.sets.specs.EdgeSet.{Has, count, closedEdges}
+use Rattle.sets.specs.EdgeSet.{Has, closedEdges}
+use Rattle.lists.specs.Count.{count}
 
 -- a tour of n points: each of 1 to n stands in it exactly once, and nothing else does
 pub record Tour (n : ℕ) (t : List ℕ) : Type 0 where

@@ -8,7 +8,7 @@ use mathlib.Core.List.{List, [], _∷_}
 use mathlib.Core.Logic.{_⊎_, inl, inr, ⊎-elim, by-cases}
 use lib.ListN.{length}
 use borrow.Author.Tests.{eq-eqb, ne-eqb}
-use Rattle.sets.specs.EdgeSet.{count}
+use Rattle.lists.specs.Count.{count}
 
 -- v stands in the list
 abbrev pub In : ℕ → List ℕ → Type 0

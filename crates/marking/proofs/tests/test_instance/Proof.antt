@@ -5,7 +5,7 @@ use lib.ListN.{length}
 use borrow.Author.Tests.{not-true, not-false}
 use denote.Ref.{now}
 use Rattle.lengths.specs.Edge.{edgeCount}
-use Rattle.lengths.specs.Test.{allAtMost}
+use Rattle.lists.specs.Test.{allAtMost}
 use Rattle.lengths.proofs.Instances.{Admits, admitted}
 use Rattle.lengths.specs.Instance.{mostLength}
 use Rattle.marking.proofs.TestWays.{refused-points, refused-size, refused-length, refused-marks, refused-mark, passed-tests}

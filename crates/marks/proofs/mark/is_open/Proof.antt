@@ -1,6 +1,6 @@
--- `rules::marks::is_open` meets its contract: the mark stands at the edge's place. Assumes nothing.
+-- `marks::mark::is_open` meets its contract: the mark stands at the edge's place. Assumes nothing.
 use Prim.Native.Nat.{ℕ}
-use mathlib.Core.Path.{ap}
+use mathlib.Core.Path.{_∙_, ap}
 use lib.Dec.{eqb}
 use lib.ListN.{getD}
 use Rattle.marks.specs.Mark.{openIn}
@@ -11,12 +11,12 @@ use Rattle.marks.proofs.mark.is_open.Tie as tie
 place-requires : tie.Need-place-requires
 place-requires c κs = search needs
 
-shared-slice-read-result : tie.Need-shared-slice-read-result
-shared-slice-read-result c = search needs
+open-at-requires : tie.Need-open-at-requires
+open-at-requires c κs = search needs
 
 returns : tie.Need-returns
 unfolding openIn
-returns c = ap (λ (i : ℕ). eqb (getD (c .before .before .before .args .marks .now) i 0) 1) (c .before .place .ensures .at)
+returns c = c .open-at .ensures ∙ ap (λ (i : ℕ). eqb (getD (c .before .before .before .args .marks .now) i 0) 1) (c .before .place .ensures .at)
 
 pub is-open-spec : {M : Type 1} → statement M
-is-open-spec = tie.close (tie.spec place-requires shared-slice-read-result returns)
+is-open-spec = tie.close (tie.spec place-requires open-at-requires returns)

@@ -1,4 +1,4 @@
--- `rules::split::open_above` meets its contract: the invariant is `OpeningAbove`, that the legs below c + 1 + i are filled in. Assumes nothing.
+-- `rules::legs::open_above` meets its contract: the invariant is `OpeningAbove`, that the legs below c + 1 + i are filled in. Assumes nothing.
 use Prim.Native.Nat.{_-_}
 use native.Mathlib.Omega.{arith}
 use Rattle.rules.proofs.LegLoops.{OpeningAbove, above-none, above-start, above-inside, above-on, above-end}
@@ -33,20 +33,20 @@ loop-holds c = above-start (c .before .before .before .before .pre) (c .before .
 add-x : tie.Need-add-x Inv-loop μ-loop
 add-x c = search needs
 
+add-open-at : tie.Need-add-open-at Inv-loop μ-loop
+add-open-at c = search needs
+
+open-at-requires : tie.Need-open-at-requires Inv-loop μ-loop
+open-at-requires c κs = above-inside (c .before .loop .inv) (c .loop-test .taken)
+
 add-open-leg : tie.Need-add-open-leg Inv-loop μ-loop
 add-open-leg c = search needs
-
-shared-slice-read-open-leg : tie.Need-shared-slice-read-open-leg Inv-loop μ-loop
-shared-slice-read-open-leg c = omega (arith, above-inside (c .before .before .loop .inv) (c .before .loop-test .taken))
-
-add-open-leg-2 : tie.Need-add-open-leg-2 Inv-loop μ-loop
-add-open-leg-2 c = search needs
 
 mul-open-leg : tie.Need-mul-open-leg Inv-loop μ-loop
 mul-open-leg c = search needs
 
-shared-slice-read-open-leg-2 : tie.Need-shared-slice-read-open-leg-2 Inv-loop μ-loop
-shared-slice-read-open-leg-2 c = search needs
+shared-slice-read-open-leg : tie.Need-shared-slice-read-open-leg Inv-loop μ-loop
+shared-slice-read-open-leg c = search needs
 
 open-leg-requires : tie.Need-open-leg-requires Inv-loop μ-loop
 open-leg-requires c κs = search needs
@@ -64,7 +64,7 @@ loop-less : tie.Need-loop-less Inv-loop μ-loop
 loop-less c = search needs
 
 loop-again : tie.Need-loop-again Inv-loop μ-loop
-loop-again c = above-on (c .before .before .before .before .loop .inv) (c .before .before .before .loop-test .taken) (c .open-leg .ensures)
+loop-again c = above-on (c .before .before .before .before .loop .inv) (c .before .before .before .loop-test .taken) (c .before .before .open-at .ensures) (c .open-leg .ensures)
 
 returns-2 : tie.Need-returns-2 Inv-loop μ-loop
 returns-2 c = above-end (c .before .loop .inv) (c .loop-test .left)
@@ -82,11 +82,11 @@ open-above-spec =
     place-requires
     loop-holds
     add-x
+    add-open-at
+    open-at-requires
     add-open-leg
-    shared-slice-read-open-leg
-    add-open-leg-2
     mul-open-leg
-    shared-slice-read-open-leg-2
+    shared-slice-read-open-leg
     open-leg-requires
     mul-legs
     element-write-legs

@@ -1,4 +1,4 @@
--- `rules::split::open_below` meets its contract: the invariant is `OpeningBelow`, that the legs below x are filled in and `next` is one more than the place of xc. Assumes nothing.
+-- `rules::legs::open_below` meets its contract: the invariant is `OpeningBelow`, that the legs below x are filled in and `next` is one more than the place of xc. Assumes nothing.
 use Prim.Native.Nat.{_-_}
 use native.Mathlib.Omega.{arith}
 use Rattle.rules.proofs.LegLoops.{OpeningBelow, below-start, below-some, below-inside, below-small, below-on, below-end}
@@ -18,11 +18,11 @@ sub-next c = search needs
 loop-holds : tie.Need-loop-holds Inv-loop μ-loop
 loop-holds c = below-start (c .before .before .pre)
 
-sub-open-leg : tie.Need-sub-open-leg Inv-loop μ-loop
-sub-open-leg c = omega (arith, below-some (c .before .loop .inv) (c .loop-test .taken))
+sub-open-at : tie.Need-sub-open-at Inv-loop μ-loop
+sub-open-at c = omega (arith, below-some (c .before .loop .inv) (c .loop-test .taken))
 
-shared-slice-read-open-leg : tie.Need-shared-slice-read-open-leg Inv-loop μ-loop
-shared-slice-read-open-leg c = omega (arith, below-inside (c .before .before .loop .inv) (c .before .loop-test .taken))
+open-at-requires : tie.Need-open-at-requires Inv-loop μ-loop
+open-at-requires c κs = below-inside (c .before .loop .inv) (c .loop-test .taken)
 
 add-open-leg : tie.Need-add-open-leg Inv-loop μ-loop
 add-open-leg c = search needs
@@ -30,8 +30,8 @@ add-open-leg c = search needs
 mul-open-leg : tie.Need-mul-open-leg Inv-loop μ-loop
 mul-open-leg c = search needs
 
-shared-slice-read-open-leg-2 : tie.Need-shared-slice-read-open-leg-2 Inv-loop μ-loop
-shared-slice-read-open-leg-2 c = search needs
+shared-slice-read-open-leg : tie.Need-shared-slice-read-open-leg Inv-loop μ-loop
+shared-slice-read-open-leg c = search needs
 
 open-leg-requires : tie.Need-open-leg-requires Inv-loop μ-loop
 open-leg-requires c κs = search needs
@@ -58,7 +58,7 @@ loop-less : tie.Need-loop-less Inv-loop μ-loop
 loop-less c = search needs
 
 loop-again : tie.Need-loop-again Inv-loop μ-loop
-loop-again c = below-on (c .before .before .before .before .loop .inv) (c .before .before .before .loop-test .taken) (c .open-leg .ensures)
+loop-again c = below-on (c .before .before .before .before .loop .inv) (c .before .before .before .loop-test .taken) (c .before .before .open-at .ensures) (c .open-leg .ensures)
 
 returns : tie.Need-returns Inv-loop μ-loop
 returns c = below-end (c .before .loop .inv) (c .loop-test .left)
@@ -71,11 +71,11 @@ open-below-spec =
     μ-loop
     sub-next
     loop-holds
-    sub-open-leg
-    shared-slice-read-open-leg
+    sub-open-at
+    open-at-requires
     add-open-leg
     mul-open-leg
-    shared-slice-read-open-leg-2
+    shared-slice-read-open-leg
     open-leg-requires
     mul-legs
     element-write-legs

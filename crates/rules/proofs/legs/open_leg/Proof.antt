@@ -1,13 +1,12 @@
--- `rules::split::open_leg` meets its contract: the mark decides. Assumes nothing.
-use borrow.Author.Tests.{eq-eqb, ne-eqb}
+-- `rules::legs::open_leg` meets its contract: the mark decides. Assumes nothing.
 use Rattle.rules.proofs.legs.open_leg.Statement.{statement}
 use Rattle.rules.proofs.legs.open_leg.Tie as tie
 
 returns : tie.Need-returns
-returns c = rw (eq-eqb _ _ (c .if1 .taken))
+returns c = rw (c .if1 .taken)
 
 returns-2 : tie.Need-returns-2
-returns-2 c = rw (ne-eqb _ _ (c .if1 .left))
+returns-2 c = rw (c .if1 .left)
 
 pub open-leg-spec : {M : Type 1} → statement M
 open-leg-spec = tie.close (tie.spec returns returns-2)

@@ -6,9 +6,10 @@ use lib.Dec.{eqb}
 use lib.ListN.{length, replicate}
 use Rattle.lengths.specs.Edge.{edgeCount}
 use Rattle.lengths.specs.Instance.{inRange}
-use Rattle.lengths.specs.Test.{unless}
-use Rattle.marking.specs.declared.fresh.Fresh.{Fresh}
-use Rattle.marking.specs.declared.fresh.Fresh.the-variants.{Done, Refused}
+use Rattle.lists.specs.Test.{unless}
+use Rattle.marks.specs.Mark.{openMark}
+use Rattle.marks.specs.declared.fresh.Fresh.{Fresh}
+use Rattle.marks.specs.declared.fresh.Fresh.the-variants.{Done, Refused}
 
 -- a refusal names record 0: no record is at fault
 unfoldable pub freshAnswer : ℕ → ℕ → Fresh
@@ -16,7 +17,7 @@ freshAnswer n size = unless (inRange n) (Refused 1 0) (unless (eqb size (edgeCou
 
 -- "Fresh marks are all 1": an open edge for each edge of n points
 unfoldable pub freshMarks : ℕ → List ℕ
-freshMarks n = replicate (edgeCount n) 1
+freshMarks n = replicate (edgeCount n) openMark
 
 abbrev pub freshLeft : Fresh → ℕ → List ℕ → List ℕ
 freshLeft Done n marks = freshMarks n

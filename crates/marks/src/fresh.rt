@@ -1,11 +1,13 @@
 // The operation "fresh marks": every edge open.
+use crate::mark;
 use lengths::edge;
 use lengths::instance::Admission;
 use lengths::instance::Instance;
 use lengths::refusal;
 ghost use mathlib.Core.Path.{_≡_};
 ghost use lib.ListN.{length, replicate};
-ghost use Rattle.marking.specs.Fresh.{FreshAs};
+ghost use Rattle.marks.specs.Fresh.{FreshAs};
+ghost use Rattle.marks.specs.Mark.{openMark};
 
 // The answer of "fresh marks": every edge is open, or the number of the refusal and its record, always 0.
 pub enum Fresh {
@@ -15,11 +17,11 @@ pub enum Fresh {
 
 // Opens every edge.
 fn open_all(marks: &mut [u8])
-    ensures { λ _. ⌜ now (marks .exit) ≡ replicate (length (now (marks .entry))) 1 ⌝ }
+    ensures { λ _. ⌜ now (marks .exit) ≡ replicate (length (now (marks .entry))) openMark ⌝ }
 {
     let mut i = 0;
     while i < marks.len() {
-        marks[i] = 1;
+        marks[i] = mark::OPEN;
         i += 1;
     }
 }

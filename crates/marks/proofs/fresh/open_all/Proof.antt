@@ -2,9 +2,9 @@
 use Prim.Native.Nat.{_-_}
 use borrow.Author.Needs.{needs}
 use lib.ListN.{length}
-use Rattle.marking.proofs.FreshMarks.{Opening, none-opened, one-opened, all-opened}
-use Rattle.marking.proofs.fresh.open_all.Statement.{statement}
-use Rattle.marking.proofs.fresh.open_all.Tie as tie
+use Rattle.marks.proofs.FreshMarks.{Opening, none-opened, one-opened, all-opened}
+use Rattle.marks.proofs.fresh.open_all.Statement.{statement}
+use Rattle.marks.proofs.fresh.open_all.Tie as tie
 
 abbrev Inv-loop : tie.InvT-loop
 Inv-loop marks₀ i₀ marks i = Opening marks₀ marks i

@@ -1,10 +1,10 @@
 -- `marking::fresh::fresh_marks` meets its contract: each way out has its lemma in `FreshMarks`. Assumes nothing.
 use mathlib.Core.Path.{sym, _∙_}
 use Rattle.lengths.proofs.Instances.{Admits, admitted}
-use Rattle.marking.proofs.FreshMarks.{refused-fresh-points, refused-fresh-size, made-fresh}
+use Rattle.marks.proofs.FreshMarks.{refused-fresh-points, refused-fresh-size, made-fresh}
 use borrow.Author.Needs.{needs}
-use Rattle.marking.proofs.fresh.fresh_marks.Statement.{statement}
-use Rattle.marking.proofs.fresh.fresh_marks.Tie as tie
+use Rattle.marks.proofs.fresh.fresh_marks.Statement.{statement}
+use Rattle.marks.proofs.fresh.fresh_marks.Tie as tie
 
 -- test 1 is passed
 admits : (c : tie.After-known-told) → Admits (c .before .before .before .before .before .args .n) (c .before .instance .given .0 .0)

@@ -1,14 +1,15 @@
 -- The loop of `open_edges`: the marks before a place are counted. Assumes nothing.
 use Prim.Native.Nat.{ℕ, _+_, _≤_, _<_}
-use mathlib.Core.Path.{_≡_, _∙_, ap}
+use mathlib.Core.Path.{_≡_, sym, _∙_, ap}
+use mathlib.Core.Bool.{Bool, true, false}
 use mathlib.Core.List.{List, _∷_}
 use native.Mathlib.Numerals.{add-one}
 use native.Mathlib.Omega.{arith}
 use lib.ListN.{length, drop, getD, drop-of-length-le}
 use lib.Seq.{drop-cons}
-use borrow.Author.Tests.{eq-eqb, ne-eqb}
-use Rattle.sets.specs.EdgeSet.{count}
-use Rattle.report.specs.Lines.{OpenIs}
+use Rattle.lists.specs.Count.{count}
+use Rattle.marks.specs.Counting.{OpenIs}
+use Rattle.marks.specs.Mark.{openAt}
 
 pub record Counting (marks : List ℕ) (opens i : ℕ) : Type 0 where
   pub inside : i ≤ length marks
@@ -22,16 +23,16 @@ module _ {marks : List ℕ} {opens i : ℕ} (c : Counting marks opens i) (h : i 
   here : count 1 (drop i marks) ≡ count 1 (getD marks i 0 ∷ drop (i + 1) marks)
   here = rw (add-one i) (ap (count 1) (drop-cons marks i 0 h))
 
-  pub count-open : {o : ℕ} → getD marks i 0 ≡ 1 → o ≡ opens + 1 → Counting marks o (i + 1)
+  pub count-open : {b : Bool} {o : ℕ} → b ≡ openAt marks i → b ≡ true → o ≡ opens + 1 → Counting marks o (i + 1)
   unfolding count
-  count-open e q =
-      let k : count 1 (drop i marks) ≡ 1 + count 1 (drop (i + 1) marks) = here ∙ rw (count, eq-eqb (getD marks i 0) 1 e) in
+  count-open is e q =
+      let k : count 1 (drop i marks) ≡ 1 + count 1 (drop (i + 1) marks) = here ∙ rw (count, sym is ∙ e) in
       record { inside = omega arith; few = omega (arith, c .few); counted = omega (arith, c .counted) }
 
-  pub count-struck : {o : ℕ} → (getD marks i 0 ≡ 1 → ⊥) → o ≡ opens → Counting marks o (i + 1)
+  pub count-struck : {b : Bool} {o : ℕ} → b ≡ openAt marks i → b ≡ false → o ≡ opens → Counting marks o (i + 1)
   unfolding count
-  count-struck e q =
-      let k : count 1 (drop i marks) ≡ count 1 (drop (i + 1) marks) = here ∙ rw (count, ne-eqb (getD marks i 0) 1 e) in
+  count-struck is e q =
+      let k : count 1 (drop i marks) ≡ count 1 (drop (i + 1) marks) = here ∙ rw (count, sym is ∙ e) in
       record { inside = omega arith; few = omega (arith, c .few); counted = omega (arith, c .counted) }
 
 pub count-done : {marks : List ℕ} {opens i : ℕ} → Counting marks opens i → length marks ≤ i → OpenIs marks opens

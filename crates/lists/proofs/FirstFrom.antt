@@ -4,10 +4,7 @@ use mathlib.Core.Path.{_≡_, refl, sym, _∙_, ap, ap₂}
 use mathlib.Core.Bool.{Bool, true, false}
 use native.Mathlib.Omega.{arith}
 use native.Mathlib.Decide.{ℕ-discrete}
-use Rattle.lengths.specs.Edge.{row}
-use Rattle.search.specs.Nearby.{firstFrom}
-use Rattle.rules.specs.Pairs.{keep}
-use Rattle.rules.proofs.PairLists.{keep-no}
+use Rattle.lists.specs.FirstFrom.{firstFrom}
 
 module _ (p : ℕ → Bool) where
   pub firstFrom-yes : (z k : ℕ) → p z ≡ true → firstFrom p z (suc k) ≡ z
@@ -84,25 +81,6 @@ module _ (p : ℕ → Bool) where
       go false e ih =
           let f : suc z + k ≡ z + suc k = omega arith in
           firstFrom-no z (suc k) e ∙ ih (sym (firstFrom-no z k e) ∙ h ∙ sym f) (ap p f ∙ g) ∙ ap suc f
-
-  -- what the test refuses is not kept, so the row may be entered at the first number that passes
-  pub keep-skip : (t : ℕ → ℕ → Bool) (x z k : ℕ) → ((i : ℕ) → z ≤ i → i < z + k → p i ≡ false → t x i ≡ false)
-      → keep t (row x z k) ≡ keep t (row x (firstFrom p z k) (z + k - firstFrom p z k))
-  unfolding row firstFrom
-  keep-skip t x z zero h = let e : z + 0 - z ≡ 0 = omega arith in rw e
-  keep-skip t x z (suc k) h = go (p z) refl (keep-skip t x (suc z) k (λ i g1 g2. h i (omega arith) (omega arith)))
-    where
-      go : (s : Bool) → p z ≡ s
-          → keep t (row x (suc z) k) ≡ keep t (row x (firstFrom p (suc z) k) (suc z + k - firstFrom p (suc z) k))
-          → keep t (row x z (suc k)) ≡ keep t (row x (firstFrom p z (suc k)) (z + suc k - firstFrom p z (suc k)))
-      go true e ih =
-          let f : suc k ≡ z + suc k - firstFrom p z (suc k) = omega (arith, firstFrom-yes z k e) in
-          ap₂ (λ (i j : ℕ). keep t (row x i j)) (sym (firstFrom-yes z k e)) f
-      go false e ih =
-          let f : suc z + k - firstFrom p (suc z) k ≡ z + suc k - firstFrom p z (suc k) = omega (arith, firstFrom-no z k e) in
-          keep-no t x z (row x (suc z) k) (h z (omega arith) (omega arith) e)
-          ∙ ih
-          ∙ ap₂ (λ (i j : ℕ). keep t (row x i j)) (sym (firstFrom-no z k e)) f
 
 -- two tests that agree
 pub firstFrom-same : (p q : ℕ → Bool) → ((i : ℕ) → p i ≡ q i) → (z k : ℕ) → firstFrom p z k ≡ firstFrom q z k

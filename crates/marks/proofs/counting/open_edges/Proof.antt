@@ -1,12 +1,12 @@
--- `report::lines::open_edges` meets its contract: `Counting` holds at the loop's head. Assumes nothing.
+-- `marks::counting::open_edges` meets its contract: `Counting` holds at the loop's head. Assumes nothing.
 use Prim.Native.Nat.{_-_}
 use mathlib.Core.Logic.{⊎-elim}
 use native.Mathlib.Omega.{arith}
 use borrow.Author.Needs.{needs}
 use lib.ListN.{length}
-use Rattle.report.proofs.Counting.{Counting, count-none, count-open, count-struck, count-done}
-use Rattle.report.proofs.lines.open_edges.Statement.{statement}
-use Rattle.report.proofs.lines.open_edges.Tie as tie
+use Rattle.marks.proofs.OpenCounts.{Counting, count-none, count-open, count-struck, count-done}
+use Rattle.marks.proofs.counting.open_edges.Statement.{statement}
+use Rattle.marks.proofs.counting.open_edges.Tie as tie
 
 abbrev Inv-loop : tie.InvT-loop
 Inv-loop marks opens₀ i₀ opens i = Counting marks opens i
@@ -17,11 +17,11 @@ abbrev μ-loop : tie.MeasureT-loop
 loop-holds : tie.Need-loop-holds Inv-loop μ-loop
 loop-holds c = count-none _
 
-shared-slice-read-if1 : tie.Need-shared-slice-read-if1 Inv-loop μ-loop
-shared-slice-read-if1 c = search needs
+open-at-requires : tie.Need-open-at-requires Inv-loop μ-loop
+open-at-requires c κs = c .loop-test .taken
 
 add-opens : tie.Need-add-opens Inv-loop μ-loop
-add-opens c = record { fits = omega (arith, c .before .before .before .before .pre, c .before .before .before .loop .inv) }
+add-opens c = record { fits = omega (arith, c .before .before .before .before .before .pre, c .before .before .before .loop .inv) }
 
 add-i : tie.Need-add-i Inv-loop μ-loop
 add-i c = search needs
@@ -32,7 +32,8 @@ loop-less c = search needs
 loop-again : tie.Need-loop-again Inv-loop μ-loop
 loop-again c =
     let k = c .before .before in
-    ⊎-elim (λ w. count-open (k .before .loop .inv) (k .loop-test .taken) (w .0 .taken) (w .1)) (λ w. count-struck (k .before .loop .inv) (k .loop-test .taken) (w .0 .left) (w .1)) (c .if1 .came)
+    let o = c .before .open-at .ensures in
+    ⊎-elim (λ w. count-open (k .before .loop .inv) (k .loop-test .taken) o (w .0 .taken) (w .1)) (λ w. count-struck (k .before .loop .inv) (k .loop-test .taken) o (w .0 .left) (w .1)) (c .if1 .came)
 
 returns : tie.Need-returns Inv-loop μ-loop
 returns c = count-done (c .before .loop .inv) (c .loop-test .left)
@@ -44,7 +45,7 @@ open-edges-spec =
     Inv-loop
     μ-loop
     loop-holds
-    shared-slice-read-if1
+    open-at-requires
     add-opens
     add-i
     loop-less

@@ -11,14 +11,14 @@ use borrow.Author.Fill.{fill-none, fill-more}
 use borrow.Author.Tests.{eq-eqb, ne-eqb}
 use Rattle.lengths.specs.Edge.{edgeCount, place, IsEdge}
 use Rattle.lengths.specs.Instance.{inRange, admission}
-use Rattle.lengths.specs.Test.{unless}
+use Rattle.lists.specs.Test.{unless}
 use Rattle.lengths.specs.declared.instance.Admission.the-variants.{OutOfRange}
 use Rattle.lengths.specs.declared.instance.Instance.{Instance}
 use Rattle.lengths.proofs.Edges.{place-below}
 use Rattle.lengths.proofs.Instances.{Admits, out-of-range}
 use Rattle.marks.specs.Mark.{openIn}
-use Rattle.marking.specs.Fresh.{freshAnswer, freshMarks, FreshAs}
-use Rattle.marking.specs.declared.fresh.Fresh.the-variants.{Done, Refused}
+use Rattle.marks.specs.Fresh.{freshAnswer, freshMarks, FreshAs}
+use Rattle.marks.specs.declared.fresh.Fresh.the-variants.{Done, Refused}
 
 -- the loop: the first i marks are 1, the others as they were
 pub record Opening (marks₀ marks : List ℕ) (i : ℕ) : Type 0 where

@@ -1,11 +1,11 @@
--- `marking::line::strike` meets its contract: one byte is set, at the place of the edge. Assumes nothing.
+-- `marks::mark::strike` meets its contract: one byte is set, at the place of the edge. Assumes nothing.
 use Prim.Native.Nat.{ℕ}
 use mathlib.Core.Path.{ap}
 use lib.ListN.{set}
-use Rattle.sheets.specs.Rules.{strikeIn}
+use Rattle.marks.specs.Mark.{strikeIn}
 use borrow.Author.Needs.{needs}
-use Rattle.sheets.proofs.line.strike.Statement.{statement}
-use Rattle.sheets.proofs.line.strike.Tie as tie
+use Rattle.marks.proofs.mark.strike.Statement.{statement}
+use Rattle.marks.proofs.mark.strike.Tie as tie
 
 place-requires : tie.Need-place-requires
 place-requires c κs = search needs

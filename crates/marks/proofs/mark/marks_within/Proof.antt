@@ -1,11 +1,11 @@
--- `marking::tests::marks_within` meets its contract: what is found so far and the test of what is left are the test of all. Assumes nothing.
+-- `marks::mark::marks_within` meets its contract: what is found so far and the test of what is left are the test of all. Assumes nothing.
 use Prim.Native.Nat.{_-_}
 use native.Mathlib.Omega.{arith}
 use borrow.Author.Needs.{needs}
 use lib.ListN.{length}
 use Rattle.lengths.proofs.Limits.{Looked, look-start, look-on, look-done}
-use Rattle.marking.proofs.tests.marks_within.Statement.{statement}
-use Rattle.marking.proofs.tests.marks_within.Tie as tie
+use Rattle.marks.proofs.mark.marks_within.Statement.{statement}
+use Rattle.marks.proofs.mark.marks_within.Tie as tie
 
 abbrev Inv-loop : tie.InvT-loop
 Inv-loop marks within₀ i₀ within i = Looked 1 marks within i

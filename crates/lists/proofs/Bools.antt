@@ -1,0 +1,36 @@
+-- Laws of `&&` and `||` on Bools. Assumes nothing.
+use mathlib.Core.Path.{_≡_, refl, sym}
+use mathlib.Core.Bool.{Bool, true, false, _&&_, _||_, true≢false, false≢true}
+use mathlib.Core.Logic.{_⊎_, inl, inr}
+
+pub and-left : (a b : Bool) → (a && b) ≡ true → a ≡ true
+and-left true b h = refl
+and-left false b h = h
+
+pub and-right : (a b : Bool) → (a && b) ≡ true → b ≡ true
+and-right true b h = h
+and-right false b h = absurd (true≢false (sym h))
+
+pub and-both : (a b : Bool) → a ≡ true → b ≡ true → (a && b) ≡ true
+and-both true b h g = g
+and-both false b h g = h
+
+pub and-true : (s t : Bool) → (s && t) ≡ true → (s ≡ true) × (t ≡ true)
+and-true s t h = (and-left s t h, and-right s t h)
+
+pub or-true : (s t : Bool) → (s || t) ≡ true → (s ≡ true) ⊎ (t ≡ true)
+or-true true t h = inl refl
+or-true false t h = inr h
+
+pub true-or : (s t : Bool) → (s ≡ true) ⊎ (t ≡ true) → (s || t) ≡ true
+true-or true t h = refl
+true-or false t (inl h) = absurd (false≢true h)
+true-or false t (inr h) = h
+
+pub and-yes : (t : Bool) → t && true ≡ t
+and-yes true = refl
+and-yes false = refl
+
+pub and-no : (t : Bool) → t && false ≡ false
+and-no true = refl
+and-no false = refl

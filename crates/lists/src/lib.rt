@@ -1,0 +1,1 @@
+// General laws of lists, counts, tests and Bools: definitions and theorems only, no code.

@@ -1,0 +1,2 @@
+pub mod FreshMarks
+pub mod OpenCounts
