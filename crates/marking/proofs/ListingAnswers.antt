@@ -13,13 +13,13 @@ use Rattle.marks.specs.Mark.{openIn, Marked}
 use Rattle.argument.specs.Record.{splits, fits}
 use Rattle.argument.proofs.Tests.{Fits, fits-means}
 use Rattle.lengths.specs.Instance.{fewEdges, fewPoints, mostEdges}
-use Rattle.search.specs.Listing.{pairsAt, Found, FindAsked}
+use Rattle.listing.specs.Find.{pairsAt, Found, FindAsked}
 use Rattle.marking.specs.Listing.{listed, listLeft, ListedInto, ListedAs}
 use Rattle.marking.specs.Tests.{tested}
 use Rattle.marking.specs.declared.listing.Listed.{Listed}
 use Rattle.marking.specs.declared.listing.Listed.the-variants.{Pairs, Refused}
 use Rattle.marking.specs.declared.tests.Tested.the-variants as tests
-use Rattle.search.proofs.ListingLoops.{few-edges, fewer-edges}
+use Rattle.listing.proofs.Loops.{few-edges, fewer-edges}
 use Rattle.marking.proofs.Tested.{Passed}
 
 -- tests 1, 2, 5, 6 and 11 are passed

@@ -3,14 +3,14 @@ use crate::tests::Tested;
 use crate::tests::test_instance;
 use lengths::instance::Instance;
 use lengths::refusal;
+use listing::find::find_pairs;
 use marks::mark::is_open;
-use search::listing::find_pairs;
 use sheets::sheet::Closing;
 use sheets::walk::points_fit;
 ghost use mathlib.Core.Path.{_≡_};
 ghost use mathlib.Core.List.{_++_};
 ghost use lib.ListN.{take, drop};
-ghost use Rattle.search.specs.Listing.{FindAsked};
+ghost use Rattle.listing.specs.Find.{FindAsked};
 ghost use Rattle.marking.specs.Listing.{CopyAsked, ListedInto, ListedAs};
 
 // The answer of "list pairs": how many pairs there are, or the number of the refusal and its record, always 0.

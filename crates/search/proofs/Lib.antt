@@ -1,7 +1,4 @@
 pub mod KeptRows
-pub mod ListingChoice
-pub mod ListingLoops
-pub mod ListingRows
 pub mod OneComparison
 pub mod PairSearch
 pub mod Preparing

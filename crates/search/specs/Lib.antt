@@ -1,4 +1,3 @@
-pub mod Listing
 pub mod Nearby
 pub mod NextPair
 pub mod Split

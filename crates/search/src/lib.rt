@@ -1,5 +1,4 @@
 // The search for feasible pairs at a split point.
-pub mod listing;
 pub mod nearby;
 pub mod pairs;
 pub mod split;

@@ -3,9 +3,9 @@ use Prim.Native.Nat.{_+_, _-_, _*_}
 use native.Mathlib.Omega.{arith}
 use lib.Seq.{lt-length-set}
 use borrow.Author.Needs.{needs}
-use Rattle.search.proofs.ListingRows.{row-far, Rowing, row-edge, rowing-start, rowing-on, rowing-end, in-table, place-small, has-room, one-more}
-use Rattle.search.proofs.listing.find_in_row.Statement.{statement}
-use Rattle.search.proofs.listing.find_in_row.Tie as tie
+use Rattle.listing.proofs.Rows.{row-far, Rowing, row-edge, rowing-start, rowing-on, rowing-end, in-table, place-small, has-room, one-more}
+use Rattle.listing.proofs.find.find_in_row.Statement.{statement}
+use Rattle.listing.proofs.find.find_in_row.Tie as tie
 
 abbrev Inv-loop : tie.InvT-loop
 Inv-loop n table legs bound x barred found₀ before leg cost first start left skip count₀ i₀ found count i =

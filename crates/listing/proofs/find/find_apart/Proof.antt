@@ -2,9 +2,9 @@
 use Prim.Native.Nat.{_+_, _-_, _*_}
 use native.Mathlib.Omega.{arith}
 use borrow.Author.Needs.{needs}
-use Rattle.search.proofs.ListingRows.{Apart, apart-start, apart-row, apart-on, apart-end}
-use Rattle.search.proofs.listing.find_apart.Statement.{statement}
-use Rattle.search.proofs.listing.find_apart.Tie as tie
+use Rattle.listing.proofs.Rows.{Apart, apart-start, apart-row, apart-on, apart-end}
+use Rattle.listing.proofs.find.find_apart.Statement.{statement}
+use Rattle.listing.proofs.find.find_apart.Tie as tie
 
 abbrev Inv-loop : tie.InvT-loop
 Inv-loop n table legs bound low high found₀ count₀ x₀ found count x = Apart n table legs bound low high found₀ found x count

@@ -1,8 +1,8 @@
 -- `marking::listing::barred_in` meets its contract, by the cases of its test. Assumes nothing.
 use borrow.Author.Tests.{eq-eqb, ne-eqb}
-use Rattle.search.specs.Listing.{barredIn}
-use Rattle.search.proofs.listing.barred_in.Statement.{statement}
-use Rattle.search.proofs.listing.barred_in.Tie as tie
+use Rattle.listing.specs.Find.{barredIn}
+use Rattle.listing.proofs.find.barred_in.Statement.{statement}
+use Rattle.listing.proofs.find.barred_in.Tie as tie
 
 returns : tie.Need-returns
 unfolding barredIn

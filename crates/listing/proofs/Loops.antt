@@ -14,20 +14,20 @@ use Rattle.lengths.proofs.Edges.{length-edges, edgeCount-tri, tri-mono}
 use Rattle.lengths.specs.Instance.{fewEdges, fewPoints, mostEdges, mostPoints}
 use Rattle.marks.specs.Mark.{openIn}
 use Rattle.sets.specs.Near.{neighbours}
 use Rattle.search.specs.Nearby.{NearbyOf}
 use Rattle.search.specs.NextPair.{Searchable, Next, firstOf}
 use Rattle.rules.specs.PairTest.{feasible?}
 use Rattle.rules.specs.Pairs.{keep, feasiblePairs, feasibleAfter}
 use Rattle.search.specs.Split.{Bounded, Prepared, SplitOf}
 use Rattle.sets.specs.Stored.{edgeList}
 use Rattle.sets.specs.declared.edge_set.EdgeSet.{EdgeSet}
 use Rattle.sets.specs.declared.near.Near.{Near}
 use Rattle.search.specs.declared.pairs.NextPair.{NextPair}
 use Rattle.search.specs.declared.pairs.NextPair.the-variants.{Pair, End}
 use Rattle.sets.proofs.BeyondNumbers.{two-apart}
 use Rattle.rules.proofs.PairLists.{keep-yes, keep-no, feasibleAfter-start}
 use Rattle.search.proofs.PairSearch.{next-is-pair, next-is-end}
-use Rattle.search.specs.Listing.{numbersOf, Found, SearchAsked}
+use Rattle.listing.specs.Find.{numbersOf, Found, SearchAsked}
 
 -- how many pairs there are
 

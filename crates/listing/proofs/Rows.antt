@@ -17,12 +17,12 @@ use Rattle.lengths.specs.Table.{lengthOf}
 use Rattle.lengths.proofs.Edges.{length-row, edgeCount-tri, tri-suc, place-up, placeUp-below, edges-fit}
 use Rattle.lengths.proofs.Tables.{length-up}
 use Rattle.lengths.specs.Instance.{mostEdges, mostLength}
 use Rattle.search.specs.NextPair.{passes?}
 use Rattle.rules.specs.Pairs.{keep}
 use Rattle.rules.proofs.PairLists.{keep-yes, keep-no, keep-append}
 use Rattle.lengths.proofs.Tables.{length-small}
-use Rattle.search.specs.Listing.{numbersOf, ones, stands?, barredIn, apart?, standing, RowAsked, RowFound, ApartAsked, Found}
-use Rattle.search.proofs.ListingLoops.{keep-fewer, few-edges, two-more}
+use Rattle.listing.specs.Find.{numbersOf, ones, stands?, barredIn, apart?, standing, RowAsked, RowFound, ApartAsked, Found}
+use Rattle.listing.proofs.Loops.{keep-fewer, few-edges, two-more}
 use Rattle.rules.specs.Legs.{far}
 
 -- a pair that is written and counted if it stands

@@ -1,12 +1,12 @@
 // The feasible pairs of K = {ab} at c, all of them: row by row, or one after another at an end of the edge.
-use crate::nearby;
-use crate::nearby::list_nearby;
-use crate::pairs::NextPair;
-use crate::pairs::next_pair;
-use crate::split::prepare_single;
 use lengths::edge;
 use lengths::instance::Instance;
 use rules::legs;
+use search::nearby;
+use search::nearby::list_nearby;
+use search::pairs::NextPair;
+use search::pairs::next_pair;
+use search::split::prepare_single;
 use sets::edge_set::EdgeSet;
 use sets::near::neighbours;
 ghost use mathlib.Core.Bool.{_&&_, not};
@@ -17,7 +17,7 @@ ghost use Rattle.lengths.specs.Table.{lengthOf};
 ghost use Rattle.marks.specs.Mark.{openIn};
 ghost use Rattle.rules.specs.Pairs.{keep, feasiblePairs};
 ghost use Rattle.sets.specs.Stored.{edgeList};
-ghost use Rattle.search.specs.Listing.{pairsAt, ones, barredIn, apart?, RowAsked, RowFound, ApartAsked, SearchAsked, FindAsked, Found};
+ghost use Rattle.listing.specs.Find.{pairsAt, ones, barredIn, apart?, RowAsked, RowFound, ApartAsked, SearchAsked, FindAsked, Found};
 
 // 1 where the pair stands: its cost is at most what it may be, and z is not barred.
 fn kept(cost: u32, most: u32, z: usize, barred: usize) -> u16

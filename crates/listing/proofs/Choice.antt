@@ -14,13 +14,13 @@ use Rattle.lengths.specs.Edge.{Edge, edge, IsEdgeUp, edges}
 use Rattle.lengths.specs.Table.{lengthOf}
 use Rattle.sets.specs.Joined.{joins?}
 use Rattle.marks.specs.Mark.{openIn}
 use Rattle.search.specs.NextPair.{passes?}
 use Rattle.rules.specs.Pairs.{keep, feasiblePairs}
 use Rattle.search.specs.Split.{Prepared, SplitOf}
 use Rattle.sets.specs.Stored.{edgeList, Single}
 use Rattle.sets.specs.declared.edge_set.EdgeSet.{EdgeSet}
 use Rattle.search.proofs.SingleEdge.{single-pairs}
-use Rattle.search.specs.Listing.{pairsAt, numbersOf, stands?, barredIn, apart?, SearchAsked, FindAsked, Found}
+use Rattle.listing.specs.Find.{pairsAt, numbersOf, stands?, barredIn, apart?, SearchAsked, FindAsked, Found}
 
 -- c is a point of ab: the search pair by pair
 

@@ -2,9 +2,9 @@
 use mathlib.Core.Bool.{_&&_, not}
 use lib.Dec.{eqb, leb}
 use borrow.Author.Needs.{needs}
-use Rattle.search.proofs.ListingRows.{byte-ones}
-use Rattle.search.proofs.listing.kept.Statement.{statement}
-use Rattle.search.proofs.listing.kept.Tie as tie
+use Rattle.listing.proofs.Rows.{byte-ones}
+use Rattle.listing.proofs.find.kept.Statement.{statement}
+use Rattle.listing.proofs.find.kept.Tie as tie
 
 cast-result : tie.Need-cast-result
 cast-result c = search needs

@@ -1,0 +1,2 @@
+// All feasible pairs of one edge at a split point.
+pub mod find;
