@@ -1,4 +1,4 @@
--- `rules::closing::crossing` meets its contract: each return is a way out of `crossedBy`. Assumes nothing.
+-- `closings::closing::crossing` meets its contract: each return is a way out of `crossedBy`. Assumes nothing.
 use mathlib.Core.Path.{_≡_, sym, _∙_}
 use mathlib.Core.Bool.{true}
 use borrow.Author.Needs.{needs}

@@ -1,4 +1,4 @@
--- `rules::closing::end_by` meets its contract. Assumes nothing.
+-- `closings::closing::end_by` meets its contract. Assumes nothing.
 use borrow.Author.Tests.{eq-eqb, ne-eqb}
 use Rattle.closings.specs.ClosingTest.{pick}
 use Rattle.closings.proofs.closing.end_by.Statement.{statement}

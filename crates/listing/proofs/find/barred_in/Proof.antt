@@ -1,4 +1,4 @@
--- `marking::listing::barred_in` meets its contract, by the cases of its test. Assumes nothing.
+-- `listing::find::barred_in` meets its contract, by the cases of its test. Assumes nothing.
 use borrow.Author.Tests.{eq-eqb, ne-eqb}
 use Rattle.listing.specs.Find.{barredIn}
 use Rattle.listing.proofs.find.barred_in.Statement.{statement}

@@ -1,4 +1,4 @@
--- `marking::listing::find_apart` meets its contract: `Apart` holds at the loop's head, and the measure is the number of rows left. Assumes nothing.
+-- `listing::find::find_apart` meets its contract: `Apart` holds at the loop's head, and the measure is the number of rows left. Assumes nothing.
 use Prim.Native.Nat.{_+_, _-_, _*_}
 use native.Mathlib.Omega.{arith}
 use borrow.Author.Needs.{needs}

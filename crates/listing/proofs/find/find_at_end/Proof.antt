@@ -1,4 +1,4 @@
--- `marking::listing::find_at_end` meets its contract: `Searching` holds at the loop's head, and the measure is the number of pairs left. Assumes nothing.
+-- `listing::find::find_at_end` meets its contract: `Searching` holds at the loop's head, and the measure is the number of pairs left. Assumes nothing.
 use Prim.Native.Nat.{_+_, _*_, _<_}
 use mathlib.Core.Path.{refl}
 use native.Mathlib.Omega.{arith}

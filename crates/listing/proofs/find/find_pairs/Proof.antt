@@ -1,4 +1,4 @@
--- `marking::listing::find_pairs` meets its contract: each search has its lemma in `ListingChoice`. Assumes nothing.
+-- `listing::find::find_pairs` meets its contract: each search has its lemma in `ListingChoice`. Assumes nothing.
 use borrow.Author.Needs.{needs}
 use Rattle.listing.proofs.Choice.{end-asked, end-found, prepared-single, apart-up, apart-down}
 use Rattle.listing.proofs.find.find_pairs.Statement.{statement}

@@ -1,4 +1,4 @@
--- `marking::listing::kept` meets its contract: a test read as a number is 1 or 0. Assumes nothing.
+-- `listing::find::kept` meets its contract: a test read as a number is 1 or 0. Assumes nothing.
 use mathlib.Core.Bool.{_&&_, not}
 use lib.Dec.{eqb, leb}
 use borrow.Author.Needs.{needs}

@@ -1,4 +1,4 @@
--- `marking::fresh::fresh_marks` meets its contract: each way out has its lemma in `FreshMarks`. Assumes nothing.
+-- `marks::fresh::fresh_marks` meets its contract: each way out has its lemma in `FreshMarks`. Assumes nothing.
 use mathlib.Core.Path.{sym, _∙_}
 use Rattle.lengths.proofs.Instances.{Admits, admitted}
 use Rattle.marks.proofs.FreshMarks.{refused-fresh-points, refused-fresh-size, made-fresh}

@@ -1,4 +1,4 @@
--- `marking::fresh::open_all` meets its contract: at the loop's head the first i marks are 1, the others as they were. Assumes nothing.
+-- `marks::fresh::open_all` meets its contract: at the loop's head the first i marks are 1, the others as they were. Assumes nothing.
 use Prim.Native.Nat.{_-_}
 use borrow.Author.Needs.{needs}
 use lib.ListN.{length}

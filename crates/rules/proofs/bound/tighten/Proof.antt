@@ -1,4 +1,4 @@
--- `rules::split::tighten` meets its contract: the smaller of the room at uv and the bound. Assumes nothing.
+-- `rules::bound::tighten` meets its contract: the smaller of the room at uv and the bound. Assumes nothing.
 use Rattle.rules.proofs.LegsAndBound.{tightened-first, tightened-second, tightened-room, tightened-over}
 use borrow.Author.Needs.{needs}
 use Rattle.rules.proofs.bound.tighten.Statement.{statement}

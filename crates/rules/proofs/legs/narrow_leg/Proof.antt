@@ -1,4 +1,4 @@
--- `rules::split::narrow_leg` meets its contract: either exchange may be the larger. Assumes nothing.
+-- `rules::legs::narrow_leg` meets its contract: either exchange may be the larger. Assumes nothing.
 use Rattle.rules.proofs.LegsAndBound.{narrowed-first, narrowed-second, narrowed-neither}
 use Rattle.rules.proofs.legs.narrow_leg.Statement.{statement}
 use Rattle.rules.proofs.legs.narrow_leg.Tie as tie

@@ -1,4 +1,4 @@
--- `rules::split::open_legs` meets its contract: the points below c, then those above it. Assumes nothing.
+-- `rules::legs::open_legs` meets its contract: the points below c, then those above it. Assumes nothing.
 use Rattle.rules.proofs.LegLoops.{open-middle, open-end}
 use Rattle.rules.proofs.legs.open_legs.Statement.{statement}
 use Rattle.rules.proofs.legs.open_legs.Tie as tie

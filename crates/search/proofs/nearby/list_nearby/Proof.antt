@@ -1,4 +1,4 @@
--- `rules::nearby::list_nearby` meets its contract: the loop's invariant is `Ranked`, of the two lists with what the next step writes to them.
+-- `search::nearby::list_nearby` meets its contract: the loop's invariant is `Ranked`, of the two lists with what the next step writes to them.
 -- Assumes nothing.
 use Prim.Native.Nat.{_+_, _-_}
 use lib.Dec.{eqb}

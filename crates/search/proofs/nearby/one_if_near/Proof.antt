@@ -1,4 +1,4 @@
--- `rules::nearby::one_if_near` meets its contract: the byte of a Bool is 1 or 0. Assumes nothing.
+-- `search::nearby::one_if_near` meets its contract: the byte of a Bool is 1 or 0. Assumes nothing.
 use mathlib.Core.Path.{_≡_, refl}
 use mathlib.Core.Bool.{Bool, true, false, not, cond}
 use lib.Dec.{eqb}

@@ -1,4 +1,4 @@
--- `rules::pairs::next_beside` meets its contract: what c has leaves all points, one, or none. Assumes nothing.
+-- `search::pairs::next_beside` meets its contract: what c has leaves all points, one, or none. Assumes nothing.
 use mathlib.Core.Path.{_∙_}
 use Rattle.search.proofs.RowSearch.{beside-none, beside-first, beside-second, beside-neither, beside-more}
 use borrow.Author.Needs.{needs}

@@ -1,4 +1,4 @@
--- `rules::pairs::next_pair` meets its contract: the loop's invariant is `Walking`, the measure the rows left. Assumes nothing.
+-- `search::pairs::next_pair` meets its contract: the loop's invariant is `Walking`, the measure the rows left. Assumes nothing.
 use Prim.Native.Nat.{_-_}
 use native.Mathlib.Omega.{arith}
 use Rattle.search.proofs.PairSearch.{Walking, walk-start, walk-asked, walk-rank, walk-rises, walk-found, walk-row, walk-end}

@@ -1,4 +1,4 @@
--- `rules::pairs::next_with` meets its contract: the row of a itself, else the one point a. Assumes nothing.
+-- `search::pairs::next_with` meets its contract: the row of a itself, else the one point a. Assumes nothing.
 use native.Mathlib.Omega.{arith}
 use Rattle.search.proofs.RowSearch.{with-own, with-past, with-over, with-found, with-refused}
 use borrow.Author.Needs.{needs}

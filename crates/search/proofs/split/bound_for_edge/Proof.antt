@@ -1,4 +1,4 @@
--- `rules::split::bound_for_edge` meets its contract: the bound of no edge, with ab taken in. Assumes nothing.
+-- `search::split::bound_for_edge` meets its contract: the bound of no edge, with ab taken in. Assumes nothing.
 use Rattle.search.proofs.Preparing.{edge-short, edge-bound}
 use borrow.Author.Needs.{needs}
 use Rattle.search.proofs.split.bound_for_edge.Statement.{statement}

@@ -1,4 +1,4 @@
--- `rules::split::legs_for_edge` meets its contract: the legs where K is empty, with ab taken in. Assumes nothing.
+-- `search::split::legs_for_edge` meets its contract: the legs where K is empty, with ab taken in. Assumes nothing.
 use mathlib.Core.Path.{refl}
 use Rattle.rules.proofs.LegLoops.{open-start}
 use Rattle.search.proofs.Preparing.{edge-open, edge-narrow, edge-legs}

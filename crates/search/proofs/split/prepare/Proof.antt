@@ -1,4 +1,4 @@
--- `rules::split::prepare` meets its contract: the invariant is `Taking`, that the legs and the bound are those of the first i edges.
+-- `search::split::prepare` meets its contract: the invariant is `Taking`, that the legs and the bound are those of the first i edges.
 -- Assumes nothing.
 use Prim.Native.Nat.{_-_}
 use Rattle.rules.proofs.LegLoops.{open-start}

@@ -1,4 +1,4 @@
--- `rules::split::prepare_single` meets its contract: the edge at hand is the only one of the set. Assumes nothing.
+-- `search::split::prepare_single` meets its contract: the edge at hand is the only one of the set. Assumes nothing.
 use Rattle.search.proofs.Preparing.{single-asked, single-split}
 use borrow.Author.Needs.{needs}
 use Rattle.search.proofs.split.prepare_single.Statement.{statement}

@@ -1,4 +1,4 @@
--- `rules::split::row_start` meets its contract: a product of two numbers of 16 bits, one more, fits. Assumes nothing.
+-- `search::split::row_start` meets its contract: a product of two numbers of 16 bits, one more, fits. Assumes nothing.
 use Prim.Native.Nat.{ℕ, _+_, _*_, _^_, _≤_, _<_}
 use native.Mathlib.Nat.{mul-le-mul, le-of-lt}
 use native.Mathlib.Omega.{arith}

@@ -1,4 +1,4 @@
--- `rules::split::take_in` meets its contract: an edge that touches c leaves all as it is, and any other narrows the legs and tightens the bound.
+-- `search::split::take_in` meets its contract: an edge that touches c leaves all as it is, and any other narrows the legs and tightens the bound.
 -- Assumes nothing.
 use mathlib.Core.Logic.{inl, inr}
 use Rattle.search.proofs.Preparing.{taken-touching, take-asks, take-short, take-narrow, taken-in}

@@ -1,4 +1,4 @@
--- `rules::split::triangle_of` meets its contract: the lengths stand in the rows of p and c. Assumes nothing.
+-- `search::split::triangle_of` meets its contract: the lengths stand in the rows of p and c. Assumes nothing.
 use borrow.Author.Needs.{needs}
 use Rattle.search.proofs.split.triangle_of.Statement.{statement}
 use Rattle.search.proofs.split.triangle_of.Tie as tie

@@ -1,4 +1,4 @@
--- `rules::beyond::further` meets its contract: each test is one of `further` and `joined`. Assumes nothing.
+-- `sets::beyond::further` meets its contract: each test is one of `further` and `joined`. Assumes nothing.
 use Rattle.sets.proofs.BeyondNumbers.{further-centre, further-first, further-same, further-fork}
 use Rattle.sets.proofs.beyond.further.Statement.{statement}
 use Rattle.sets.proofs.beyond.further.Tie as tie

@@ -1,4 +1,4 @@
--- `rules::beyond::pass` meets its contract: its tests are those of `passing`. Assumes nothing.
+-- `sets::beyond::pass` meets its contract: its tests are those of `passing`. Assumes nothing.
 use mathlib.Core.Path.{_∙_}
 use borrow.Author.Needs.{needs}
 use Rattle.sets.proofs.BeyondNumbers.{passing-first, passing-second, passing-neither}

@@ -1,4 +1,4 @@
--- `rules::near::ends_of` meets its contract: each arm is a clause of `bothOf`.
+-- `sets::near::ends_of` meets its contract: each arm is a clause of `bothOf`.
 -- Assumes nothing.
 use borrow.Author.Needs.{needs}
 use Rattle.sets.specs.Near.{endsOf, bothOf}

@@ -1,4 +1,4 @@
--- `rules::near::neighbours` meets its contract. The invariant: `found` has v's neighbours in the first i edges; the measure is what is left
+-- `sets::near::neighbours` meets its contract. The invariant: `found` has v's neighbours in the first i edges; the measure is what is left
 -- of the count. Assumes nothing.
 use Prim.Native.Nat.{_≤_, _-_}
 use native.Mathlib.Omega.{arith}

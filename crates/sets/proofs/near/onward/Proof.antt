@@ -1,4 +1,4 @@
--- `rules::near::onward` meets its contract, which joins those of its two callees.
+-- `sets::near::onward` meets its contract, which joins those of its two callees.
 -- Assumes nothing.
 use mathlib.Core.Path.{_∙_}
 use borrow.Author.Needs.{needs}

@@ -1,4 +1,4 @@
--- `rules::shape::shuts` meets its contract: its tests of the two numbers are the clauses of `shuts?`. Assumes nothing.
+-- `sets::shape::shuts` meets its contract: its tests of the two numbers are the clauses of `shuts?`. Assumes nothing.
 use mathlib.Core.Path.{_∙_}
 use Rattle.sets.proofs.BeyondNumbers.{shuts-second, open-first, open-second, shuts-both}
 use borrow.Author.Needs.{needs}

@@ -1,4 +1,4 @@
--- `marking::line::judge` meets its contract: each return is a way out of `judge`, by the record that was read. Assumes nothing.
+-- `sheets::line::judge` meets its contract: each return is a way out of `judge`, by the record that was read. Assumes nothing.
 use Rattle.sheets.proofs.Lining.{judge-line, judge-case, judge-other}
 use borrow.Author.Needs.{needs}
 use Rattle.sheets.proofs.line.judge.Statement.{statement}

@@ -1,4 +1,4 @@
--- `marking::line::judge_line` meets its contract: each return is a way out of `judgeRecord` at a line. Assumes nothing.
+-- `sheets::line::judge_line` meets its contract: each return is a way out of `judgeRecord` at a line. Assumes nothing.
 use mathlib.Core.Path.{sym, _∙_}
 use borrow.Author.Tests.{not-true, not-false}
 use Rattle.sheets.proofs.Lining.{line-misfit, line-struck, line-strikes, line-stops, line-marked, line-chain}

@@ -1,4 +1,4 @@
--- `marking::line::mark_line` meets its contract: each return is a way out of `turn`, and only the one that strikes changes a mark.
+-- `sheets::line::mark_line` meets its contract: each return is a way out of `turn`, and only the one that strikes changes a mark.
 -- Assumes nothing.
 use Rattle.sheets.proofs.Looking.{above-all, not-above, entered}
 use Rattle.sheets.proofs.Lining.{mark-over, mark-above, mark-low, mark-marked, mark-strikes, mark-stops}

@@ -1,4 +1,4 @@
--- `marking::line::mark_lines` meets its contract: the loop's invariant is `Proceeding`, and its measure the records left above the highest
+-- `sheets::line::mark_lines` meets its contract: the loop's invariant is `Proceeding`, and its measure the records left above the highest
 -- entered. Assumes nothing.
 use Prim.Native.Nat.{_-_}
 use mathlib.Core.Path.{_∙_}

@@ -1,4 +1,4 @@
--- `marking::walk::is_point` meets its contract: each return is a way out of `isPoint`. Assumes nothing.
+-- `sheets::walk::is_point` meets its contract: each return is a way out of `isPoint`. Assumes nothing.
 use Rattle.sheets.proofs.Looking.{point-zero, point-above}
 use Rattle.sheets.proofs.walk.is_point.Statement.{statement}
 use Rattle.sheets.proofs.walk.is_point.Tie as tie

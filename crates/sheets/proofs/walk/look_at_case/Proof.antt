@@ -1,4 +1,4 @@
--- `marking::walk::look_at_case` meets its contract: each return is a way out of `readCase`. Assumes nothing.
+-- `sheets::walk::look_at_case` meets its contract: each return is a way out of `readCase`. Assumes nothing.
 use mathlib.Core.Path.{sym, _∙_}
 use borrow.Author.Tests.{not-true, not-false}
 use Rattle.sheets.proofs.Looking.{no-pair, other-x, other-y, same-pair, read-misfit, read-other, read-takes}

@@ -1,4 +1,4 @@
--- `marking::walk::points_fit` meets its contract: each return is a way out of `fits`. Assumes nothing.
+-- `sheets::walk::points_fit` meets its contract: each return is a way out of `fits`. Assumes nothing.
 use mathlib.Core.Path.{sym, _∙_}
 use borrow.Author.Tests.{not-true, not-false}
 use Rattle.sheets.proofs.Looking.{fits-not-a, fits-not-b, fits-not-apart, fits-how}

@@ -1,4 +1,4 @@
--- `rules::edge_set::EdgeSet::single` meets its contract: the law `single` reads the two arrays of one value each.
+-- `sets::edge_set::EdgeSet::single` meets its contract: the law `single` reads the two arrays of one value each.
 -- Assumes nothing.
 use Rattle.sets.proofs.Laws.Stored.{single}
 use Rattle.sets.proofs.edge_set.EdgeSet.single.Statement.{statement}

@@ -1,4 +1,4 @@
--- `rules::edge_set::EdgeSet::with_pair` meets its contract: the law `added` reads the two places that are stored to.
+-- `sets::edge_set::EdgeSet::with_pair` meets its contract: the law `added` reads the two places that are stored to.
 -- Assumes nothing.
 use borrow.Author.Needs.{needs}
 use Rattle.sets.proofs.Laws.Stored.{added}

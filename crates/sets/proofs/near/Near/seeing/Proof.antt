@@ -1,4 +1,4 @@
--- `rules::near::Near::seeing` meets its contract: its two tests are those of `seen`, and `with` takes the neighbour in.
+-- `sets::near::Near::seeing` meets its contract: its two tests are those of `seen`, and `with` takes the neighbour in.
 -- Assumes nothing.
 use mathlib.Core.Path.{_∙_}
 use borrow.Author.Needs.{needs}

@@ -1,4 +1,4 @@
--- `rules::near::Near::with` meets its contract: each arm is a clause of `withPoint`, and each test one of its comparisons.
+-- `sets::near::Near::with` meets its contract: each arm is a clause of `withPoint`, and each test one of its comparisons.
 -- Assumes nothing.
 use borrow.Author.Needs.{needs}
 use borrow.Author.Tests.{eq-eqb, ne-eqb}

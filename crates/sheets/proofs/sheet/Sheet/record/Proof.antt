@@ -1,4 +1,4 @@
--- `marking::sheet::Sheet::record` meets its contract: the eight numbers lie in the sheet, and each way out is `recordAt` at its kind, u and v.
+-- `sheets::sheet::Sheet::record` meets its contract: the eight numbers lie in the sheet, and each way out is `recordAt` at its kind, u and v.
 -- Assumes nothing.
 use native.Mathlib.Omega.{arith}
 use Rattle.argument.specs.Record.{field}
