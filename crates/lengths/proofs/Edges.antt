@@ -11,6 +11,7 @@ use native.Mathlib.Omega.{arith}
 use lib.ListN.{length, getD, length-append, List·getD-append}
 use lib.Seq.{getD-append-add}
 use borrow.Author.Tests.{lt-ltb, le-ltb}
+use Rattle.lengths.specs.Instance.{fewEdges, fewPoints, mostEdges, mostPoints}
 use Rattle.lengths.specs.Edge.{edge, IsEdge, IsEdgeUp, Before, Placed, edgeCount, row, rows, edges, tri, placeUp, place}
 
 -- 2 tri k = k (k - 1), without subtraction
@@ -116,6 +117,26 @@ placed e h = record { at = h; inside = rw h (place-below e) }
 -- 65,535 points have fewer than 2 ^ 32 edges
 pub edges-fit : {n : ℕ} → n < 2 ^ 16 → tri n < 2 ^ 32
 edges-fit {n} h = omega (arith, tri-square n, mul-le-mul (le-of-lt h) (le-of-lt h))
+
+-- n(n - 1)/2 for the most points, and for few
+edgeCount-mono : (m n : ℕ) → m ≤ n → edgeCount m ≤ edgeCount n
+edgeCount-mono m n h = omega (arith, edgeCount-tri m, edgeCount-tri n, tri-mono m n h)
+
+pub edges-few : (n : ℕ) → n ≤ mostPoints → edgeCount n ≤ mostEdges
+unfolding edgeCount
+edges-few n h = edgeCount-mono n mostPoints h
+
+pub edges-fewer : (n : ℕ) → n ≤ fewPoints → edgeCount n ≤ fewEdges
+unfolding edgeCount
+edges-fewer n h = edgeCount-mono n fewPoints h
+
+-- along the row of a the places run on
+pub placeUp-add : (n a b i : ℕ) → a < b → placeUp n a (b + i) ≡ placeUp n a b + i
+unfolding placeUp
+placeUp-add n a b i h = omega arith
+
+pub place-along : {n v first : ℕ} (i : ℕ) → Placed n v (v + 1) first → first + i ≡ placeUp n v (v + 1 + i)
+place-along {n} {v} i p = omega (arith, p .at, placeUp-add n v (v + 1) i (omega arith), place-up n v (v + 1) (omega arith))
 
 -- places rise in 01's order
 pub placeUp-rises : {n a b c d : ℕ} → IsEdgeUp n a b → IsEdgeUp n c d → Before a b c d → placeUp n a b < placeUp n c d

@@ -11,7 +11,7 @@ use lib.Seq.{getD-set-same, getD-set-other}
 use Rattle.lengths.specs.Edge.{IsEdge, IsEdgeUp, Placed, tri, placeUp}
 use Rattle.lengths.specs.Table.{lengthOf}
 use Rattle.lengths.specs.Rows.{RowAt, RowFillable, RowPart, RowFilled, RowsFillable, RowsFilled}
-use Rattle.lengths.proofs.Edges.{edgeCount-tri, tri-row, placeUp-sum, placeUp-below, place-up}
+use Rattle.lengths.proofs.Edges.{edgeCount-tri, tri-row, placeUp-sum, placeUp-below, place-along}
 use Rattle.lengths.proofs.Tables.{length-self, length-up, length-symmetric}
 
 -- parts of a row
@@ -127,9 +127,7 @@ module _ {n at v i first : ℕ} {table rows r : List ℕ} (f : RowFillable n tab
   there = record { low = f .point .low; up = omega arith; high = omega arith }
 
   pub above-place : first + i ≡ placeUp n v (v + 1 + i)
-  above-place =
-      let e : IsEdgeUp n v (v + 1) = record { low = f .point .low; up = omega arith; high = omega arith } in
-      omega (arith, placeUp-sum e, placeUp-sum there, p .at, place-up n v (v + 1) (omega arith))
+  above-place = place-along i p
 
   pub above-inside : first + i < length table
   above-inside = omega (arith, above-place, placeUp-below there, f .whole, edgeCount-tri n)

@@ -10,8 +10,8 @@ use lib.ListN.{length, take, set, length-set}
 use lib.Seq.{take-suc-set}
 use Rattle.lengths.specs.Edge.{Edge, edge, IsEdgeUp, edgeCount, edges}
 use Rattle.lengths.specs.Table.{lengthOf}
-use Rattle.lengths.proofs.Edges.{length-edges, edgeCount-tri, tri-mono}
-use Rattle.lengths.specs.Instance.{fewEdges, fewPoints, mostEdges, mostPoints}
+use Rattle.lengths.proofs.Edges.{edges-few, length-edges}
+use Rattle.lengths.specs.Instance.{mostEdges}
 use Rattle.marks.specs.Mark.{openIn}
 use Rattle.sets.specs.Near.{neighbours}
 use Rattle.search.specs.Nearby.{NearbyOf}
@@ -39,17 +39,6 @@ keep-fewer t (edge a b ∷ es) = go (t a b) refl (keep-fewer t es)
     go : (s : Bool) → t a b ≡ s → length (keep t es) ≤ length es → length (keep t (edge a b ∷ es)) ≤ suc (length es)
     go true e h = rw (keep-yes t a b es e) (omega arith)
     go false e h = rw (keep-no t a b es e) (omega arith)
-
-edges-mono : (m n : ℕ) → m ≤ n → edgeCount m ≤ edgeCount n
-edges-mono m n h = omega (arith, edgeCount-tri m, edgeCount-tri n, tri-mono m n h)
-
-pub few-edges : (n : ℕ) → n ≤ mostPoints → edgeCount n ≤ mostEdges
-unfolding edgeCount
-few-edges n h = edges-mono n mostPoints h
-
-pub fewer-edges : (n : ℕ) → n ≤ fewPoints → edgeCount n ≤ fewEdges
-unfolding edgeCount
-fewer-edges n h = edges-mono n fewPoints h
 
 few-pairs : (n : ℕ) (l : ℕ → ℕ → ℕ) (open? : ℕ → ℕ → Bool) (K : List Edge) (c : ℕ) → 1 ≤ n → length (feasiblePairs n l open? K c) ≤ edgeCount n
 unfolding feasiblePairs
@@ -79,7 +68,7 @@ finding-start {n} {table} {marks} {k} {c} {found} g =
       up = omega arith;
       high = some;
       size = refl;
-      few = omega (arith, few, few-edges n (g .split .legs .lengths .few));
+      few = omega (arith, few, edges-few n (g .split .legs .lengths .few));
       room = omega (arith, few, g .room);
       counted = omega (arith, ap length e);
       written = ap numbersOf e;

@@ -14,7 +14,7 @@ use lib.Seq.{take-set-le}
 use borrow.Author.Tests.{lt-leb}
 use Rattle.lengths.specs.Edge.{Edge, edge, IsEdge, IsEdgeUp, row, rows, edges, tri, place, placeUp}
 use Rattle.lengths.specs.Table.{lengthOf}
-use Rattle.lengths.proofs.Edges.{length-row, edgeCount-tri, tri-suc, place-up, placeUp-below, edges-fit}
+use Rattle.lengths.proofs.Edges.{edges-few, placeUp-add, length-row, edgeCount-tri, tri-suc, place-up, placeUp-below, edges-fit}
 use Rattle.lengths.proofs.Tables.{length-up}
 use Rattle.lengths.specs.Instance.{mostEdges, mostLength}
 use Rattle.search.specs.NextPair.{passes?}
@@ -22,7 +22,7 @@ use Rattle.rules.specs.Pairs.{keep}
 use Rattle.rules.proofs.PairLists.{keep-yes, keep-no, keep-append}
 use Rattle.lengths.proofs.Tables.{length-small}
 use Rattle.listing.specs.Find.{numbersOf, ones, stands?, barredIn, apart?, standing, RowAsked, RowFound, ApartAsked, Found}
-use Rattle.listing.proofs.Loops.{keep-fewer, few-edges, two-more}
+use Rattle.listing.proofs.Loops.{keep-fewer, two-more}
 use Rattle.rules.specs.Legs.{far}
 
 -- a pair that is written and counted if it stands
@@ -121,10 +121,6 @@ rowing-start {n} {table} {legs} {bound} {x} barred {found} {before} {first} a p 
       written = ap (λ (es : List Edge). take (2 * before) found ++ numbersOf es) e;
     }
 
-placeUp-add : (n x i : ℕ) → placeUp n x (x + 1 + i) ≡ placeUp n x (x + 1) + i
-unfolding placeUp
-placeUp-add n x i = omega arith
-
 module _ {n : ℕ} {table legs : List ℕ} {bound x barred : ℕ} {found₀ : List ℕ} {before cost first : ℕ} {found : List ℕ} {count i : ℕ}
     (r : Rowing n table legs bound x barred found₀ before cost first found count i) where
   -- the end of the row
@@ -147,7 +143,7 @@ module _ {n : ℕ} {table legs : List ℕ} {bound x barred : ℕ} {found₀ : Li
     edge-here = record { low = r .asked .low; up = omega arith; high = omega arith }
 
     place-here : first + i ≡ placeUp n x (x + 1 + i)
-    place-here = omega (arith, r .is-first, placeUp-add n x i)
+    place-here = omega (arith, r .is-first, placeUp-add n x (x + 1) i (omega arith))
 
     pub in-table : first + i < length table
     in-table = omega (arith, place-here, placeUp-below edge-here, edgeCount-tri n, r .asked .lengths .whole)
@@ -243,7 +239,7 @@ apart-start {n} low high a =
 
 module _ {n : ℕ} {table legs : List ℕ} {bound low high : ℕ} {found₀ found : List ℕ} {x count : ℕ} (r : Apart n table legs bound low high found₀ found x count) where
   all-few : tri n ≤ mostEdges
-  all-few = omega (arith, edgeCount-tri n, few-edges n (r .asked .lengths .few))
+  all-few = omega (arith, edgeCount-tri n, edges-few n (r .asked .lengths .few))
 
   pub apart-end : n ≤ x → Found (keep (apart? n table legs bound low high) (edges n)) count found
   unfolding rows keep numbersOf

@@ -19,7 +19,7 @@ use Rattle.marking.specs.Tests.{tested}
 use Rattle.marking.specs.declared.listing.Listed.{Listed}
 use Rattle.marking.specs.declared.listing.Listed.the-variants.{Pairs, Refused}
 use Rattle.marking.specs.declared.tests.Tested.the-variants as tests
-use Rattle.listing.proofs.Loops.{few-edges, fewer-edges}
+use Rattle.lengths.proofs.Edges.{edges-few, edges-fewer}
 use Rattle.marking.proofs.Tested.{Passed}
 
 -- tests 1, 2, 5, 6 and 11 are passed
@@ -55,10 +55,10 @@ module _ {n : ℕ} {table marks : List ℕ} {m a b c : ℕ} where
 
   -- the small array has room for the pairs of few points, the large one for those of most
   pub findable-small : {found : List ℕ} → Listable n table marks m a b c → m ≤ fewPoints → length found ≡ 2 * fewEdges → FindAsked m table marks a b c found
-  findable-small f h z = findable f (omega (arith, fewer-edges m h))
+  findable-small f h z = findable f (omega (arith, edges-fewer m h))
 
   pub findable-large : {found : List ℕ} → Listable n table marks m a b c → length found ≡ 2 * mostEdges → FindAsked m table marks a b c found
-  findable-large f z = findable f (omega (arith, few-edges m (f .fitted .passed .lengths .few)))
+  findable-large f z = findable f (omega (arith, edges-few m (f .fitted .passed .lengths .few)))
 
   -- test 18 is the one left
   reached : Listable n table marks m a b c → (size : ℕ)

@@ -7,7 +7,7 @@ use native.Mathlib.Omega.{arith}
 use lib.Dec.{eqb}
 use lib.ListN.{length, length-append}
 use Rattle.lengths.specs.Edge.{Edge, edge, edges, edgeCount, row, rows, tri}
-use Rattle.lengths.proofs.Edges.{edgeCount-tri, tri-mono, length-edges}
+use Rattle.lengths.proofs.Edges.{edges-few, edgeCount-tri, tri-mono, length-edges}
 use Rattle.lengths.specs.Instance.{mostEdges, mostPoints, pointPlaces}
 use Rattle.lists.specs.Count.{count}
 use Rattle.text.specs.Words.{Room, Wrote}
@@ -16,10 +16,6 @@ use Rattle.text.proofs.Writing.{length-three}
 use Rattle.text.proofs.Decimals.{field-length}
 use Rattle.report.specs.Lines.{pointsWord, edgesWord, struckWord, space, verdictWord, recordWord, openWord, lineEnd}
 use Rattle.report.specs.Lines.{pointsLine, struckLine, markLine, markLines, struckLines, verdictLine, allLines, Large, LinesAsked, StrikesAsked}
-
-pub edges-few : {n : ℕ} → n ≤ mostPoints → edgeCount n ≤ mostEdges
-unfolding tri
-edges-few {n} h = omega (arith, edgeCount-tri n, tri-mono n mostPoints h)
 
 struck-length : (a b : ℕ) → a ≤ mostPoints → b ≤ mostPoints → length (struckLine a b) ≤ 15
 unfolding struckLine
@@ -75,7 +71,7 @@ points-length n h = omega (
   arith,
   length-three (field pointsWord n) (field edgesWord (edgeCount n)) lineEnd,
   field-length 2 pointsWord n (omega arith),
-  field-length 4 edgesWord (edgeCount n) (omega (arith, edges-few h)),
+  field-length 4 edgesWord (edgeCount n) (omega (arith, edges-few _ h)),
 )
 
 verdict-length : (number rec opens : ℕ) → number < 2 ^ 8 → rec < 2 ^ 16 → opens ≤ mostEdges → length (verdictLine number rec opens) ≤ 38
@@ -110,7 +106,7 @@ all-room {n} {number} {rec} {marks} {out} p h g = record {
     length-three (pointsLine n) (struckLines n marks) (verdictLine number rec (count 1 marks)),
     points-length n (p .few),
     strikes-length n marks (p .some) (p .few),
-    verdict-length number rec (count 1 marks) h g (omega (arith, p .marked, edges-few (p .few), count-few 1 marks)),
+    verdict-length number rec (count 1 marks) h g (omega (arith, p .marked, edges-few _ (p .few), count-few 1 marks)),
   );
 }
 

@@ -16,7 +16,7 @@ use Rattle.report.specs.Lines.{allLines, LinesAsked}
 use Rattle.report.specs.Input.{headerOf}
 use Rattle.report.specs.Output.{markedText, textFor, outputOf, MarkingAsked, InstanceAsked, Places, Reported}
 use Rattle.report.specs.declared.header.Header.{Header}
-use Rattle.report.proofs.Bounds.{edges-few}
+use Rattle.lengths.proofs.Edges.{edges-few}
 
 -- the lines of a verdict
 pub wrote-accepted : (n : ℕ) (marks : List ℕ) {v : Verdict} {lines : ℕ} {out left : List ℕ} {r : ℕ} → v ≡ Accepted lines
@@ -46,7 +46,7 @@ pub numbers-few : {n : ℕ} {file out : List ℕ} → InstanceAsked n file out �
 numbers-few {n} p = omega (arith, in-range n (p .range))
 
 pub count-few : {n e : ℕ} {file out : List ℕ} → InstanceAsked n file out → e ≡ edgeCount n → e ≤ mostEdges
-count-few {n} p h = omega (arith, edges-few (in-range n (p .range) .1))
+count-few {n} p h = omega (arith, edges-few n (in-range n (p .range) .1))
 
 pub part-length : (k : ℕ) (l : List ℕ) → k ≤ length l → k ≡ length (take k l)
 part-length k l h = sym (length-take-le k l h)

@@ -9,7 +9,7 @@ use lib.Dec.{eqb}
 use lib.ListN.{length, getD, set, replicate, length-set, length-replicate, getD-replicate, List·getD-eq-default}
 use lib.Seq.{getD-set-same, getD-set-other}
 use Rattle.lengths.specs.Edge.{Point, IsEdgeUp, Placed, tri, place, placeUp}
-use Rattle.lengths.proofs.Edges.{tri-row, placeUp-sum, placeUp-below, edgeCount-tri, edges-fit, place-up, place-down}
+use Rattle.lengths.proofs.Edges.{tri-row, placeUp-sum, placeUp-below, edgeCount-tri, edges-fit, place-up, place-down, place-along}
 use Rattle.lengths.specs.Instance.{mostLength, mostPoints, pointPlaces}
 use Rattle.rules.specs.Legs.{legOf, narrowedBy, LegList, rowOf, OpenAsked, OpenFrom, OpenBelow, OpenLegs, NarrowAsked, Narrowed, far}
 use Rattle.marks.specs.Mark.{openAt, openIn}
@@ -170,9 +170,7 @@ module _ {n : ℕ} {marks rows : List ℕ} {c at : ℕ} {legs : List ℕ} {first
   above-here = record { low = s .asked .centre .low; up = omega arith; high = omega arith }
 
   above-place : first + i ≡ placeUp n c (c + 1 + i)
-  above-place =
-      let e : IsEdgeUp n c (c + 1) = record { low = s .asked .centre .low; up = omega arith; high = omega (arith, s .some) } in
-      omega (arith, placeUp-sum e, placeUp-sum above-here, s .placed .at, place-up n c (c + 1) (omega arith))
+  above-place = place-along i (s .placed)
 
   pub above-inside : first + i < length marks
   above-inside = omega (arith, above-place, placeUp-below above-here, s .asked .marked, edgeCount-tri n)

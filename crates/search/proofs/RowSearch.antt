@@ -13,7 +13,7 @@ use borrow.Author.Tests.{eq-eqb, ne-eqb, le-leb, lt-leb}
 use Rattle.lists.proofs.Bools.{and-no, and-yes}
 use Rattle.lengths.specs.Edge.{IsEdgeUp, place, placeUp}
 use Rattle.lengths.specs.Table.{lengthOf}
-use Rattle.lengths.proofs.Edges.{placeUp-below, edgeCount-tri, place-up, edges-fit}
+use Rattle.lengths.proofs.Edges.{placeUp-add, placeUp-below, edgeCount-tri, place-up, edges-fit}
 use Rattle.lengths.proofs.Tables.{length-up}
 use Rattle.lengths.specs.Instance.{mostLength, mostPoints}
 use Rattle.sets.specs.Near.{either?, within?}
@@ -43,10 +43,6 @@ module _ {n : ℕ} {table legs : List ℕ} {bound : ℕ} (lengths : Lengths n ta
   far-point-fails h = fails (omega (arith, far-leg legs y h))
 
 -- next_in_row
-
-placeUp-add : (n a b i : ℕ) → a < b → placeUp n a (b + i) ≡ placeUp n a b + i
-unfolding placeUp
-placeUp-add n a b i h = omega arith
 
 -- the near point z is the next to try, and stands at the place `at`; the row of x begins at the place `first`
 pub record Scanning (n : ℕ) (table legs near rank : List ℕ) (bound x y cost first at z : ℕ) : Type 0 where

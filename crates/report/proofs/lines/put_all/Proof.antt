@@ -3,13 +3,14 @@ use native.Mathlib.Omega.{arith}
 use denote.Ref.{now}
 use Rattle.report.specs.Lines.{allLines}
 use Rattle.text.proofs.Writing.{room-1, room-2, room-3, wrote-three}
-use Rattle.report.proofs.Bounds.{edges-few, all-room, strikes-asked, verdict-room, verdict-wrote}
+use Rattle.lengths.proofs.Edges.{edges-few}
+use Rattle.report.proofs.Bounds.{all-room, strikes-asked, verdict-room, verdict-wrote}
 use borrow.Author.Needs.{needs}
 use Rattle.report.proofs.lines.put_all.Statement.{statement}
 use Rattle.report.proofs.lines.put_all.Tie as tie
 
 open-edges-requires : tie.Need-open-edges-requires
-open-edges-requires c κs = omega (arith, c .before .before .pre .marked, edges-few (c .before .before .pre .few))
+open-edges-requires c κs = omega (arith, c .before .before .pre .marked, edges-few _ (c .before .before .pre .few))
 
 put-points-requires : tie.Need-put-points-requires
 unfolding allLines

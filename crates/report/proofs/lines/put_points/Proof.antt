@@ -3,7 +3,7 @@ use native.Mathlib.Omega.{arith}
 use Rattle.report.specs.Lines.{edgesWord, pointsLine}
 use Rattle.text.proofs.Writing.{room-1, room-2, room-3, wrote-three}
 use Rattle.text.proofs.Decimals.{field-room, field-wrote}
-use Rattle.report.proofs.Bounds.{edges-few}
+use Rattle.lengths.proofs.Edges.{edges-few}
 use borrow.Author.Needs.{needs}
 use Rattle.report.proofs.lines.put_points.Statement.{statement}
 use Rattle.report.proofs.lines.put_points.Tie as tie
@@ -12,7 +12,7 @@ count-requires : tie.Need-count-requires
 count-requires c κs = search needs
 
 cast-edges : tie.Need-cast-edges
-cast-edges c = record { fits = omega (arith, c .count .ensures, edges-few (c .before .before .pre .0)) }
+cast-edges c = record { fits = omega (arith, c .count .ensures, edges-few _ (c .before .before .pre .0)) }
 
 slice-aggregate-put-field : tie.Need-slice-aggregate-put-field
 slice-aggregate-put-field c = search needs
