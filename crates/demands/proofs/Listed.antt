@@ -17,7 +17,7 @@ use Rattle.argument.proofs.Complete.{named-list}
 use Rattle.argument.proofs.Tests.{fits-means}
 use Rattle.sheets.specs.Rules.{rulesOf}
 use Rattle.marking.proofs.Tested.{passed}
-use Rattle.listing.specs.Find.{pairsAt, numbersOf}
+use Rattle.enumeration.specs.Find.{pairsAt, numbersOf}
 use Rattle.marking.specs.Listing.{listTested, listed, listLeft}
 use Rattle.marking.specs.Tests.{tested}
 use Rattle.marking.specs.declared.listing.Listed.{Listed}

@@ -7,7 +7,7 @@ use lib.ListN.{length, take, drop}
 use Rattle.lengths.specs.Edge.{Edge, edge}
 use Rattle.argument.specs.Rules.{NamesFeasible}
 use Rattle.sheets.specs.Rules.{rulesOf}
-use Rattle.listing.specs.Find.{numbersOf}
+use Rattle.enumeration.specs.Find.{numbersOf}
 
 -- the list, once `list` and now `left`, begins with the pairs that are feasible under {ab} at c, and nothing past them changed
 pub record ListsFeasible (n : ℕ) (table marks : List ℕ) (a b c : ℕ) (list left : List ℕ) (count : ℕ) : Type 0 where

@@ -13,7 +13,7 @@ use Rattle.marks.specs.Mark.{openIn, Marked}
 use Rattle.argument.specs.Record.{splits, fits}
 use Rattle.argument.proofs.Tests.{Fits, fits-means}
 use Rattle.lengths.specs.Instance.{fewEdges, fewPoints, mostEdges}
-use Rattle.listing.specs.Find.{pairsAt, Found, FindAsked}
+use Rattle.enumeration.specs.Find.{pairsAt, Found, FindAsked}
 use Rattle.marking.specs.Listing.{listed, listLeft, ListedInto, ListedAs}
 use Rattle.marking.specs.Tests.{tested}
 use Rattle.marking.specs.declared.listing.Listed.{Listed}

@@ -13,7 +13,7 @@ use Rattle.marking.specs.declared.tests.Tested.{Tested}
 use Rattle.marking.specs.declared.tests.Tested.the-variants as tests
 use Rattle.marking.specs.declared.listing.Listed.{Listed}
 use Rattle.marking.specs.declared.listing.Listed.the-variants.{Pairs, Refused}
-use Rattle.listing.specs.Find.{numbersOf, pairsAt}
+use Rattle.enumeration.specs.Find.{numbersOf, pairsAt}
 
 -- what the copy is asked about: so many numbers of an array, and a list with as many places
 pub record CopyAsked (found : List ℕ) (size : ℕ) (list : List ℕ) : Type 0 where

@@ -1,16 +1,16 @@
 // The operation "list pairs": the feasible pairs of K = {ab} at c.
 use crate::tests::Tested;
 use crate::tests::test_instance;
+use enumeration::find::find_pairs;
 use lengths::instance::Instance;
 use lengths::refusal;
-use listing::find::find_pairs;
 use marks::mark::is_open;
 use sheets::sheet::Closing;
 use sheets::walk::points_fit;
 ghost use mathlib.Core.Path.{_≡_};
 ghost use mathlib.Core.List.{_++_};
 ghost use lib.ListN.{take, drop};
-ghost use Rattle.listing.specs.Find.{FindAsked};
+ghost use Rattle.enumeration.specs.Find.{FindAsked};
 ghost use Rattle.marking.specs.Listing.{CopyAsked, ListedInto, ListedAs};
 
 // The answer of "list pairs": how many pairs there are, or the number of the refusal and its record, always 0.

@@ -63,7 +63,7 @@ marks-length (edge a b ∷ es) (mark ∷ marks) (h, g, k) =
 strikes-length : (n : ℕ) (marks : List ℕ) → 2 ≤ n → n ≤ mostPoints → length (struckLines n marks) ≤ 15 * mostEdges
 unfolding struckLines edges
 strikes-length n marks h g =
-    omega (arith, marks-length (rows 1 (n - 1)) marks (small-rows 1 (n - 1) (omega arith)), length-edges n (omega arith), edges-few g)
+    omega (arith, marks-length (rows 1 (n - 1)) marks (small-rows 1 (n - 1) (omega arith)), length-edges n (omega arith), edges-few n g)
 
 points-length : (n : ℕ) → n ≤ mostPoints → length (pointsLine n) ≤ 23
 unfolding pointsLine

@@ -1,8 +1,8 @@
--- `listing::find::barred_in` meets its contract, by the cases of its test. Assumes nothing.
+-- `enumeration::find::barred_in` meets its contract, by the cases of its test. Assumes nothing.
 use borrow.Author.Tests.{eq-eqb, ne-eqb}
-use Rattle.listing.specs.Find.{barredIn}
-use Rattle.listing.proofs.find.barred_in.Statement.{statement}
-use Rattle.listing.proofs.find.barred_in.Tie as tie
+use Rattle.enumeration.specs.Find.{barredIn}
+use Rattle.enumeration.proofs.find.barred_in.Statement.{statement}
+use Rattle.enumeration.proofs.find.barred_in.Tie as tie
 
 returns : tie.Need-returns
 unfolding barredIn

@@ -1,8 +1,8 @@
--- `listing::find::find_pairs` meets its contract: each search has its lemma in `ListingChoice`. Assumes nothing.
+-- `enumeration::find::find_pairs` meets its contract: each search has its lemma in `ListingChoice`. Assumes nothing.
 use borrow.Author.Needs.{needs}
-use Rattle.listing.proofs.Choice.{end-asked, end-found, prepared-single, apart-up, apart-down}
-use Rattle.listing.proofs.find.find_pairs.Statement.{statement}
-use Rattle.listing.proofs.find.find_pairs.Tie as tie
+use Rattle.enumeration.proofs.Choice.{end-asked, end-found, prepared-single, apart-up, apart-down}
+use Rattle.enumeration.proofs.find.find_pairs.Statement.{statement}
+use Rattle.enumeration.proofs.find.find_pairs.Tie as tie
 
 single-requires : tie.Need-single-requires
 single-requires c κs = search needs

@@ -1,11 +1,11 @@
--- `listing::find::find_in_row` meets its contract: `Rowing` holds at the loop's head, and the measure is what is left of the row. Assumes nothing.
+-- `enumeration::find::find_in_row` meets its contract: `Rowing` holds at the loop's head, and the measure is what is left of the row. Assumes nothing.
 use Prim.Native.Nat.{_+_, _-_, _*_}
 use native.Mathlib.Omega.{arith}
 use lib.Seq.{lt-length-set}
 use borrow.Author.Needs.{needs}
-use Rattle.listing.proofs.Rows.{row-far, Rowing, row-edge, rowing-start, rowing-on, rowing-end, in-table, place-small, has-room, one-more}
-use Rattle.listing.proofs.find.find_in_row.Statement.{statement}
-use Rattle.listing.proofs.find.find_in_row.Tie as tie
+use Rattle.enumeration.proofs.Rows.{row-far, Rowing, row-edge, rowing-start, rowing-on, rowing-end, in-table, place-small, has-room, one-more}
+use Rattle.enumeration.proofs.find.find_in_row.Statement.{statement}
+use Rattle.enumeration.proofs.find.find_in_row.Tie as tie
 
 abbrev Inv-loop : tie.InvT-loop
 Inv-loop n table legs bound x barred found₀ before leg cost first start left skip count₀ i₀ found count i =

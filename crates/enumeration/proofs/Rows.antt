@@ -21,8 +21,8 @@ use Rattle.search.specs.NextPair.{passes?}
 use Rattle.rules.specs.Pairs.{keep}
 use Rattle.rules.proofs.PairLists.{keep-yes, keep-no, keep-append}
 use Rattle.lengths.proofs.Tables.{length-small}
-use Rattle.listing.specs.Find.{numbersOf, ones, stands?, barredIn, apart?, standing, RowAsked, RowFound, ApartAsked, Found}
-use Rattle.listing.proofs.Loops.{keep-fewer, two-more}
+use Rattle.enumeration.specs.Find.{numbersOf, ones, stands?, barredIn, apart?, standing, RowAsked, RowFound, ApartAsked, Found}
+use Rattle.enumeration.proofs.Loops.{keep-fewer, two-more}
 use Rattle.rules.specs.Legs.{far}
 
 -- a pair that is written and counted if it stands

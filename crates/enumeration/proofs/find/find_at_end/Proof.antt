@@ -1,4 +1,4 @@
--- `listing::find::find_at_end` meets its contract: `Searching` holds at the loop's head, and the measure is the number of pairs left. Assumes nothing.
+-- `enumeration::find::find_at_end` meets its contract: `Searching` holds at the loop's head, and the measure is the number of pairs left. Assumes nothing.
 use Prim.Native.Nat.{_+_, _*_, _<_}
 use mathlib.Core.Path.{refl}
 use native.Mathlib.Omega.{arith}
@@ -10,9 +10,9 @@ use Rattle.lengths.specs.Table.{lengthOf}
 use Rattle.marks.specs.Mark.{openIn}
 use Rattle.rules.specs.Pairs.{feasibleAfter}
 use Rattle.sets.specs.Stored.{edgeList}
-use Rattle.listing.proofs.Loops.{Searching, search-start, search-asks, search-done, search-less, search-room, search-on}
-use Rattle.listing.proofs.find.find_at_end.Statement.{statement}
-use Rattle.listing.proofs.find.find_at_end.Tie as tie
+use Rattle.enumeration.proofs.Loops.{Searching, search-start, search-asks, search-done, search-less, search-room, search-on}
+use Rattle.enumeration.proofs.find.find_at_end.Statement.{statement}
+use Rattle.enumeration.proofs.find.find_at_end.Tie as tie
 
 abbrev Inv-loop : tie.InvT-loop
 Inv-loop n table marks k c found₀ legs bound centre near rank x₀ y₀ count₀ found x y count = Searching n table marks k c found₀ legs bound centre near rank found x y count

@@ -1,10 +1,10 @@
--- `listing::find::kept` meets its contract: a test read as a number is 1 or 0. Assumes nothing.
+-- `enumeration::find::kept` meets its contract: a test read as a number is 1 or 0. Assumes nothing.
 use mathlib.Core.Bool.{_&&_, not}
 use lib.Dec.{eqb, leb}
 use borrow.Author.Needs.{needs}
-use Rattle.listing.proofs.Rows.{byte-ones}
-use Rattle.listing.proofs.find.kept.Statement.{statement}
-use Rattle.listing.proofs.find.kept.Tie as tie
+use Rattle.enumeration.proofs.Rows.{byte-ones}
+use Rattle.enumeration.proofs.find.kept.Statement.{statement}
+use Rattle.enumeration.proofs.find.kept.Tie as tie
 
 cast-result : tie.Need-cast-result
 cast-result c = search needs

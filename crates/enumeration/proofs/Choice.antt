@@ -20,7 +20,7 @@ use Rattle.search.specs.Split.{Prepared, SplitOf}
 use Rattle.sets.specs.Stored.{edgeList, Single}
 use Rattle.sets.specs.declared.edge_set.EdgeSet.{EdgeSet}
 use Rattle.search.proofs.SingleEdge.{single-pairs}
-use Rattle.listing.specs.Find.{pairsAt, numbersOf, stands?, barredIn, apart?, SearchAsked, FindAsked, Found}
+use Rattle.enumeration.specs.Find.{pairsAt, numbersOf, stands?, barredIn, apart?, SearchAsked, FindAsked, Found}
 
 -- c is a point of ab: the search pair by pair
 

@@ -1,10 +1,10 @@
--- `listing::find::find_apart` meets its contract: `Apart` holds at the loop's head, and the measure is the number of rows left. Assumes nothing.
+-- `enumeration::find::find_apart` meets its contract: `Apart` holds at the loop's head, and the measure is the number of rows left. Assumes nothing.
 use Prim.Native.Nat.{_+_, _-_, _*_}
 use native.Mathlib.Omega.{arith}
 use borrow.Author.Needs.{needs}
-use Rattle.listing.proofs.Rows.{Apart, apart-start, apart-row, apart-on, apart-end}
-use Rattle.listing.proofs.find.find_apart.Statement.{statement}
-use Rattle.listing.proofs.find.find_apart.Tie as tie
+use Rattle.enumeration.proofs.Rows.{Apart, apart-start, apart-row, apart-on, apart-end}
+use Rattle.enumeration.proofs.find.find_apart.Statement.{statement}
+use Rattle.enumeration.proofs.find.find_apart.Tie as tie
 
 abbrev Inv-loop : tie.InvT-loop
 Inv-loop n table legs bound low high found₀ count₀ x₀ found count x = Apart n table legs bound low high found₀ found x count

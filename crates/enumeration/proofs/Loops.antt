@@ -27,7 +27,7 @@ use Rattle.search.specs.declared.pairs.NextPair.the-variants.{Pair, End}
 use Rattle.sets.proofs.BeyondNumbers.{two-apart}
 use Rattle.rules.proofs.PairLists.{keep-yes, keep-no, feasibleAfter-start}
 use Rattle.search.proofs.PairSearch.{next-is-pair, next-is-end}
-use Rattle.listing.specs.Find.{numbersOf, Found, SearchAsked}
+use Rattle.enumeration.specs.Find.{numbersOf, Found, SearchAsked}
 
 -- how many pairs there are
 

@@ -17,7 +17,7 @@ ghost use Rattle.lengths.specs.Table.{lengthOf};
 ghost use Rattle.marks.specs.Mark.{openIn};
 ghost use Rattle.rules.specs.Pairs.{keep, feasiblePairs};
 ghost use Rattle.sets.specs.Stored.{edgeList};
-ghost use Rattle.listing.specs.Find.{pairsAt, ones, barredIn, apart?, RowAsked, RowFound, ApartAsked, SearchAsked, FindAsked, Found};
+ghost use Rattle.enumeration.specs.Find.{pairsAt, ones, barredIn, apart?, RowAsked, RowFound, ApartAsked, SearchAsked, FindAsked, Found};
 
 // 1 where the pair stands: its cost is at most what it may be, and z is not barred.
 fn kept(cost: u32, most: u32, z: usize, barred: usize) -> u16
