@@ -1,7 +1,7 @@
 -- Laws of the closing's test that the proofs of src/closing.rt cite: one labelling, the four labellings as a table of two swaps,
 -- and each way out of `crossedBy`. Assumes nothing.
 use Prim.Native.Nat.{ℕ, zero, suc, _+_, _≤_, _<_}
-use mathlib.Core.Path.{_≡_, refl, sym, _∙_}
+use mathlib.Core.Path.{_≡_, sym, _∙_}
 use mathlib.Core.Bool.{Bool, true, false, cond}
 use mathlib.Core.List.{List}
 use mathlib.Core.Logic.{inr}

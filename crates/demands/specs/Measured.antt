@@ -1,5 +1,5 @@
 -- What a call of *measure* leaves where it refuses nothing (01, "Points, lengths, marks": rules 1 and 2).
-use Prim.Native.Nat.{ℕ, _≤_}
+use Prim.Native.Nat.{ℕ}
 use mathlib.Core.Path.{_≡_}
 use mathlib.Core.Logic.{_⊎_}
 use mathlib.Core.List.{List}

@@ -20,7 +20,7 @@ use Rattle.search.specs.Split.{Prepared, SplitOf}
 use Rattle.sets.specs.Stored.{edgeList, Single}
 use Rattle.sets.specs.declared.edge_set.EdgeSet.{EdgeSet}
 use Rattle.search.proofs.SingleEdge.{single-pairs}
-use Rattle.enumeration.specs.Find.{pairsAt, numbersOf, stands?, barredIn, apart?, SearchAsked, FindAsked, Found}
+use Rattle.enumeration.specs.Find.{pairsAt, numbersOf, unbarred?, barredIn, apart?, SearchAsked, FindAsked, Found}
 
 -- c is a point of ab: the search pair by pair
 
@@ -111,7 +111,7 @@ prepared-single {n} {table} {marks} {c = c} {legs = legs} {bound = bound} k p = 
 module _ {n : ℕ} {table marks : List ℕ} {a b c : ℕ} {found₀ legs : List ℕ} {bound : ℕ} (g : FindAsked n table marks a b c found₀) (c-a : c ≡ a → ⊥) (c-b : c ≡ b → ⊥)
     (p : Prepared n (lengthOf n table) (openIn n marks) (edge a b ∷ []) c legs bound) where
   apart-pairs : {low high : ℕ} → Ordered a b low high → keep (apart? n table legs bound low high) (edges n) ≡ pairsAt n table marks a b c
-  unfolding pairsAt apart? stands?
+  unfolding pairsAt apart? unbarred?
   apart-pairs {low} {high} o = single-pairs (g .legs .lengths) p (g .least) (g .apart) c-a c-b (apart? n table legs bound low high) same
     where
       same : (x y : ℕ) → IsEdgeUp n x y → passes? n table legs bound x y && not (eqb y (barredIn low high x)) ≡ passes? n table legs bound x y && not (joins? a b x y)

@@ -21,7 +21,7 @@ use Rattle.search.specs.NextPair.{passes?}
 use Rattle.rules.specs.Pairs.{keep}
 use Rattle.rules.proofs.PairLists.{keep-yes, keep-no, keep-append}
 use Rattle.lengths.proofs.Tables.{length-small}
-use Rattle.enumeration.specs.Find.{numbersOf, ones, stands?, barredIn, apart?, standing, RowAsked, RowFound, ApartAsked, Found}
+use Rattle.enumeration.specs.Find.{numbersOf, ones, unbarred?, barredIn, apart?, unbarredOf, RowToList, RowFound, ApartAsked, Found}
 use Rattle.enumeration.proofs.Loops.{keep-fewer, two-more}
 use Rattle.rules.specs.Legs.{far}
 
@@ -66,11 +66,11 @@ unfolding row keep
 keep-row-none t x h z zero = refl
 keep-row-none t x h z (suc k) = keep-no t x z (row x (suc z) k) (h z) ∙ keep-row-none t x h (suc z) k
 
-pub row-far : {n : ℕ} {table legs : List ℕ} {bound x : ℕ} (barred : ℕ) {found : List ℕ} {before : ℕ} → RowAsked n table legs bound x found before → getD legs x 0 ≡ far
+pub row-far : {n : ℕ} {table legs : List ℕ} {bound x : ℕ} (barred : ℕ) {found : List ℕ} {before : ℕ} → RowToList n table legs bound x found before → getD legs x 0 ≡ far
     → RowFound n table legs bound x barred found before before found
-unfolding standing stands? passes? numbersOf
+unfolding unbarredOf unbarred? passes? numbersOf
 row-far {n} {table} {legs} {bound} {x} barred {found} {before} a g =
-    let none = keep-row-none (stands? n table legs bound barred) x fails (suc x) (n - x) in
+    let none = keep-row-none (unbarred? n table legs bound barred) x fails (suc x) (n - x) in
     record {
       counted = omega (arith, ap length none);
       front = sym (append-nil (take (2 * before) found)) ∙ ap (λ (es : List Edge). take (2 * before) found ++ numbersOf es) (sym none);
@@ -86,30 +86,30 @@ row-far {n} {table} {legs} {bound} {x} barred {found} {before} a g =
 
 -- the pair of x with x + 1 + i is next; its length stands at the place first + i
 pub record Rowing (n : ℕ) (table legs : List ℕ) (bound x barred : ℕ) (found₀ : List ℕ) (before cost first : ℕ) (found : List ℕ) (count i : ℕ) : Type 0 where
-  pub asked : RowAsked n table legs bound x found₀ before
+  pub asked : RowToList n table legs bound x found₀ before
   pub is-cost : cost ≡ getD legs x 0 + mostLength
   pub is-first : first ≡ placeUp n x (x + 1)
   pub within : i ≤ n - x
   pub size : length found ≡ length found₀
   pub looked : count ≤ before + i
-  pub counted : count + length (keep (stands? n table legs bound barred) (row x (x + 1 + i) (n - x - i))) ≡ before + length (standing n table legs bound x barred)
-  pub written : take (2 * count) found ++ numbersOf (keep (stands? n table legs bound barred) (row x (x + 1 + i) (n - x - i)))
-      ≡ take (2 * before) found₀ ++ numbersOf (standing n table legs bound x barred)
+  pub counted : count + length (keep (unbarred? n table legs bound barred) (row x (x + 1 + i) (n - x - i))) ≡ before + length (unbarredOf n table legs bound x barred)
+  pub written : take (2 * count) found ++ numbersOf (keep (unbarred? n table legs bound barred) (row x (x + 1 + i) (n - x - i)))
+      ≡ take (2 * before) found₀ ++ numbersOf (unbarredOf n table legs bound x barred)
 
-pub row-edge : {n : ℕ} {table legs : List ℕ} {bound x : ℕ} {found : List ℕ} {before : ℕ} → RowAsked n table legs bound x found before → IsEdge n x (x + 1)
+pub row-edge : {n : ℕ} {table legs : List ℕ} {bound x : ℕ} {found : List ℕ} {before : ℕ} → RowToList n table legs bound x found before → IsEdge n x (x + 1)
 row-edge a = record {
   first = record { low = a .low; high = omega (arith, a .high) };
   second = record { low = omega arith; high = omega (arith, a .high) };
   apart = λ e. omega arith;
 }
 
-pub rowing-start : {n : ℕ} {table legs : List ℕ} {bound x : ℕ} (barred : ℕ) {found : List ℕ} {before first : ℕ} → RowAsked n table legs bound x found before → first ≡ place n x (x + 1)
+pub rowing-start : {n : ℕ} {table legs : List ℕ} {bound x : ℕ} (barred : ℕ) {found : List ℕ} {before first : ℕ} → RowToList n table legs bound x found before → first ≡ place n x (x + 1)
     → Rowing n table legs bound x barred found before (getD legs x 0 + mostLength) first found before 0
-unfolding standing
+unfolding unbarredOf
 rowing-start {n} {table} {legs} {bound} {x} barred {found} {before} {first} a p =
     let f : x + 1 + 0 ≡ suc x = omega arith in
     let k : n - x - 0 ≡ n - x = omega arith in
-    let e = ap₂ (λ (i j : ℕ). keep (stands? n table legs bound barred) (row x i j)) f k in
+    let e = ap₂ (λ (i j : ℕ). keep (unbarred? n table legs bound barred) (row x i j)) f k in
     record {
       asked = a;
       is-cost = refl;
@@ -128,7 +128,7 @@ module _ {n : ℕ} {table legs : List ℕ} {bound x barred : ℕ} {found₀ : Li
   unfolding row keep numbersOf
   rowing-end h =
       let k : n - x - i ≡ 0 = omega arith in
-      let e = ap (λ (j : ℕ). keep (stands? n table legs bound barred) (row x (x + 1 + i) j)) k in
+      let e = ap (λ (j : ℕ). keep (unbarred? n table legs bound barred) (row x (x + 1 + i) j)) k in
       record {
         counted = omega (arith, ap length e, r .counted);
         front =
@@ -155,8 +155,8 @@ module _ {n : ℕ} {table legs : List ℕ} {bound x barred : ℕ} {found₀ : Li
     pub has-room : (count < mostEdges) × (2 * count + 1 < length found)
     has-room = (omega (arith, r .looked, r .asked .few), omega (arith, r .looked, r .asked .room, r .size))
 
-    test-here : leb (cost + getD legs (x + 1 + i) 0) (getD table (first + i) 0 + bound) && not (eqb (x + 1 + i) barred) ≡ stands? n table legs bound barred x (x + 1 + i)
-    unfolding stands? passes?
+    test-here : leb (cost + getD legs (x + 1 + i) 0) (getD table (first + i) 0 + bound) && not (eqb (x + 1 + i) barred) ≡ unbarred? n table legs bound barred x (x + 1 + i)
+    unfolding unbarred? passes?
     test-here =
         ap₂ (λ (p q : ℕ). leb (p + getD legs (x + 1 + i) 0) (q + bound) && not (eqb (x + 1 + i) barred))
         (r .is-cost)
@@ -175,7 +175,7 @@ module _ {n : ℕ} {table legs : List ℕ} {bound x barred : ℕ} {found₀ : Li
     pub rowing-on : {m : ℕ} → m ≡ ones (leb (cost + getD legs (x + 1 + i) 0) (getD table (first + i) 0 + bound) && not (eqb (x + 1 + i) barred))
         → Rowing n table legs bound x barred found₀ before cost first (set (set found (2 * count) x) (2 * count + 1) (x + 1 + i)) (count + m) (i + 1)
     rowing-on {m} e =
-        let t = stands? n table legs bound barred in
+        let t = unbarred? n table legs bound barred in
         let z = x + 1 + i in
         let rest = row x (x + 1 + (i + 1)) (n - x - (i + 1)) in
         let f : m ≡ ones (t x z) = e ∙ ap ones test-here in
@@ -263,7 +263,7 @@ module _ {n : ℕ} {table legs : List ℕ} {bound low high : ℕ} {found₀ foun
         let f : n - x ≡ n + 1 - (x + 1) = omega arith in
         omega (arith, ap tri e, tri-suc (n - x), ap tri f)
 
-    pub apart-row : RowAsked n table legs bound x found count
+    pub apart-row : RowToList n table legs bound x found count
     apart-row = record {
       lengths = r .asked .lengths;
       bounded = r .asked .bounded;
@@ -305,15 +305,15 @@ module _ {n : ℕ} {table legs : List ℕ} {bound low high : ℕ} {found₀ foun
               ∙ r .written;
         }
 
-    apart-test : {barred : ℕ} → barred ≡ barredIn low high x → (z : ℕ) → stands? n table legs bound barred x z ≡ apart? n table legs bound low high x z
+    apart-test : {barred : ℕ} → barred ≡ barredIn low high x → (z : ℕ) → unbarred? n table legs bound barred x z ≡ apart? n table legs bound low high x z
     unfolding apart?
-    apart-test q z = ap (λ (b : ℕ). stands? n table legs bound b x z) q
+    apart-test q z = ap (λ (b : ℕ). unbarred? n table legs bound b x z) q
 
     pub apart-on : {barred m : ℕ} {left : List ℕ} → barred ≡ barredIn low high x → RowFound n table legs bound x barred found count m left
         → Apart n table legs bound low high found₀ left (x + 1) m
-    unfolding standing
+    unfolding unbarredOf
     apart-on {barred} {m} {left} e f =
-        let same = keep-row-same (stands? n table legs bound barred) (apart? n table legs bound low high) x (apart-test e) (suc x) (n - x) in
+        let same = keep-row-same (unbarred? n table legs bound barred) (apart? n table legs bound low high) x (apart-test e) (suc x) (n - x) in
         taken (f .size)
         (f .counted ∙ ap (λ (es : List Edge). count + length es) same)
         (f .front ∙ ap (λ (es : List Edge). take (2 * count) found ++ numbersOf es) same)

@@ -29,8 +29,8 @@ unfoldable pub ones : Bool → ℕ
 ones t = cond t 1 0
 
 -- the pair x, z passes the one comparison, and z is not barred
-unfoldable pub stands? : ℕ → List ℕ → List ℕ → ℕ → ℕ → ℕ → ℕ → Bool
-stands? n table legs bound barred x z = passes? n table legs bound x z && not (eqb z barred)
+unfoldable pub unbarred? : ℕ → List ℕ → List ℕ → ℕ → ℕ → ℕ → ℕ → Bool
+unbarred? n table legs bound barred x z = passes? n table legs bound x z && not (eqb z barred)
 
 -- the point that is barred in the row of x, 0 for none: the row of the lower point of K's edge bars the higher
 unfoldable pub barredIn : ℕ → ℕ → ℕ → ℕ
@@ -38,14 +38,14 @@ barredIn low high x = cond (eqb x low) high 0
 
 -- the pair x, z passes the one comparison, and is not K's edge
 unfoldable pub apart? : ℕ → List ℕ → List ℕ → ℕ → ℕ → ℕ → ℕ → ℕ → Bool
-apart? n table legs bound low high x z = stands? n table legs bound (barredIn low high x) x z
+apart? n table legs bound low high x z = unbarred? n table legs bound (barredIn low high x) x z
 
--- the pairs of x with the points above it that stand
-unfoldable pub standing : ℕ → List ℕ → List ℕ → ℕ → ℕ → ℕ → List Edge
-standing n table legs bound x barred = keep (stands? n table legs bound barred) (row x (suc x) (n - x))
+-- the pairs of x with the points above it that pass and are not barred
+unfoldable pub unbarredOf : ℕ → List ℕ → List ℕ → ℕ → ℕ → ℕ → List Edge
+unbarredOf n table legs bound x barred = keep (unbarred? n table legs bound barred) (row x (suc x) (n - x))
 
 -- what the search of a row is asked about: a table, legs and bound of it, the row's point, and room for a pair with each point above it
-pub record RowAsked (n : ℕ) (table legs : List ℕ) (bound x : ℕ) (found : List ℕ) (before : ℕ) : Type 0 where
+pub record RowToList (n : ℕ) (table legs : List ℕ) (bound x : ℕ) (found : List ℕ) (before : ℕ) : Type 0 where
   pub lengths : Lengths n table
   pub bounded : Bounded legs bound
   pub low : 1 ≤ x
@@ -53,10 +53,10 @@ pub record RowAsked (n : ℕ) (table legs : List ℕ) (bound x : ℕ) (found : L
   pub few : before + (n - x) ≤ mostEdges
   pub room : 2 * (before + (n - x)) ≤ length found
 
--- the pairs of the row that stand are written behind those that were there before
+-- these pairs of the row are written behind those that were there before
 pub record RowFound (n : ℕ) (table legs : List ℕ) (bound x barred : ℕ) (found : List ℕ) (before count : ℕ) (left : List ℕ) : Type 0 where
-  pub counted : count ≡ before + length (standing n table legs bound x barred)
-  pub front : take (2 * count) left ≡ take (2 * before) found ++ numbersOf (standing n table legs bound x barred)
+  pub counted : count ≡ before + length (unbarredOf n table legs bound x barred)
+  pub front : take (2 * count) left ≡ take (2 * before) found ++ numbersOf (unbarredOf n table legs bound x barred)
   pub size : length left ≡ length found
 
 -- what the search of all rows is asked about: a table, legs and bound of it, and room for every pair

@@ -17,9 +17,9 @@ ghost use Rattle.lengths.specs.Table.{lengthOf};
 ghost use Rattle.marks.specs.Mark.{openIn};
 ghost use Rattle.rules.specs.Pairs.{keep, feasiblePairs};
 ghost use Rattle.sets.specs.Stored.{edgeList};
-ghost use Rattle.enumeration.specs.Find.{pairsAt, ones, barredIn, apart?, RowAsked, RowFound, ApartAsked, SearchAsked, FindAsked, Found};
+ghost use Rattle.enumeration.specs.Find.{pairsAt, ones, barredIn, apart?, RowToList, RowFound, ApartAsked, SearchAsked, FindAsked, Found};
 
-// 1 where the pair stands: its cost is at most what it may be, and z is not barred.
+// 1 where the pair is kept: its cost is at most what it may be, and z is not barred.
 fn kept(cost: u32, most: u32, z: usize, barred: usize) -> u16
     ensures { λ r. ⌜ r ≡ ones (leb cost most && not (eqb z barred)) ⌝ }
 {
@@ -38,7 +38,7 @@ fn find_in_row(
     found: &mut [u16],
     before: u16,
 ) -> u16
-    requires { ⌜ RowAsked n (now table) (now legs) bound x (now found) before ⌝ }
+    requires { ⌜ RowToList n (now table) (now legs) bound x (now found) before ⌝ }
     ensures { λ r. ⌜ RowFound n (now (table .entry)) (now (legs .entry)) bound x barred (now (found .entry)) before r (now (found .exit)) ⌝ }
 {
     let leg = legs[x as usize];

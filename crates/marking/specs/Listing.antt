@@ -6,7 +6,6 @@ use lib.Dec.{leb}
 use lib.ListN.{length, drop}
 use Rattle.lists.specs.Test.{unless}
 use Rattle.marks.specs.Mark.{openIn}
-use Rattle.rules.specs.Pairs.{keep}
 use Rattle.argument.specs.Record.{splits, fits}
 use Rattle.marking.specs.Tests.{tested}
 use Rattle.marking.specs.declared.tests.Tested.{Tested}

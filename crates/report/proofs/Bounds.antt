@@ -6,8 +6,8 @@ use mathlib.Core.List.{List, [], _∷_, _++_}
 use native.Mathlib.Omega.{arith}
 use lib.Dec.{eqb}
 use lib.ListN.{length, length-append}
-use Rattle.lengths.specs.Edge.{Edge, edge, edges, edgeCount, row, rows, tri}
-use Rattle.lengths.proofs.Edges.{edges-few, edgeCount-tri, tri-mono, length-edges}
+use Rattle.lengths.specs.Edge.{Edge, edge, edges, edgeCount, row, rows}
+use Rattle.lengths.proofs.Edges.{edges-few, length-edges}
 use Rattle.lengths.specs.Instance.{mostEdges, mostPoints, pointPlaces}
 use Rattle.lists.specs.Count.{count}
 use Rattle.text.specs.Words.{Room, Wrote}

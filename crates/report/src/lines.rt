@@ -6,8 +6,7 @@ use marks::mark;
 use text::decimal::put_field;
 use text::words::put_word;
 ghost use Prim.Native.Nat.{_≤_};
-ghost use lib.ListN.{length};
-ghost use Rattle.lengths.specs.Instance.{mostEdges, mostPoints};
+ghost use Rattle.lengths.specs.Instance.{mostPoints};
 ghost use Rattle.text.specs.Words.{Room, Wrote};
 ghost use Rattle.report.specs.Lines.{pointsLine, struckLine, markLine, struckLines, verdictLine, lastLine, allLines, Large, StrikesAsked, LinesAsked};
 

@@ -5,7 +5,7 @@ use mathlib.Core.Bool.{Bool, cond}
 use mathlib.Core.List.{List, []}
 use lib.Dec.{leb}
 use lib.ListN.{length, getD}
-use Rattle.lengths.specs.Edge.{Edge, edge, Point, edgeCount}
+use Rattle.lengths.specs.Edge.{Edge, Point, edgeCount}
 use Rattle.lengths.specs.Instance.{mostLength, mostPoints, pointPlaces}
 use Rattle.rules.specs.PairTest.{leg?}
 use Rattle.marks.specs.Mark.{openIn}

@@ -2,8 +2,8 @@
 use Prim.Native.Nat.{ℕ, _+_, _≤_, _<_, max}
 use mathlib.Core.Path.{_≡_}
 use mathlib.Core.Bool.{Bool, true}
-use mathlib.Core.List.{List, [], _∷_}
-use Rattle.lengths.specs.Edge.{Edge, edge, Point}
+use mathlib.Core.List.{List}
+use Rattle.lengths.specs.Edge.{Edge, Point}
 use Rattle.sets.specs.EdgeSet.{Has, AtMostTwo, NoShortCycle, withPair}
 
 -- the larger of l(px) + l(qy) and l(py) + l(qx) is at least l(pq) + l(xy)

@@ -1,10 +1,8 @@
 // How much a pair at a split point may cost (condition 5).
-use lengths::edge;
 use lengths::instance::Instance;
 ghost use Prim.Native.Nat.{_+_, _*_, _<_};
 ghost use mathlib.Core.Path.{_≡_};
 ghost use Rattle.rules.specs.Bound.{tightenedBy, Short};
-ghost use Rattle.lengths.specs.Edge.{edge};
 
 // The bound where no edge of K asks for less: two legs that are not FAR always meet it.
 pub const LOOSE: u32 = 3 * Instance::MOST_LENGTH;

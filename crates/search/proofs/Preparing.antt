@@ -21,11 +21,9 @@ use Rattle.rules.specs.Bound.{tightened, tightenedBy, boundOf, Short, loose}
 use Rattle.search.specs.Split.{Prepared, Bounded, TriangleAsked, TriangleIn, SplitAsked, SplitOf, TakeAsked, TakenIn, EdgeAsked, EdgeRowsAsked, EdgeRows, EdgeTriangle, EdgeLegsAsked, EdgeLegs, SingleAsked}
 use Rattle.marks.specs.Mark.{openIn}
 use Rattle.rules.specs.PairTest.{leg?}
-use Rattle.sets.specs.Stored.{edgesOf, edgeList, Held}
+use Rattle.sets.specs.Stored.{edgesOf, edgeList}
 use Rattle.sets.specs.declared.edge_set.EdgeSet.{EdgeSet}
-use Rattle.sets.specs.declared.near.Near.{Near}
 use Rattle.search.specs.declared.split.Triangle.{Triangle}
-use Rattle.sets.specs.Near.{neighbours}
 use Rattle.lengths.proofs.Tables.{length-small}
 use Rattle.rules.proofs.LegsAndBound.{legOf-by, legOf-narrowed, narrowed-by, tightened-by, tightened-le}
 

@@ -5,7 +5,6 @@ use mathlib.Core.Path.{_≡_, refl, sym, _∙_, ap, ap₂}
 use mathlib.Core.Bool.{Bool, true, false, not, _&&_}
 use mathlib.Core.List.{List}
 use native.Mathlib.Omega.{arith}
-use native.Mathlib.Numerals.{add-one}
 use Rattle.lists.proofs.Bools.{and-no}
 use Rattle.lengths.specs.Edge.{Edge}
 use Rattle.sets.specs.Beyond.{nextOf, fork, ShutsAsked}

@@ -1,13 +1,13 @@
 -- K = {ab} at a point c that is neither a nor b: conditions 2 and 3 rule out the pair a, b and no other. The point c has no neighbour in K;
 -- beyond c a has b, b has a, and no other point has anything; and c, a, b would be a cycle of three. Assumes nothing.
 use Prim.Native.Nat.{ℕ, zero, suc, _-_, _≤_}
-use mathlib.Core.Path.{_≡_, refl, sym, _∙_, ap, ap₂}
-use mathlib.Core.Bool.{Bool, true, false, not, _&&_, _||_, cond}
+use mathlib.Core.Path.{_≡_, refl, sym, _∙_, ap}
+use mathlib.Core.Bool.{Bool, true, false, not, _&&_, _||_}
 use mathlib.Core.List.{List, [], _∷_}
 use native.Mathlib.Omega.{arith}
 use native.Mathlib.Decide.{ℕ-discrete}
 use lib.Dec.{eqb}
-use borrow.Author.Tests.{eq-eqb, ne-eqb, eqb-true, eqb-false}
+use borrow.Author.Tests.{eq-eqb, ne-eqb}
 use Rattle.lengths.specs.Edge.{Edge, edge, Point, IsEdgeUp, edges}
 use Rattle.lengths.specs.Table.{lengthOf}
 use Rattle.sets.specs.Joined.{joins?}
@@ -18,8 +18,6 @@ use Rattle.rules.specs.Pairs.{keep, feasiblePairs}
 use Rattle.sets.specs.Shape.{reaches?, shuts?, shape?}
 use Rattle.lengths.specs.Table.{Lengths}
 use Rattle.search.specs.Split.{Prepared}
-use Rattle.sets.specs.declared.near.Near.the-variants.{None, One}
-use Rattle.sets.specs.declared.near.Next.{Next}
 use Rattle.sets.specs.declared.near.Next.the-variants.{Stop, On}
 use Rattle.rules.proofs.PairLists.{Chain, chain-edges, keep-yes, keep-no}
 use Rattle.search.proofs.OneComparison.{feasible-passes}

@@ -1,7 +1,6 @@
 -- Sheets (01, "The sheet"): test 7, and the declared records as the records of the argument's layer.
-use Prim.Native.Nat.{ℕ, _*_, _/_, _%_, _≤_}
+use Prim.Native.Nat.{ℕ, _*_, _/_, _%_}
 use mathlib.Core.Bool.{Bool, true, false, not, _&&_}
-use mathlib.Core.List.{List}
 use lib.Dec.{leb, eqb}
 pub use Rattle.argument.specs.Record.{recordSize, Readable}
 use Rattle.argument.specs.Record as R

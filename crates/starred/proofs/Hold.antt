@@ -27,7 +27,7 @@ use Rattle.closings.specs.declared.closing.Crossed.the-variants.{NoSaving}
 use Rattle.closings.proofs.ClosingExact.{no-saving-exact}
 use Rattle.sets.proofs.Exact.{has-exact, ends-sound, shape-exact, single-shape}
 use Rattle.rules.proofs.PairTests.{compatible-iff, feasiblePairs-iff}
-use Rattle.starred.specs.Table.{Example, distances, incompatible, compatible, standing, compares, saves, unsaved, starred, square, allOpen, eight, centres, Eight, Claim}
+use Rattle.starred.specs.Table.{Example, distances, incompatible, standing, compares, saves, unsaved, starred, square, allOpen, eight, centres, Eight, Claim}
 
 distances-hold : (S d e : ℕ) → S ≤ 2000000000000 → distanceBy Euc2d S ≡ d → distanceBy Ceil2d S ≡ e → Claim (distances S d e)
 distances-hold S d e h one two = (

@@ -1,6 +1,5 @@
 -- `enumeration::find::find_apart` meets its contract: `Apart` holds at the loop's head, and the measure is the number of rows left. Assumes nothing.
-use Prim.Native.Nat.{_+_, _-_, _*_}
-use native.Mathlib.Omega.{arith}
+use Prim.Native.Nat.{_-_}
 use borrow.Author.Needs.{needs}
 use Rattle.enumeration.proofs.Rows.{Apart, apart-start, apart-row, apart-on, apart-end}
 use Rattle.enumeration.proofs.find.find_apart.Statement.{statement}

@@ -1,6 +1,5 @@
 -- `rules::legs::open_above` meets its contract: the invariant is `OpeningAbove`, that the legs below c + 1 + i are filled in. Assumes nothing.
 use Prim.Native.Nat.{_-_}
-use native.Mathlib.Omega.{arith}
 use Rattle.rules.proofs.LegLoops.{OpeningAbove, above-none, above-start, above-inside, above-on, above-end}
 use borrow.Author.Needs.{needs}
 use Rattle.rules.proofs.legs.open_above.Statement.{statement}

@@ -1,7 +1,6 @@
 -- `sets::shape::shuts` meets its contract: its tests of the two numbers are the clauses of `shuts?`. Assumes nothing.
 use mathlib.Core.Path.{_∙_}
 use Rattle.sets.proofs.BeyondNumbers.{shuts-second, open-first, open-second, shuts-both}
-use borrow.Author.Needs.{needs}
 use Rattle.sets.proofs.shape.shuts.Statement.{statement}
 use Rattle.sets.proofs.shape.shuts.Tie as tie
 
