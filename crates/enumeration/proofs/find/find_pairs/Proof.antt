@@ -1,4 +1,4 @@
--- `enumeration::find::find_pairs` meets its contract: each search has its lemma in `ListingChoice`. Assumes nothing.
+-- `enumeration::find::find_pairs` meets its contract: each search has its lemma in `Choice`. Assumes nothing.
 use borrow.Author.Needs.{needs}
 use Rattle.enumeration.proofs.Choice.{end-asked, end-found, prepared-single, apart-up, apart-down}
 use Rattle.enumeration.proofs.find.find_pairs.Statement.{statement}

@@ -1,4 +1,4 @@
--- `marking::tests::test_instance` meets its contract: each way out has its lemma in `TestsPassed`. Assumes nothing.
+-- `marking::tests::test_instance` meets its contract: each way out has its lemma in `TestWays`. Assumes nothing.
 use mathlib.Core.Path.{_≡_, sym, _∙_}
 use mathlib.Core.Bool.{true}
 use lib.ListN.{length}
