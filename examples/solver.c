@@ -1,7 +1,8 @@
 /*
- * How a tour solver uses Revosti: a board, a strike sheet, and a search that looks at open edges only.
+ * How a tour solver uses Revosti: a board is measured, a strike sheet written from lists of standing pairs and marked, and a search looks
+ * at open edges only.
  *
- *   cc -Iinclude examples/solver.c target/staticlib/libmarking.a -o solver && ./solver
+ *   cc -Iinclude examples/solver.c target/staticlib/librevosti.a -o solver && ./solver
  *
  * It prints what it finds and ends with status 1 if an answer is not the one expected.
  */
@@ -10,7 +11,10 @@
 
 #include "revosti.h"
 
-enum { N = 4, EDGES = N * (N - 1) / 2 };
+enum { N = 4, EDGES = N * (N - 1) / 2, RECORD = 16 };
+
+/* What is lent to Revosti: all numbers are little-endian bytes. The list has room for every pair of points. */
+static uint8_t coordinates[8 * N], table[4 * EDGES], marks[EDGES], sheet[RECORD * EDGES], tour[2 * N], list[4 * EDGES];
 
 static int faults;
 
@@ -36,18 +40,54 @@ static void put32(uint8_t *at, uint32_t number)
     put16(at + 2, number >> 16);
 }
 
-static uint32_t get32(const uint8_t *at)
-{
-    return at[0] | (uint32_t)at[1] << 8 | (uint32_t)at[2] << 16 | (uint32_t)at[3] << 24;
-}
-
-/* The search: extends a path that has `depth` points by every open edge, and keeps the shortest closed one. */
-static const uint8_t *table, *marks;
-static unsigned path[N], best[N];
-static uint32_t best_length;
+static unsigned get16(const uint8_t *at) { return at[0] | (unsigned)at[1] << 8; }
+static uint32_t get32(const uint8_t *at) { return get16(at) | (uint32_t)get16(at + 2) << 16; }
 
 static int is_open(unsigned a, unsigned b) { return marks[revosti_place(N, a, b)] == REVOSTI_OPEN; }
 static uint32_t length(unsigned a, unsigned b) { return get32(table + 4 * revosti_place(N, a, b)); }
+
+/* The operations, on the buffers of this program. */
+static uint64_t measure(uint32_t rule) { return revosti_measure(N, rule, coordinates, sizeof coordinates, table, sizeof table); }
+
+static uint64_t mark_sheet(size_t size) { return revosti_mark_sheet(N, table, sizeof table, marks, sizeof marks, sheet, size); }
+
+static uint64_t list_pairs(unsigned a, unsigned b, unsigned c, size_t size)
+{
+    return revosti_list_pairs(N, table, sizeof table, marks, sizeof marks, (uint16_t)a, (uint16_t)b, (uint16_t)c, list, size);
+}
+
+static uint64_t check_tour(void) { return revosti_check_tour(N, table, sizeof table, marks, sizeof marks, tour, sizeof tour); }
+
+/* A split point at which no pair stands under a-b, or 0: a line that splits there needs no case. */
+static unsigned empty_split(unsigned a, unsigned b)
+{
+    for (unsigned c = 1; c <= N; c++) {
+        if (list_pairs(a, b, c, sizeof list) == 0) return c;
+    }
+    return 0;
+}
+
+/* Writes a line for each edge that needs no case, and answers their number. */
+static size_t write_lines(void)
+{
+    size_t lines = 0;
+    for (unsigned a = 1; a <= N; a++) {
+        for (unsigned b = a + 1; b <= N; b++) {
+            unsigned c = empty_split(a, b);
+            if (c == 0) continue;
+            const unsigned record[8] = {REVOSTI_LINE, a, b, 0, 0, c, 0, 0};
+            uint8_t *at = sheet + RECORD * lines;
+            for (size_t i = 0; i < 8; i++) put16(at + 2 * i, record[i]);
+            lines++;
+            if (lines > 1) put16(at - 2, (unsigned)lines); /* the line before leads to this one */
+        }
+    }
+    return lines;
+}
+
+/* The search: extends a path that has `depth` points by every open edge, and keeps the shortest closed one. */
+static unsigned path[N], best[N];
+static uint32_t best_length = UINT32_MAX;
 
 static void search(unsigned depth, uint32_t sum)
 {
@@ -68,52 +108,71 @@ static void search(unsigned depth, uint32_t sum)
     }
 }
 
+/* Faulty input is refused, and changes nothing. `lines` is the length of the sheet that is marked already. */
+static void refusals(size_t lines)
+{
+    uint8_t old_table[sizeof table], old_marks[sizeof marks], old_list[sizeof list];
+    memset(list, 0x5a, sizeof list);
+    memcpy(old_table, table, sizeof table);
+    memcpy(old_marks, marks, sizeof marks);
+    memcpy(old_list, list, sizeof list);
+
+    expect("fresh marks, n = 181", revosti_fresh_marks(181, marks, sizeof marks), REVOSTI_POINTS);
+    expect("fresh marks, one too few", revosti_fresh_marks(N, marks, sizeof marks - 1), REVOSTI_MARKS);
+    expect("measuring, coordinates one byte short",
+           revosti_measure(N, REVOSTI_EUC_2D, coordinates, sizeof coordinates - 1, table, sizeof table), REVOSTI_SIZE);
+    expect("measuring, a table one byte short",
+           revosti_measure(N, REVOSTI_EUC_2D, coordinates, sizeof coordinates, table, sizeof table - 1), REVOSTI_SIZE);
+    expect("measuring, rule 9", measure(9), REVOSTI_RULE);
+    put32(coordinates, REVOSTI_MOST_COORDINATE + 1);
+    expect("measuring, a coordinate too large", measure(REVOSTI_EUC_2D), REVOSTI_COORDINATE);
+    expect("marking, a sheet of an odd length", mark_sheet(RECORD * lines - 1), REVOSTI_SHEET);
+    expect("marking, an edge struck already, record", revosti_record(mark_sheet(RECORD * lines)), 1);
+    expect("listing, an edge struck already", list_pairs(1, 3, 2, sizeof list), REVOSTI_EDGE_STRUCK);
+    expect("listing, a list of one byte", list_pairs(1, 2, 3, 1), REVOSTI_LIST);
+    put16(tour, best[1]);
+    expect("a tour that names a point twice", check_tour(), REVOSTI_TOUR);
+
+    expect("table changed by refused calls", (uint64_t)(memcmp(old_table, table, sizeof table) != 0), 0);
+    expect("marks changed by refused calls", (uint64_t)(memcmp(old_marks, marks, sizeof marks) != 0), 0);
+    expect("list changed by refused calls", (uint64_t)(memcmp(old_list, list, sizeof list) != 0), 0);
+}
+
 int main(void)
 {
     /* The square 1 (0,0), 2 (10,0), 3 (10,10), 4 (0,10) by EUC_2D: sides 10, diagonals 14. */
-    static const uint32_t lengths[EDGES] = {10, 14, 10, 10, 14, 10};
-    uint8_t table_bytes[4 * EDGES], mark_bytes[EDGES], sheet[2 * 16], tour[2 * N];
-    for (size_t i = 0; i < EDGES; i++) put32(table_bytes + 4 * i, lengths[i]);
-    memset(mark_bytes, REVOSTI_OPEN, sizeof mark_bytes);
+    static const uint32_t square[2 * N] = {0, 0, 10, 0, 10, 10, 0, 10};
+    for (size_t i = 0; i < 2 * N; i++) put32(coordinates + 4 * i, square[i]);
+    expect("measuring", measure(REVOSTI_EUC_2D), REVOSTI_ACCEPTED);
+    expect("length of 1-2", length(1, 2), 10);
+    expect("length of 4-2", length(4, 2), 14);
+    expect("fresh marks", revosti_fresh_marks(N, marks, sizeof marks), REVOSTI_ACCEPTED);
+
+    /* Two pairs stand at 3 under 1-2: 1 and 4, 2 and 4. A last odd byte of the list stays. */
+    list[8] = 77;
+    expect("pairs at 3 under 1-2", revosti_pairs(list_pairs(1, 2, 3, 9)), 2);
+    expect("first pair, x and y as digits", 10 * get16(list) + get16(list + 2), 14);
+    expect("second pair, x and y as digits", 10 * get16(list + 4) + get16(list + 6), 24);
+    expect("the byte behind them", list[8], 77);
 
     /* Two lines: strike 1-3 by a split at 2, strike 2-4 by a split at 1. No pair stands at either, so neither has a case. */
-    static const unsigned records[2][8] = {
-        {REVOSTI_LINE, 1, 3, 0, 0, 2, 0, 2},
-        {REVOSTI_LINE, 2, 4, 0, 0, 1, 0, 0},
-    };
-    for (size_t i = 0; i < 16; i++) put16(sheet + 2 * i, records[i / 8][i % 8]);
-
-    uint64_t answer = revosti_mark_sheet(N, table_bytes, sizeof table_bytes, mark_bytes, sizeof mark_bytes, sheet, sizeof sheet);
+    size_t lines = write_lines();
+    expect("lines written", lines, 2);
+    uint64_t answer = mark_sheet(RECORD * lines);
     expect("marking, refusal", revosti_refusal(answer), REVOSTI_ACCEPTED);
     expect("marking, lines accepted", revosti_lines(answer), 2);
-    expect("mark of 1-3", mark_bytes[revosti_place(N, 1, 3)], REVOSTI_STRUCK);
-    expect("mark of 4-2", mark_bytes[revosti_place(N, 4, 2)], REVOSTI_STRUCK);
+    expect("mark of 1-3", marks[revosti_place(N, 1, 3)], REVOSTI_STRUCK);
+    expect("mark of 4-2", marks[revosti_place(N, 4, 2)], REVOSTI_STRUCK);
+    expect("pairs at 3 under 1-2, with 1-3 struck", revosti_pairs(list_pairs(1, 2, 3, sizeof list)), 1);
 
     /* The solver looks at the four open edges only. */
-    table = table_bytes;
-    marks = mark_bytes;
     path[0] = 1;
-    best_length = UINT32_MAX;
     search(1, 0);
     for (size_t i = 0; i < N; i++) put16(tour + 2 * i, best[i]);
-    answer = revosti_check_tour(N, table_bytes, sizeof table_bytes, mark_bytes, sizeof mark_bytes, tour, sizeof tour);
+    answer = check_tour();
     expect("tour found, length", revosti_tour_length(answer), 40);
     expect("tour found, all edges open", (uint64_t)revosti_tour_open(answer), 1);
 
-    /* Faulty input is refused and changes nothing. */
-    uint8_t before[EDGES];
-    memcpy(before, mark_bytes, sizeof before);
-    expect("n = 181", revosti_mark_sheet(181, table_bytes, sizeof table_bytes, mark_bytes, sizeof mark_bytes, sheet, sizeof sheet),
-           REVOSTI_POINTS);
-    expect("a table one byte short",
-           revosti_mark_sheet(N, table_bytes, sizeof table_bytes - 1, mark_bytes, sizeof mark_bytes, sheet, sizeof sheet), REVOSTI_SIZE);
-    expect("a sheet of an odd length",
-           revosti_mark_sheet(N, table_bytes, sizeof table_bytes, mark_bytes, sizeof mark_bytes, sheet, sizeof sheet - 1), REVOSTI_SHEET);
-    expect("an edge struck already, record",
-           revosti_record(revosti_mark_sheet(N, table_bytes, sizeof table_bytes, mark_bytes, sizeof mark_bytes, sheet, sizeof sheet)), 1);
-    put16(tour, best[1]);
-    expect("a tour that names a point twice",
-           revosti_check_tour(N, table_bytes, sizeof table_bytes, mark_bytes, sizeof mark_bytes, tour, sizeof tour), REVOSTI_TOUR);
-    expect("marks changed by refused calls", (uint64_t)(memcmp(before, mark_bytes, sizeof before) != 0), 0);
+    refusals(lines);
     return faults != 0;
 }

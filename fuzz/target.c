@@ -1,5 +1,5 @@
 /*
- * The fuzzing target over the two functions for C. An input is a file of the program `mark`: rule, n, coordinates, records.
+ * The fuzzing target over the functions for C. An input is a file of the program `mark`: rule, n, coordinates, records.
  *
  * Every buffer ends at a page that must not be touched, so a read or write past its end is a crash. The archive carries no
  * instrumentation; instead what a call answers (refusal, record, lines, strikes) is written into AFL's map, so that inputs with a new
@@ -26,7 +26,7 @@ static uint8_t *guarded(void)
     return at + MOST;
 }
 
-static uint8_t *table_end, *marks_end, *sheet_end, *tour_end;
+static uint8_t *table_end, *marks_end, *sheet_end, *tour_end, *list_end, *measured_end;
 
 static uint32_t get32(const uint8_t *at) { return at[0] | (uint32_t)at[1] << 8 | (uint32_t)at[2] << 16 | (uint32_t)at[3] << 24; }
 
@@ -71,6 +71,34 @@ static void try_tour(uint32_t n, const uint8_t *table, size_t table_len, const u
     promise(answer != 0 && answer <= REVOSTI_TOUR, "a point twice is no tour");
 }
 
+/* Lists into a list of some length, odd ones too: nothing past the pairs is written, and nothing where the call is refused. */
+static void try_list(uint32_t n, const uint8_t *table, size_t table_len, const uint8_t *marks, size_t edges, uint32_t rule)
+{
+    uint16_t a = (uint16_t)(rule >> 8 & 0xff), b = (uint16_t)(rule >> 16 & 0xff), c = (uint16_t)(rule >> 24);
+    size_t len = rule % 3 == 2 ? rule % 101 : 4 * edges + rule % 3;
+    uint8_t *list = list_end - len;
+    memset(list, 0xa5, len);
+    uint64_t answer = revosti_list_pairs(n, table, table_len, marks, edges, a, b, c, list, len);
+    size_t written = 4 * (size_t)revosti_pairs(answer);
+    promise(answer <= REVOSTI_LIST || answer % 65536 == 0, "a refusal number, or pairs");
+    promise(written <= len, "the pairs fit");
+    for (size_t i = written; i < len; i++) promise(list[i] == 0xa5, "bytes past the pairs stay");
+    seen(4, revosti_refusal(answer), (unsigned)(written / 4));
+}
+
+/* Measures into a table of old bytes, which stay where the call is refused. */
+static void try_measure(uint32_t n, uint32_t rule, const uint8_t *coordinates, size_t points, size_t edges)
+{
+    size_t len = 4 * edges + (rule >> 8 & 1), from = 8 * points - (rule >> 9 & 1 && points ? rule >> 10 & 3 : 0);
+    uint8_t *measured = measured_end - len;
+    memset(measured, 0xa5, len);
+    uint64_t answer = revosti_measure(n, rule & 0xff, coordinates, from, measured, len);
+    promise(answer <= REVOSTI_COORDINATE, "a refusal number or 0");
+    for (size_t i = 0; i < len; i++)
+        promise(answer == 0 ? i % 4 != 3 || measured[i] == 0 : measured[i] == 0xa5, "lengths below 2^24, or the bytes as they were");
+    seen(5, (unsigned)answer, 0);
+}
+
 static void run(const uint8_t *file, size_t size)
 {
     if (size < 8) return;
@@ -87,7 +115,12 @@ static void run(const uint8_t *file, size_t size)
             uint8_t *at = table + 4 * revosti_place((uint32_t)points, a, b);
             at[0] = (uint8_t)l, at[1] = (uint8_t)(l >> 8), at[2] = (uint8_t)(l >> 16), at[3] = (uint8_t)(l >> 24);
         }
+    memset(marks, 0, edges);
+    uint64_t fresh = revosti_fresh_marks(n, marks, edges);
+    promise(fresh == (n < 4 || n > 180 ? REVOSTI_POINTS : 0), "fresh marks for any n from 4 to 180");
+    for (size_t i = 0; i < edges; i++) promise(marks[i] == (fresh == 0), "fresh marks are open, or stay");
     memset(marks, REVOSTI_OPEN, edges);
+    try_measure(n, rule, coordinates, points, edges);
     memcpy(sheet, file + size - sheet_len, sheet_len);
     if (rule % 5 == 4 && edges) marks[rule % edges] = (uint8_t)(rule >> 8);
 
@@ -104,12 +137,14 @@ static void run(const uint8_t *file, size_t size)
     for (size_t i = 0; i < edges; i++) promise(marks[i] == before[i] || (before[i] == 1 && marks[i] == 0), "marks only go from open to struck");
     seen(1, refusal, record < 40 ? record : 40 + record / 64);
     seen(2, lines < 60 ? lines : 60, refusal);
+    try_list(n, table + (4 * edges - table_len), table_len, marks, edges, rule);
     if (n == points && n >= 2) try_tour(n, table, 4 * edges, marks, edges);
 }
 
 int main(void)
 {
     table_end = guarded(), marks_end = guarded(), sheet_end = guarded(), tour_end = guarded();
+    list_end = guarded(), measured_end = guarded();
     __AFL_INIT();
     unsigned char *file = __AFL_FUZZ_TESTCASE_BUF;
     while (__AFL_LOOP(10000)) run(file, (size_t)__AFL_FUZZ_TESTCASE_LEN);

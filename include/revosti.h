@@ -1,19 +1,23 @@
 /*
- * Revosti for C: mark a strike sheet, check a tour.
+ * Revosti for C: measure a board, make fresh marks, mark a strike sheet, list standing pairs, check a tour.
  *
- * Link with libmarking.a (`rt staticlib marking` writes target/staticlib/libmarking.a).
+ * Link with librevosti.a (`rt staticlib revosti` writes target/staticlib/librevosti.a).
  *
  * Points are numbered 1 to n, n from REVOSTI_LEAST_POINTS to REVOSTI_MOST_POINTS. Edges stand in the order 1-2, 1-3, .., 1-n, 2-3, ..;
  * there are n(n - 1)/2 of them, and revosti_place gives the place of one. All numbers in buffers are little-endian.
  *
- *   table   4 bytes an edge: its length, at most REVOSTI_MOST_LENGTH. It need not obey the triangle inequality.
- *   marks   1 byte an edge: REVOSTI_OPEN or REVOSTI_STRUCK. Fresh marks are all REVOSTI_OPEN.
- *   sheet   16 bytes a record, 1 to REVOSTI_MOST_RECORDS records, numbered from 1: eight 16-bit numbers kind, a, b, u, v, c, d, next.
- *   tour    2 bytes a point, n points.
+ *   coordinates  4 bytes a number, 2n numbers: both of point 1, then both of point 2, ..; each at most REVOSTI_MOST_COORDINATE.
+ *   table        4 bytes an edge: its length, at most REVOSTI_MOST_LENGTH. It need not obey the triangle inequality.
+ *   marks        1 byte an edge: REVOSTI_OPEN or REVOSTI_STRUCK. Fresh marks are all REVOSTI_OPEN.
+ *   sheet        16 bytes a record, 1 to REVOSTI_MOST_RECORDS records, numbered from 1: eight 16-bit numbers kind, a, b, u, v, c, d, next.
+ *   tour         2 bytes a point, n points.
+ *   list         2 bytes a point: x then y of each pair. It takes any length: its places are its whole entries.
  *
- * Both functions accept any buffers of any lengths and any n: faulty input gets a refusal number, the first that applies in the order
- * given at each function. They touch no byte outside the lengths given, allocate nothing, keep no state and always return.
- * They use some 300 KB of stack. Buffers must not overlap `marks` while revosti_mark_sheet runs.
+ * All functions accept any buffers of any lengths and any numbers: faulty input gets a refusal number, the first that applies in the
+ * order given at each function. A length that is no whole number of entries is a wrong size there, for all buffers but the list. A
+ * refused call changes nothing, but for a sheet that stops at a record. They touch no byte outside the lengths given, allocate nothing,
+ * keep no state and always return. They use some 300 KB of stack. A buffer that is written overlaps no other while the call runs;
+ * buffers that are only read may overlap.
  *
  * docs/RULES.md has the rules that they keep to, and what the words here mean (standing pair, split, crossing, labelling).
  * What is proved of them: demands 1 to 3 of README.md. In particular, no edge of a shortest tour is ever struck, whatever sheets are
@@ -32,9 +36,13 @@ extern "C" {
 enum {
     REVOSTI_LEAST_POINTS = 4,
     REVOSTI_MOST_POINTS = 180,
+    REVOSTI_MOST_COORDINATE = 1000000,
     REVOSTI_MOST_LENGTH = 2000000,
     REVOSTI_MOST_RECORDS = 4000,
     REVOSTI_MOST_SPLITS = 6,
+
+    REVOSTI_EUC_2D = 1,   /* rule 1: the nearest whole number */
+    REVOSTI_CEIL_2D = 2,  /* rule 2: the next whole number above, or the same */
 
     REVOSTI_STRUCK = 0,
     REVOSTI_OPEN = 1,
@@ -48,29 +56,45 @@ enum {
 enum {
     REVOSTI_ACCEPTED = 0,
     REVOSTI_POINTS = 1,          /* n outside 4 to 180 */
-    REVOSTI_SIZE = 2,            /* the table has not n(n - 1)/2 whole entries */
+    REVOSTI_SIZE = 2,            /* the coordinates have not 2n whole entries, or the table not n(n - 1)/2 */
+    REVOSTI_RULE = 3,            /* the rule is neither 1 nor 2 */
+    REVOSTI_COORDINATE = 4,      /* a coordinate above 1,000,000 */
     REVOSTI_LENGTH = 5,          /* a table entry above 2,000,000 */
     REVOSTI_MARKS = 6,           /* wrong number of marks, or a byte above 1 */
     REVOSTI_SHEET = 7,           /* the sheet is not 1 to 4,000 whole records */
     REVOSTI_INDEX_ABOVE = 8,     /* an index above the record count; names the record that has the index */
     REVOSTI_INDEX_NOT_ABOVE = 9, /* an index not above the highest record entered; names the record that has the index */
     REVOSTI_KIND = 10,           /* wrong kind for its chain, or u or v not 0 in kinds 1 and 2 */
-    REVOSTI_POINT = 11,          /* a point field outside 1 to n, or a = b */
-    REVOSTI_EDGE_STRUCK = 12,    /* the line's edge is struck already */
+    REVOSTI_POINT = 11,          /* a point outside 1 to n, or a = b */
+    REVOSTI_EDGE_STRUCK = 12,    /* the edge is struck already */
     REVOSTI_SEVENTH_SPLIT = 13,  /* more than six splits one inside another */
     REVOSTI_PAIR = 14,           /* the pair is not the next standing one, or the chain ends with standing pairs left */
     REVOSTI_NO_CROSSING = 15,    /* a crossing's edge or centres break a condition */
     REVOSTI_NO_SAVING = 16,      /* no labelling of the crossing saves */
-    REVOSTI_TOUR = 17            /* not n whole numbers, or not each point from 1 to n exactly once */
+    REVOSTI_TOUR = 17,           /* not n whole numbers, or not each point from 1 to n exactly once */
+    REVOSTI_LIST = 18            /* the list has fewer than twice as many places as there are standing pairs */
 };
+
+/*
+ * Measures a board: writes the distance of each edge to the table. Refusals in this order: 1; 2, of the coordinates and then of the
+ * table; 3, 4. Answer: the refusal number, or 0. It changes the table alone, and a refused call nothing.
+ */
+uint64_t revosti_measure(uint32_t n, uint32_t rule, const uint8_t *coordinates, size_t coordinates_len, uint8_t *table,
+                         size_t table_len);
+
+/*
+ * Makes fresh marks: sets every mark to REVOSTI_OPEN, whatever it was. Refusals in this order: 1; 6, the size alone.
+ * Answer: the refusal number, or 0. A refused call changes no mark.
+ */
+uint64_t revosti_fresh_marks(uint32_t n, uint8_t *marks, size_t marks_len);
 
 /*
  * Marks a sheet: strikes each line's edge whose argument is complete, one line after the other, and stops at the first refusal.
  * Refusals in this order: 1, 2, 5, 6, 7; then 8 and 9 on each index followed; 10 and 11 on each record entered, then 12 on a line, and 14,
  * 13, 15, 16 on a case (14 before 13). A chain that ends with standing pairs left gets 14 at its last record, or at the split's owner.
  * Answer: refusal number + 256 * record + 16,777,216 * lines accepted; take it apart with the functions below. The record is 0 where no
- * record is at fault. A call that is refused by 1 to 7 changes no mark; one that stops at a record keeps the strikes of the lines accepted
- * before it.
+ * record is at fault. It changes marks alone: a call that is refused by 1 to 7 none; one that stops at a record keeps the strikes of the
+ * lines accepted before it.
  */
 uint64_t revosti_mark_sheet(uint32_t n, const uint8_t *table, size_t table_len, uint8_t *marks, size_t marks_len,
                             const uint8_t *sheet, size_t sheet_len);
@@ -82,10 +106,19 @@ uint64_t revosti_mark_sheet(uint32_t n, const uint8_t *table, size_t table_len, 
 uint64_t revosti_check_tour(uint32_t n, const uint8_t *table, size_t table_len, const uint8_t *marks, size_t marks_len,
                             const uint8_t *tour, size_t tour_len);
 
+/*
+ * Lists the pairs that stand at the split point c, which may be a or b, under K = {a-b}: x then y of each, x below y, rising. Refusals in
+ * this order: 1, 2, 5, 6; 11, of a, b and c; 12; 18. Answer: the refusal number alone, or 65,536 * the number of pairs.
+ * It changes the list alone: entries past the pairs keep their numbers, and so does a last odd byte. A refused call changes nothing.
+ */
+uint64_t revosti_list_pairs(uint32_t n, const uint8_t *table, size_t table_len, const uint8_t *marks, size_t marks_len,
+                            uint16_t a, uint16_t b, uint16_t c, uint8_t *list, size_t list_len);
+
 /* The parts of an answer. */
 static inline unsigned revosti_refusal(uint64_t answer) { return (unsigned)(answer & 0xff); }
 static inline unsigned revosti_record(uint64_t answer) { return (unsigned)(answer >> 8 & 0xffff); }
 static inline unsigned revosti_lines(uint64_t answer) { return (unsigned)(answer >> 24 & 0xffff); }
+static inline size_t revosti_pairs(uint64_t answer) { return (size_t)(answer >> 16); }
 static inline uint64_t revosti_tour_length(uint64_t answer) { return answer >> 16; }
 static inline int revosti_tour_open(uint64_t answer) { return (int)(answer >> 8 & 1); }
 

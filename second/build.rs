@@ -1,7 +1,4 @@
-//! With the feature `revosti`: links the archives named by REVOSTI_MARKING and REVOSTI_PROBE.
-//!
-//! Both are linked whole where needed, the marking archive first. They may hold the same runtime
-//! twice, hence `--allow-multiple-definition`; the first definition is taken.
+//! With the feature `revosti`: links the archive named by REVOSTI_LIBRARY.
 
 use std::path::Path;
 
@@ -9,12 +6,9 @@ fn main() {
     if std::env::var_os("CARGO_FEATURE_REVOSTI").is_none() {
         return;
     }
-    for variable in ["REVOSTI_MARKING", "REVOSTI_PROBE"] {
-        println!("cargo:rerun-if-env-changed={variable}");
-        let path = std::env::var(variable).unwrap_or_else(|_| panic!("{variable} names no archive"));
-        link(Path::new(&path));
-    }
-    println!("cargo:rustc-link-arg=-Wl,--allow-multiple-definition");
+    println!("cargo:rerun-if-env-changed=REVOSTI_LIBRARY");
+    let path = std::env::var("REVOSTI_LIBRARY").expect("REVOSTI_LIBRARY names no archive");
+    link(Path::new(&path));
 }
 
 /// Links one archive `lib<name>.a`.

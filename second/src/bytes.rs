@@ -1,7 +1,8 @@
-//! The two answers for C over little-endian bytes (01, Layers and program).
+//! The answers for C over little-endian bytes (01, Layers and program).
 
 use crate::marking::{self, Marked};
-use crate::tour;
+use crate::refusal::Refusal;
+use crate::{instance, lengths, listing, tour};
 
 /// 32-bit entries; a length that is no whole number of entries becomes a wrong size.
 pub fn entries(bytes: &[u8]) -> Vec<u32> {
@@ -19,6 +20,39 @@ pub fn numbers(bytes: &[u8]) -> Vec<u16> {
     bytes.chunks_exact(2).map(|e| u16::from_le_bytes(e.try_into().unwrap())).collect()
 }
 
+/// The refusal number, or the answer.
+fn number(answer: Result<u64, Refusal>) -> u64 {
+    answer.unwrap_or_else(|refusal| u64::from(refusal.number()))
+}
+
+/// *Measure* for C: the refusal number or 0. On a refusal the table keeps its bytes.
+pub fn measure(n: u32, rule: u32, coordinates: &[u8], table: &mut [u8]) -> u64 {
+    let mut lengths = entries(table);
+    number(lengths::measure(n, rule, &entries(coordinates), &mut lengths).map(|()| {
+        for (place, length) in table.chunks_exact_mut(4).zip(lengths) {
+            place.copy_from_slice(&length.to_le_bytes());
+        }
+        0
+    }))
+}
+
+/// *Fresh marks* for C: the refusal number or 0.
+pub fn fresh_marks(n: u32, marks: &mut [u8]) -> u64 {
+    number(instance::fresh_marks(n, marks).map(|()| 0))
+}
+
+/// *List pairs* for C: the refusal number, or 65,536 × the number of pairs. The list's places are
+/// its whole entries; bytes past the pairs stay.
+pub fn list_pairs(n: u32, table: &[u8], marks: &[u8], [a, b, c]: [u16; 3], list: &mut [u8]) -> u64 {
+    let mut places = vec![0; list.len() / 2];
+    number(listing::list_pairs(n, &entries(table), marks, (a, b), c, &mut places).map(|pairs| {
+        for (place, point) in list.chunks_exact_mut(2).zip(&places[..2 * pairs]) {
+            place.copy_from_slice(&point.to_le_bytes());
+        }
+        65_536 * pairs as u64
+    }))
+}
+
 /// "The refusal number or 0, plus 256 × the record, plus 16,777,216 × the lines accepted."
 pub fn marking_number(marked: Marked) -> u64 {
     let fault = marked.fault.map_or(0, |f| u64::from(f.refusal.number()) + 256 * u64::from(f.record));
@@ -33,8 +67,6 @@ pub fn mark_sheet(n: u32, table: &[u8], marks: &mut [u8], sheet: &[u8]) -> u64 {
 /// *Check a tour* for C: "the refusal number alone, or 65,536 × the length, plus 256 if all
 /// edges are open".
 pub fn check_tour(n: u32, table: &[u8], marks: &[u8], tour: &[u8]) -> u64 {
-    match tour::check_tour(n, &entries(table), marks, &numbers(tour)) {
-        Ok(answer) => 65_536 * answer.length + 256 * u64::from(answer.all_open),
-        Err(refusal) => u64::from(refusal.number()),
-    }
+    let checked = tour::check_tour(n, &entries(table), marks, &numbers(tour));
+    number(checked.map(|answer| 65_536 * answer.length + 256 * u64::from(answer.all_open)))
 }

@@ -206,3 +206,23 @@ fn broken_bytes() {
     assert_eq!(second::bytes::check_tour(4, &table, &fresh(4), &longer(&tour)), 17);
     assert_eq!(second::bytes::check_tour(4, &table, &fresh(4), &tour), 65_536 * 40 + 256);
 }
+
+/// The same for what is written: 2 for coordinates and table. A list may have any length: its places are the whole entries.
+#[test]
+fn broken_bytes_written() {
+    let table: Vec<u8> = square().iter().flat_map(|l| l.to_le_bytes()).collect();
+    let coordinates: Vec<u8> = [0u32, 0, 10, 0, 10, 10, 0, 10].iter().flat_map(|c| c.to_le_bytes()).collect();
+    let measure = |coordinates: &[u8], size| {
+        let mut table = vec![77; size];
+        (second::bytes::measure(4, 1, coordinates, &mut table), table)
+    };
+    assert_eq!(measure(&coordinates[1..], 24), (2, vec![77; 24]));
+    assert_eq!(measure(&coordinates, 25), (2, vec![77; 25]));
+    assert_eq!(measure(&coordinates, 24), (0, table.clone()));
+    let list = |size| {
+        let mut list = vec![77; size];
+        (second::bytes::list_pairs(4, &table, &fresh(4), [1, 2, 3], &mut list), list)
+    };
+    assert_eq!(list(7), (18, vec![77; 7]));
+    assert_eq!(list(9), (2 * 65_536, vec![1, 0, 4, 0, 2, 0, 4, 0, 77]));
+}

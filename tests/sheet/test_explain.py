@@ -5,11 +5,11 @@ import unittest
 
 from support import NINE, SQUARE_HEAD, SQUARE_RECORDS, STANDIN, Run, binary, fake
 
+from revosti.refusal import REFUSALS
 from sheetlib.answer import NoAnswer, understand
 from sheetlib.explain import explain
 from sheetlib.parts import split
 from sheetlib.read import pack
-from sheetlib.words import REFUSALS
 import standin
 
 # The key words of 01 for each number.

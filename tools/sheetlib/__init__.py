@@ -7,7 +7,7 @@ scan     text to lines of tokens, and complaints with their place
 read     text to pieces (pack)
 answer   running `mark` and reading its lines
 board    lengths, K and standing pairs
-words    the meaning of each refusal number
+words    numbers in sentences
 fault    what a file itself shows about its refusal
 explain  the verdict in words
 labels   places for the holes' numbers

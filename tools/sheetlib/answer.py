@@ -1,4 +1,8 @@
-"""Running `mark` and reading its lines (01, Layers and program)."""
+"""Running `mark` and reading its lines (01, Layers and program).
+
+The module `revosti` is not asked here: `explain` and `draw` show what the program says of a file, and a file may be any bytes, a cut
+header or half a record too. Its tests of the file are the program's own.
+"""
 
 import os
 import re

@@ -7,10 +7,12 @@ of one hole form one path, so that its fan does not darken around the hole.
 from itertools import combinations
 from xml.sax.saxutils import escape
 
+from revosti import meaning
+
 from .answer import NoAnswer
 from .board import RULES, edge, length_of
 from .labels import place_labels
-from .words import counted, meaning
+from .words import counted
 
 WIDTH, MARGIN, MIN_HEIGHT = 1200, 50, 240
 LEGEND = 96

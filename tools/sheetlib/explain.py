@@ -1,10 +1,12 @@
 """The verdict of `mark` in words."""
 
+from revosti import meaning
+
 from .board import RULES, edge
 from .fault import detail
 from .nest import nest
 from .parts import LINE
-from .words import counted, meaning
+from .words import counted
 from .write import rows_of
 
 AROUND = 3  # rows shown before and after the record at fault

@@ -1,10 +1,11 @@
 """What a file itself shows about its refusal. A sentence, or None where the
 file does not settle it: nothing here is a guess."""
 
+from revosti import LEAST_POINTS, MOST_POINTS
+
 from .board import Board, RULES, degree, edge
 from .nest import holds_split, nest
-from .parts import (CROSSING, LINE, MAX_COORDINATE, MAX_FILE, MAX_POINTS, MAX_RECORDS,
-                    MIN_POINTS, RECORD, join)
+from .parts import CROSSING, LINE, MAX_COORDINATE, MAX_FILE, MAX_RECORDS, RECORD, join
 
 
 def detail(parts, answer):
@@ -26,7 +27,7 @@ def file_detail(parts, refusal):
 
 def wrong_count(parts):
     """Refusal 1."""
-    if parts.n is None or MIN_POINTS <= parts.n <= MAX_POINTS:
+    if parts.n is None or LEAST_POINTS <= parts.n <= MOST_POINTS:
         return None
     return f"Here n is {parts.n}."
 

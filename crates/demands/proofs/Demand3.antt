@@ -21,7 +21,7 @@ use Rattle.argument.specs.Sheet.{sheet, run}
 use Rattle.argument.proofs.Safe.{sheet-safe, run-keeps}
 use Rattle.sheets.specs.Rules.{markingOf}
 use Rattle.sheets.specs.Sheets.{wholeSheet}
-use Rattle.marking.specs.Bytes.{whole16, whole32}
+use Rattle.endian.specs.Bytes.{whole16, whole32}
 use Rattle.marks.specs.Fresh.{freshAnswer, freshMarks, freshLeft}
 use Rattle.marking.specs.Marking.{markSheet, markTested, turnedDown}
 use Rattle.marking.specs.Tests.{tested}

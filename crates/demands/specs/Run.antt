@@ -3,7 +3,7 @@
 use Prim.Native.Nat.{ℕ}
 use mathlib.Core.List.{List}
 use Rattle.argument.specs.Sheet.{run}
-use Rattle.marking.specs.CApi.{markInC}
+use Rattle.revosti.specs.Mark.{markInC}
 use Rattle.marking.specs.Marking.{markSheet}
 
 pub record Call : Type 0 where

@@ -5,8 +5,8 @@ use answers::tally::hold;
 use answers::tally::some_marks;
 use answers::tally::subject;
 use answers::tally::text;
-use marking::c_api::revosti_check_tour;
-use marking::c_api::revosti_mark_sheet;
+use revosti::mark::revosti_mark_sheet;
+use revosti::tour::revosti_check_tour;
 
 // `1 1 3 0 0 2 0 0` in bytes, which strikes 1-3, and a byte more.
 const GOOD: [u8; 17] = [1, 0, 1, 0, 3, 0, 0, 0, 0, 0, 2, 0, 0, 0, 0, 0, 0];

@@ -1,6 +1,3 @@
-pub mod BytesDecoded
-pub mod CApiAnswers
-pub mod CApiSizes
 pub mod ListingAnswers
 pub mod ListingCopy
 pub mod MarkingSheets

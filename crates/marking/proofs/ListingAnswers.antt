@@ -1,7 +1,7 @@
--- `listed` and `listLeft` at each way out of `list_pairs` and `list_into`, from the tests that led there. Assumes nothing.
+-- `listTests`, `listed` and `listLeft` at each way out of `test_listing`, `list_pairs` and `list_into`, from the tests that led there. Assumes nothing.
 use Prim.Native.Nat.{ℕ, _*_, _≤_, _<_}
 use mathlib.Core.Path.{_≡_, refl, sym, _∙_, ap}
-use mathlib.Core.Bool.{true, false}
+use mathlib.Core.Bool.{Bool, true, false}
 use mathlib.Core.List.{List, _++_}
 use native.Mathlib.Omega.{arith}
 use lib.Dec.{leb}
@@ -14,13 +14,14 @@ use Rattle.argument.specs.Record.{splits, fits}
 use Rattle.argument.proofs.Tests.{Fits, fits-means}
 use Rattle.lengths.specs.Instance.{fewEdges, fewPoints, mostEdges}
 use Rattle.enumeration.specs.Find.{pairsAt, Found, FindAsked}
-use Rattle.marking.specs.Listing.{listed, listLeft, ListedInto, ListedAs}
+use Rattle.marking.specs.Listing.{askTested, listTests, listTested, listed, listLeft, ListedInto, ListedAs}
 use Rattle.marking.specs.Tests.{tested}
 use Rattle.marking.specs.declared.listing.Listed.{Listed}
 use Rattle.marking.specs.declared.listing.Listed.the-variants.{Pairs, Refused}
+use Rattle.marking.specs.declared.tests.Tested.{Tested}
 use Rattle.marking.specs.declared.tests.Tested.the-variants as tests
 use Rattle.lengths.proofs.Edges.{edges-few, edges-fewer}
-use Rattle.marking.proofs.Tested.{Passed}
+use Rattle.marking.proofs.Tested.{Passed, passed}
 
 -- tests 1, 2, 5, 6 and 11 are passed
 pub record Fitted (n : ℕ) (table marks : List ℕ) (m a b c : ℕ) : Type 0 where
@@ -41,7 +42,8 @@ module _ {n : ℕ} {table marks : List ℕ} {m a b c : ℕ} where
       let p = fitting f in
       record { is-edge = record { first = p .point-a; second = p .point-b; apart = p .apart }; whole = f .passed .marked }
 
-  findable : {found : List ℕ} → Listable n table marks m a b c → 2 * edgeCount m ≤ length found → FindAsked m table marks a b c found
+  -- the array has room for a pair with each edge
+  pub findable : {found : List ℕ} → Listable n table marks m a b c → 2 * edgeCount m ≤ length found → FindAsked m table marks a b c found
   findable f z =
       let p = fitting (f .fitted) in
       record {
@@ -61,29 +63,75 @@ module _ {n : ℕ} {table marks : List ℕ} {m a b c : ℕ} where
   findable-large f z = findable f (omega (arith, edges-few m (f .fitted .passed .lengths .few)))
 
   -- test 18 is the one left
-  reached : Listable n table marks m a b c → (size : ℕ)
+  pub reached : Listable n table marks m a b c → (size : ℕ)
       → listed n table marks a b c size
       ≡ unless (leb (2 * length (pairsAt m table marks a b c)) size) (Refused 18 0) (Pairs (length (pairsAt m table marks a b c)))
   unfolding listed
   reached f size = rw (listed, f .fitted .passed .answer, f .fitted .fit, f .is-open)
 
+-- the tests at each way out of `test_listing`
+module _ (n : ℕ) (table marks : List ℕ) (a b c : ℕ) where
+  pub tests-shared : {k : ℕ} → tested n table marks ≡ tests.Refused k → tests.Refused k ≡ listTests n table marks a b c
+  unfolding listTests
+  tests-shared h = rw (listTests, h)
+
+  module _ {m : ℕ} where
+    pub tests-points : Passed n table marks m → fits m a b (splits c 0) ≡ false → tests.Refused 11 ≡ listTests n table marks a b c
+    unfolding listTests
+    tests-points p e = rw (listTests, p .answer, e)
+
+    pub tests-struck : Fitted n table marks m a b c → openIn m marks a b ≡ false → tests.Refused 12 ≡ listTests n table marks a b c
+    unfolding listTests
+    tests-struck f e = rw (listTests, f .passed .answer, f .fit, e)
+
+    pub tests-all : Listable n table marks m a b c → tests.Points m ≡ listTests n table marks a b c
+    unfolding listTests
+    tests-all f = rw (listTests, f .fitted .passed .answer, f .fitted .fit, f .is-open)
+
+-- and what they say of the answer
+refused-at : (f o : Bool) (m k : ℕ) (rest : Listed) → unless f (tests.Refused 11) (unless o (tests.Refused 12) (tests.Points m)) ≡ tests.Refused k
+    → unless f (Refused 11 0) (unless o (Refused 12 0) rest) ≡ Refused k 0
+refused-at false o m k rest h = let q : 11 ≡ k = cc in ap (λ (i : ℕ). Refused i 0) q
+refused-at true false m k rest h = let q : 12 ≡ k = cc in ap (λ (i : ℕ). Refused i 0) q
+refused-at true true m k rest h = absurd (let z : _≡_ {A = ℕ} 0 1 = cc in omega arith)
+
+passed-at : (f o : Bool) (i m : ℕ) → unless f (tests.Refused 11) (unless o (tests.Refused 12) (tests.Points i)) ≡ tests.Points m
+    → (i ≡ m) × ((f ≡ true) × (o ≡ true))
+passed-at true true i m h = (cc, (refl, refl))
+passed-at true false i m h = absurd (let z : _≡_ {A = ℕ} 0 1 = cc in omega arith)
+passed-at false o i m h = absurd (let z : _≡_ {A = ℕ} 0 1 = cc in omega arith)
+
+module _ (n : ℕ) (table marks : List ℕ) (a b c : ℕ) where
+  pub tests-refused : (size : ℕ) {k : ℕ} → listTests n table marks a b c ≡ tests.Refused k → listed n table marks a b c size ≡ Refused k 0
+  unfolding listTests listed
+  tests-refused size {k} h = by (tested n table marks) h
+    where
+      by : (t : Tested) → askTested t marks a b c ≡ tests.Refused k → listTested t table marks a b c size ≡ Refused k 0
+      by (tests.Refused j) e = let q : j ≡ k = cc in ap (λ (i : ℕ). Refused i 0) q
+      by (tests.Points m) e = refused-at (fits m a b (splits c 0)) (openIn m marks a b) m k _ e
+
+  pub tests-passed : {m : ℕ} → listTests n table marks a b c ≡ tests.Points m → Listable n table marks m a b c
+  unfolding listTests
+  tests-passed {m} h = by (tested n table marks) refl h
+    where
+      by : (t : Tested) → tested n table marks ≡ t → askTested t marks a b c ≡ tests.Points m → Listable n table marks m a b c
+      by (tests.Refused j) e g = absurd (let z : _≡_ {A = ℕ} 0 1 = cc in omega arith)
+      by (tests.Points i) e g =
+          let p = passed-at (fits i a b (splits c 0)) (openIn i marks a b) i m g in
+          record {
+            fitted = record { passed = passed (e ∙ ap tests.Points (p .0)); fit = ap (λ (j : ℕ). fits j a b (splits c 0)) (sym (p .0)) ∙ p .1 .0 };
+            is-open = ap (λ (j : ℕ). openIn j marks a b) (sym (p .0)) ∙ p .1 .1;
+          }
+
 module _ {n : ℕ} {table marks : List ℕ} {a b c : ℕ} {list : List ℕ} where
   refused : {k : ℕ} → listed n table marks a b c (length list) ≡ Refused k 0 → ListedAs n table marks a b c list (Refused k 0) list
   refused h = record { answered = sym h; list-left = rw h }
 
-  pub refused-tests : {k : ℕ} → tested n table marks ≡ tests.Refused k → ListedAs n table marks a b c list (Refused k 0) list
-  unfolding listed
-  refused-tests h = refused (rw (listed, h))
+  -- a refusal of the tests is the answer
+  pub refused-tests : {k : ℕ} → listTests n table marks a b c ≡ tests.Refused k → ListedAs n table marks a b c list (Refused k 0) list
+  refused-tests h = refused (tests-refused n table marks a b c (length list) h)
 
   module _ {m : ℕ} where
-    pub refused-points : Passed n table marks m → fits m a b (splits c 0) ≡ false → ListedAs n table marks a b c list (Refused 11 0) list
-    unfolding listed
-    refused-points p e = refused (rw (listed, p .answer, e))
-
-    pub refused-struck : Fitted n table marks m a b c → openIn m marks a b ≡ false → ListedAs n table marks a b c list (Refused 12 0) list
-    unfolding listed
-    refused-struck f e = refused (rw (listed, f .passed .answer, f .fit, e))
-
     -- what `list_into` answers is the answer
     pub listed-as : {answer : Listed} {left : List ℕ} → Listable n table marks m a b c → ListedInto m table marks a b c list answer left → ListedAs n table marks a b c list answer left
     listed-as {answer} {left} f r =

@@ -1,5 +1,3 @@
-pub mod Bytes
-pub mod CApi
 pub mod Listing
 pub mod Marking
 pub mod Tests

@@ -19,6 +19,17 @@ pub record CopyAsked (found : List ℕ) (size : ℕ) (list : List ℕ) : Type 0 
   pub few : size ≤ length found
   pub room : size ≤ length list
 
+-- tests 11 and 12 behind those that the operations share: the number of points, or the first refusal
+abbrev pub askTested : Tested → List ℕ → ℕ → ℕ → ℕ → Tested
+askTested (tests.Refused number) marks a b c = tests.Refused number
+askTested (tests.Points n) marks a b c =
+    unless (fits n a b (splits c 0)) (tests.Refused 11)
+    (unless (openIn n marks a b) (tests.Refused 12)
+    (tests.Points n))
+
+unfoldable pub listTests : ℕ → List ℕ → List ℕ → ℕ → ℕ → ℕ → Tested
+listTests n table marks a b c = askTested (tested n table marks) marks a b c
+
 -- a refusal names record 0: no record is at fault
 abbrev pub listTested : Tested → List ℕ → List ℕ → ℕ → ℕ → ℕ → ℕ → Listed
 listTested (tests.Refused number) table marks a b c size = Refused number 0

@@ -11,7 +11,7 @@ ghost use mathlib.Core.Path.{_≡_};
 ghost use mathlib.Core.List.{_++_};
 ghost use lib.ListN.{take, drop};
 ghost use Rattle.enumeration.specs.Find.{FindAsked};
-ghost use Rattle.marking.specs.Listing.{CopyAsked, ListedInto, ListedAs};
+ghost use Rattle.marking.specs.Listing.{CopyAsked, listTests, ListedInto, ListedAs};
 
 // The answer of "list pairs": how many pairs there are, or the number of the refusal and its record, always 0.
 pub enum Listed {
@@ -57,6 +57,25 @@ fn list_into(
     Listed::Pairs(count)
 }
 
+// Tests 1, 2, 5, 6, 11 and 12: the number of points, or the number of the first refusal.
+pub fn test_listing(n: u32, table: &[u32], marks: &[u8], a: u16, b: u16, c: u16) -> Tested
+    ensures { λ r. ⌜ r ≡ listTests n (now (table .entry)) (now (marks .entry)) a b c ⌝ }
+{
+    let tested = test_instance(n, table, marks);
+    let points = match tested {
+        Tested::Points(points) => points,
+        Tested::Refused(number) => return Tested::Refused(number),
+    };
+    let split = Closing::Split { point: c, first: 0 };
+    if !points_fit(points, a, b, split) {
+        return Tested::Refused(refusal::POINT);
+    }
+    if !is_open(points, marks, a, b) {
+        return Tested::Refused(refusal::STRUCK);
+    }
+    Tested::Points(points)
+}
+
 // Lists the feasible pairs of K = {ab} at the split point c. A small instance takes a small array, which is cleared sooner.
 pub fn list_pairs(
     n: u32,
@@ -69,7 +88,7 @@ pub fn list_pairs(
 ) -> Listed
     ensures { λ r. ⌜ ListedAs n (now (table .entry)) (now (marks .entry)) a b c (now (list .entry)) r (now (list .exit)) ⌝ }
 {
-    let tested = test_instance(n, table, marks);
+    let tested = test_listing(n, table, marks, a, b, c);
     let points = match tested {
         Tested::Points(points) => points,
         Tested::Refused(number) => return Listed::Refused {
@@ -77,19 +96,6 @@ pub fn list_pairs(
             record: refusal::NO_RECORD,
         },
     };
-    let split = Closing::Split { point: c, first: 0 };
-    if !points_fit(points, a, b, split) {
-        return Listed::Refused {
-            refusal: refusal::POINT,
-            record: refusal::NO_RECORD,
-        };
-    }
-    if !is_open(points, marks, a, b) {
-        return Listed::Refused {
-            refusal: refusal::STRUCK,
-            record: refusal::NO_RECORD,
-        };
-    }
     if points <= Instance::FEW_POINTS {
         let mut found = [0u16; 2 * Instance::FEW_EDGES];
         return list_into(points, table, marks, a, b, c, &mut found, list);

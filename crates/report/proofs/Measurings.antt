@@ -16,7 +16,7 @@ use Rattle.lengths.specs.declared.distance.NamedRule.{NamedRule}
 use Rattle.lengths.specs.declared.distance.NamedRule.the-variants.{Known, Unknown}
 use Rattle.lengths.specs.declared.measure.Measured.{Measured}
 use Rattle.lengths.specs.declared.measure.Measured.the-variants.{Done, Refused}
-use Rattle.marking.specs.Bytes.{whole16}
+use Rattle.endian.specs.Bytes.{whole16}
 use Rattle.marks.specs.Fresh.{freshMarks}
 use Rattle.marking.specs.Marking.{markSheet}
 use Rattle.report.specs.Input.{coordinatesIn, recordsIn, headerBytes, pointBytes}

@@ -14,7 +14,7 @@ use Rattle.argument.specs.Sheet.{Result}
 use Rattle.sheets.specs.Results.{resultOf}
 use Rattle.sheets.specs.Sheets.{wholeSheet, mostNumbers, recordSize}
 use Rattle.sheets.specs.declared.verdict.Verdict.{Verdict}
-use Rattle.marking.specs.Bytes.{numbers16, numbers32, whole16, whole32, fitting16, fitting32, Decoded}
+use Rattle.endian.specs.Bytes.{numbers16, numbers32, whole16, whole32, fitting16, fitting32, Decoded}
 use Rattle.marks.specs.Fresh.{freshAnswer, freshMarks, FreshAs}
 use Rattle.marking.specs.Marking.{markSheet, markTested}
 use Rattle.marking.specs.Tests.{tested}

@@ -6,7 +6,7 @@ use lib.ListN.{length, take, drop, getD}
 use Rattle.lengths.specs.Instance.{inRange, mostPoints}
 use Rattle.lists.specs.Test.{unless}
 use Rattle.sheets.specs.Sheets.{mostNumbers}
-use Rattle.marking.specs.Bytes.{numbers32, whole16}
+use Rattle.endian.specs.Bytes.{numbers32, whole16}
 use Rattle.report.specs.declared.header.Header.{Header}
 use Rattle.report.specs.declared.header.Header.the-variants.{Read, Refused}
 

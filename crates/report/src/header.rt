@@ -4,7 +4,7 @@ use lengths::instance::Instance;
 use lengths::refusal;
 use sheets::sheet::Sheet;
 ghost use mathlib.Core.Path.{_≡_};
-ghost use Rattle.marking.specs.Bytes.{ByteIs};
+ghost use Rattle.endian.specs.Bytes.{ByteIs};
 ghost use Rattle.report.specs.Input.{Four, headerOf};
 ghost use Rattle.report.specs.Input.{number32 as Input·number32};
 

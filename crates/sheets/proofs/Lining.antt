@@ -17,7 +17,6 @@ use Rattle.argument.specs.Verdict.{Verdict, accepted, refused, andThen}
 use Rattle.argument.specs.Record.{splits, line, records, recordAt, fits}
 use Rattle.argument.specs.Layout.{Enters}
 use Rattle.argument.specs.Rules.{Rules}
-use Rattle.argument.specs.Argument.{splitLimit}
 use Rattle.argument.specs.Walk.{opening, walk}
 use Rattle.argument.specs.Line.{Struck, strikes, judgeRecord, judge}
 use Rattle.argument.specs.Sheet.{Place, onward, struck, turn, answer, linesFrom, start, sheet}

@@ -191,19 +191,19 @@ impl<'a> Comparison<'a> {
         if rng.chance(12) {
             spoil::call(rng, &mut lent);
         }
-        let table = crate::bytes::entries(&lent.table);
         let abc = spoil::three_points(rng, run.board.n);
-        let mut room = vec![0; 2 * run.board.table.len()];
-        let pairs = self.one.list_pairs(lent.n, &table, &lent.marks, abc, &mut room) / 65_536;
+        let mut room = vec![0; 4 * run.board.table.len()];
+        let pairs = self.one.list_pairs(lent.n, &lent.table, &lent.marks, abc, &mut room) / 65_536;
         let size = spoil::list_size(rng, 2 * pairs as usize);
-        let mut list: Vec<u16> = (0..size).map(|_| rng.word() as u16).collect();
+        let bytes = 2 * size + usize::from(rng.chance(20));
+        let mut list: Vec<u8> = (0..bytes).map(|_| rng.word() as u8).collect();
         let (before, mut other_list) = (list.clone(), list.clone());
-        let answer = self.one.list_pairs(lent.n, &table, &lent.marks, abc, &mut list);
-        let other = self.other.list_pairs(lent.n, &table, &lent.marks, abc, &mut other_list);
+        let answer = self.one.list_pairs(lent.n, &lent.table, &lent.marks, abc, &mut list);
+        let other = self.other.list_pairs(lent.n, &lent.table, &lent.marks, abc, &mut other_list);
         self.count_listing(answer, size);
         self.same("list pairs", (answer, list), (other, other_list), || {
             let call = hex_call(lent.n, &lent.table, &lent.marks);
-            format!("{call}a, b, c {abc:?}\nlist {before:?}\n")
+            format!("{call}a, b, c {abc:?}\nlist {}\n", hex(&before))
         })
     }
 

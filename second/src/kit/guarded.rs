@@ -7,13 +7,16 @@ pub struct Guarded<C: Checker>(pub C);
 /// Places before and after a buffer.
 const GUARD: usize = 16;
 
-/// Lends a copy of the buffer between guards of `filler`, and copies it back.
-fn lend<T: Copy + PartialEq>(buffer: &mut [T], filler: T, call: impl FnOnce(&mut [T]) -> u64) -> u64 {
-    let mut room = vec![filler; buffer.len() + 2 * GUARD];
+/// What guards hold.
+const FILLER: u8 = 0x5a;
+
+/// Lends a copy of the buffer between guards, and copies it back.
+fn lend(buffer: &mut [u8], call: impl FnOnce(&mut [u8]) -> u64) -> u64 {
+    let mut room = vec![FILLER; buffer.len() + 2 * GUARD];
     let end = GUARD + buffer.len();
     room[GUARD..end].copy_from_slice(buffer);
     let answer = call(&mut room[GUARD..end]);
-    let kept = room[..GUARD].iter().chain(&room[end..]).all(|&place| place == filler);
+    let kept = room[..GUARD].iter().chain(&room[end..]).all(|&place| place == FILLER);
     assert!(kept, "a place outside of a lent buffer was written");
     buffer.copy_from_slice(&room[GUARD..end]);
     answer
@@ -24,24 +27,24 @@ impl<C: Checker> Checker for Guarded<C> {
         self.0.name()
     }
 
-    fn measure(&self, n: u32, rule: u32, coordinates: &[u32], table: &mut [u32]) -> u64 {
-        lend(table, 0x5a5a_5a5a, |table| self.0.measure(n, rule, coordinates, table))
+    fn measure(&self, n: u32, rule: u32, coordinates: &[u8], table: &mut [u8]) -> u64 {
+        lend(table, |table| self.0.measure(n, rule, coordinates, table))
     }
 
     fn fresh_marks(&self, n: u32, marks: &mut [u8]) -> u64 {
-        lend(marks, 0x5a, |marks| self.0.fresh_marks(n, marks))
+        lend(marks, |marks| self.0.fresh_marks(n, marks))
     }
 
     fn mark_sheet(&self, n: u32, table: &[u8], marks: &mut [u8], sheet: &[u8]) -> u64 {
-        lend(marks, 0x5a, |marks| self.0.mark_sheet(n, table, marks, sheet))
+        lend(marks, |marks| self.0.mark_sheet(n, table, marks, sheet))
     }
 
     fn check_tour(&self, n: u32, table: &[u8], marks: &[u8], tour: &[u8]) -> u64 {
         self.0.check_tour(n, table, marks, tour)
     }
 
-    fn list_pairs(&self, n: u32, table: &[u32], marks: &[u8], abc: [u16; 3], list: &mut [u16]) -> u64 {
-        lend(list, 0x5a5a, |list| self.0.list_pairs(n, table, marks, abc, list))
+    fn list_pairs(&self, n: u32, table: &[u8], marks: &[u8], abc: [u16; 3], list: &mut [u8]) -> u64 {
+        lend(list, |list| self.0.list_pairs(n, table, marks, abc, list))
     }
 
     fn program(&self, file: &[u8]) -> Vec<u8> {

@@ -1,4 +1,4 @@
-//! Revosti through its archives and its program `mark`.
+//! Revosti through its archive and its program `mark`.
 
 use std::io::Write;
 use std::path::PathBuf;
@@ -25,18 +25,25 @@ extern "C" {
         tour: *const u8,
         tour_len: usize,
     ) -> u64;
-    fn probe_measure(n: u32, rule: u32, coordinates: *const u32, len: usize, table: *mut u32, table_len: usize) -> u64;
-    fn probe_fresh_marks(n: u32, marks: *mut u8, len: usize) -> u64;
-    fn probe_list_pairs(
+    fn revosti_measure(
         n: u32,
-        table: *const u32,
+        rule: u32,
+        coordinates: *const u8,
+        coordinates_len: usize,
+        table: *mut u8,
+        table_len: usize,
+    ) -> u64;
+    fn revosti_fresh_marks(n: u32, marks: *mut u8, marks_len: usize) -> u64;
+    fn revosti_list_pairs(
+        n: u32,
+        table: *const u8,
         table_len: usize,
         marks: *const u8,
         marks_len: usize,
         a: u16,
         b: u16,
         c: u16,
-        list: *mut u16,
+        list: *mut u8,
         list_len: usize,
     ) -> u64;
 }
@@ -59,12 +66,12 @@ impl Checker for Revosti {
         "revosti"
     }
 
-    fn measure(&self, n: u32, rule: u32, coordinates: &[u32], table: &mut [u32]) -> u64 {
-        unsafe { probe_measure(n, rule, coordinates.as_ptr(), coordinates.len(), table.as_mut_ptr(), table.len()) }
+    fn measure(&self, n: u32, rule: u32, coordinates: &[u8], table: &mut [u8]) -> u64 {
+        unsafe { revosti_measure(n, rule, coordinates.as_ptr(), coordinates.len(), table.as_mut_ptr(), table.len()) }
     }
 
     fn fresh_marks(&self, n: u32, marks: &mut [u8]) -> u64 {
-        unsafe { probe_fresh_marks(n, marks.as_mut_ptr(), marks.len()) }
+        unsafe { revosti_fresh_marks(n, marks.as_mut_ptr(), marks.len()) }
     }
 
     fn mark_sheet(&self, n: u32, table: &[u8], marks: &mut [u8], sheet: &[u8]) -> u64 {
@@ -87,9 +94,9 @@ impl Checker for Revosti {
         }
     }
 
-    fn list_pairs(&self, n: u32, table: &[u32], marks: &[u8], [a, b, c]: [u16; 3], list: &mut [u16]) -> u64 {
+    fn list_pairs(&self, n: u32, table: &[u8], marks: &[u8], [a, b, c]: [u16; 3], list: &mut [u8]) -> u64 {
         unsafe {
-            probe_list_pairs(
+            revosti_list_pairs(
                 n,
                 table.as_ptr(),
                 table.len(),

@@ -53,10 +53,14 @@ fn resize(rng: &mut Rng, bytes: &mut Vec<u8>, steps: &[usize]) {
 
 /// An entry at or above its limit.
 fn entry(rng: &mut Rng, table: &mut [u8]) {
-    let value: u32 = rng.pick(&[2_000_000, 2_000_001, 2_000_001, 1 << 31, u32::MAX]);
-    if table.len() >= 4 {
-        let at = 4 * rng.below(table.len() / 4);
-        table[at..at + 4].copy_from_slice(&value.to_le_bytes());
+    some_entry(rng, table, &[2_000_000, 2_000_001, 2_000_001, 1 << 31, u32::MAX]);
+}
+
+/// One of the values at some whole entry.
+fn some_entry(rng: &mut Rng, bytes: &mut [u8], values: &[u32]) {
+    let value = rng.pick(values);
+    if bytes.len() >= 4 {
+        put(bytes, 4 * rng.below(bytes.len() / 4), value);
     }
 }
 
@@ -94,8 +98,8 @@ pub fn mark_size(rng: &mut Rng, n: u32) -> usize {
 pub struct Measuring {
     pub n: u32,
     pub rule: u32,
-    pub coordinates: Vec<u32>,
-    pub table: Vec<u32>,
+    pub coordinates: Vec<u8>,
+    pub table: Vec<u8>,
 }
 
 impl Measuring {
@@ -106,7 +110,9 @@ impl Measuring {
             Some(measured) => (measured.rule, measured.coordinates.clone()),
             None => (2, (0..2 * n).map(|_| rng.between(0, 1_000_000) as u32).collect()),
         };
-        let table = board.table.iter().map(|_| rng.word() as u32).collect();
+        let coordinates: Vec<u32> = coordinates;
+        let coordinates = coordinates.iter().flat_map(|c| c.to_le_bytes()).collect();
+        let table = (0..4 * board.table.len()).map(|_| rng.word() as u8).collect();
         Measuring { n: n as u32, rule, coordinates, table }
     }
 }
@@ -116,21 +122,12 @@ pub fn measuring(rng: &mut Rng, call: &mut Measuring) {
     for _ in 0..rng.between(1, 3) {
         match rng.below(5) {
             0 => call.n = wrong_count(rng, call.n),
-            1 => change_size(rng, &mut call.coordinates),
-            2 => change_size(rng, &mut call.table),
+            1 => resize(rng, &mut call.coordinates, &[1, 2, 4, 8]),
+            2 => resize(rng, &mut call.table, &[1, 2, 4, 8]),
             3 => call.rule = rng.pick(&[0, 1, 2, 3, 257, 65_537, u32::MAX]),
-            _ if call.coordinates.is_empty() => {}
-            _ => {
-                let at = rng.below(call.coordinates.len());
-                call.coordinates[at] = rng.pick(&[1_000_000, 1_000_001, 1_000_001, u32::MAX]);
-            }
+            _ => some_entry(rng, &mut call.coordinates, &[1_000_000, 1_000_001, 1_000_001, u32::MAX]),
         }
     }
-}
-
-fn change_size(rng: &mut Rng, numbers: &mut Vec<u32>) {
-    let size = rng.pick(&[0, 1, numbers.len() - numbers.len().min(1), numbers.len() + 1, numbers.len() + 2]);
-    numbers.resize(size, 5);
 }
 
 /// a, b and c for a listing, mostly points and a ≠ b.

@@ -27,24 +27,24 @@ pub enum Call {
     /// All splits at some points for one edge.
     List {
         n: u32,
-        table: Vec<u32>,
+        table: Vec<u8>,
         marks: Vec<u8>,
         splits: Vec<[u16; 3]>,
-        list: Vec<u16>,
+        list: Vec<u8>,
     },
     Measure {
         n: u32,
         rule: u32,
-        coordinates: Vec<u32>,
-        table: Vec<u32>,
+        coordinates: Vec<u8>,
+        table: Vec<u8>,
     },
 }
 
 /// The buffers that calls change, as they stand before each run.
 pub struct Buffers {
     marks: Vec<u8>,
-    list: Vec<u16>,
-    table: Vec<u32>,
+    list: Vec<u8>,
+    table: Vec<u8>,
 }
 
 impl Call {
@@ -102,6 +102,11 @@ pub fn named(name: &str) -> Option<Workload> {
     }
 }
 
+/// The bytes of 32-bit numbers.
+fn entries(numbers: &[u32]) -> Vec<u8> {
+    numbers.iter().flat_map(|number| number.to_le_bytes()).collect()
+}
+
 /// So many records of a sheet on a board, from fresh marks.
 fn sheet(name: String, note: String, board: &Board, records: &[Record]) -> Workload {
     Workload {
@@ -109,7 +114,7 @@ fn sheet(name: String, note: String, board: &Board, records: &[Record]) -> Workl
         note,
         call: Call::Mark {
             n: u32::from(board.n),
-            table: board.table.iter().flat_map(|l| l.to_le_bytes()).collect(),
+            table: entries(&board.table),
             marks: vec![1; board.table.len()],
             sheet: sheet_bytes(records),
         },
@@ -177,8 +182,8 @@ fn listing(n: usize) -> Workload {
         call: Call::List {
             n: n as u32,
             marks: vec![1; board.table.len()],
-            list: vec![0; 2 * board.table.len()],
-            table: board.table,
+            list: vec![0; 4 * board.table.len()],
+            table: entries(&board.table),
             splits,
         },
     }
@@ -197,6 +202,6 @@ fn measuring() -> Workload {
     Workload {
         name: "measure 180".to_string(),
         note: "rule 1, coordinates to 1,000,000".to_string(),
-        call: Call::Measure { n: 180, rule: 1, coordinates: measured.coordinates, table: vec![0; board.table.len()] },
+        call: Call::Measure { n: 180, rule: 1, coordinates: entries(&measured.coordinates), table: vec![0; 4 * board.table.len()] },
     }
 }

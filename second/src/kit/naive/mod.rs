@@ -80,12 +80,13 @@ impl Checker for Naive {
         "naive"
     }
 
-    fn measure(&self, n: u32, rule: u32, coordinates: &[u32], table: &mut [u32]) -> u64 {
+    fn measure(&self, n: u32, rule: u32, coordinates: &[u8], table: &mut [u8]) -> u64 {
+        let (places, (coordinates, whole)) = (table, table_of(coordinates));
         if n < 4 || n > 180 {
             return 1;
         }
         let edges = all_edges(n as usize);
-        if coordinates.len() as u64 != 2 * u64::from(n) || table.len() != edges.len() {
+        if !whole || coordinates.len() as u64 != 2 * u64::from(n) || places.len() != 4 * edges.len() {
             return 2;
         }
         if rule == 0 || rule > 2 {
@@ -97,7 +98,10 @@ impl Checker for Naive {
         for (place, (a, b)) in edges.into_iter().enumerate() {
             let dx = i64::from(coordinates[2 * a - 2]) - i64::from(coordinates[2 * b - 2]);
             let dy = i64::from(coordinates[2 * a - 1]) - i64::from(coordinates[2 * b - 1]);
-            table[place] = distance(rule, (dx * dx + dy * dy) as u64) as u32;
+            let length = distance(rule, (dx * dx + dy * dy) as u64);
+            for byte in 0..4 {
+                places[4 * place + byte] = (length >> (8 * byte)) as u8;
+            }
         }
         0
     }
@@ -161,8 +165,9 @@ impl Checker for Naive {
         length as u64 * 65_536 + if open { 256 } else { 0 }
     }
 
-    fn list_pairs(&self, n: u32, table: &[u32], marks: &[u8], abc: [u16; 3], list: &mut [u16]) -> u64 {
-        let refusal = first_refusal(self.slip, n, table, true, marks);
+    fn list_pairs(&self, n: u32, table: &[u8], marks: &[u8], abc: [u16; 3], list: &mut [u8]) -> u64 {
+        let (table, whole) = table_of(table);
+        let refusal = first_refusal(self.slip, n, &table, whole, marks);
         if refusal != 0 {
             return refusal;
         }
@@ -170,16 +175,18 @@ impl Checker for Naive {
             return 11;
         }
         let [a, b, c] = abc.map(usize::from);
-        let board = Board::new(n as usize, table, self.slip);
+        let board = Board::new(n as usize, &table, self.slip);
         if marks[board.place(a, b)] == 0 {
             return 12;
         }
         let pairs = board.standing(marks, &[(a, b)], c);
-        let fits = list.len() >= 2 * pairs.len();
+        let fits = list.len() >= 4 * pairs.len();
         if fits || self.slip == Some(Slip::ListWrittenOnRefusal) {
-            for (i, &(x, y)) in pairs.iter().take(list.len() / 2).enumerate() {
-                list[2 * i] = x as u16;
-                list[2 * i + 1] = y as u16;
+            for (i, &(x, y)) in pairs.iter().take(list.len() / 4).enumerate() {
+                for (j, point) in [x, y].into_iter().enumerate() {
+                    list[4 * i + 2 * j] = (point % 256) as u8;
+                    list[4 * i + 2 * j + 1] = (point / 256) as u8;
+                }
             }
         }
         if fits {
@@ -202,14 +209,12 @@ impl Checker for Naive {
         if file.len() < sheet_start || file.len() as u64 > limit(65_448, self.slip, Slip::FileLimit) {
             return refused(7);
         }
-        let coordinates: Vec<u32> = numbers(&file[8..sheet_start], 4).iter().map(|&c| c as u32).collect();
         let edges = all_edges(n as usize);
-        let mut table = vec![0; edges.len()];
-        let refusal = self.measure(n, rule, &coordinates, &mut table);
+        let mut table = vec![0; 4 * edges.len()];
+        let refusal = self.measure(n, rule, &file[8..sheet_start], &mut table);
         if refusal != 0 {
             return refused(refusal);
         }
-        let table: Vec<u8> = table.iter().flat_map(|l| l.to_le_bytes()).collect();
         let mut marks = vec![1; edges.len()];
         let answer = self.mark_sheet(n, &table, &mut marks, &file[sheet_start..]);
         let mut text = format!("points {} edges {}\n", n, edges.len());

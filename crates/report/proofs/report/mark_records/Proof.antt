@@ -1,7 +1,7 @@
 -- `report::report::mark_records` meets its contract: fresh marks, the decoded records, and their marking. Assumes nothing.
 use mathlib.Core.Path.{_∙_}
 use denote.Ref.{now}
-use Rattle.marking.proofs.CApiSizes.{handed-length}
+use Rattle.endian.proofs.Decoding.{handed-length}
 use Rattle.report.proofs.Sheets.{fresh-left, marked-wrote}
 use Rattle.report.proofs.Reports.{lines-asked}
 use borrow.Author.Needs.{needs}

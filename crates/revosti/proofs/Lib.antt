@@ -1,0 +1,6 @@
+pub mod FreshAnswers
+pub mod ListAnswers
+pub mod MarkAnswers
+pub mod MeasureAnswers
+pub mod Tables
+pub mod TourAnswers

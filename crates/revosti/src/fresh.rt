@@ -1,0 +1,15 @@
+// "Fresh marks" for C: the marks cross as bytes, the answer as one number.
+use marks::fresh::Fresh;
+use marks::fresh::fresh_marks;
+ghost use Rattle.revosti.specs.Fresh.{FreshInC};
+
+// Makes the marks of n points fresh: the refusal number, or 0.
+#[no_mangle]
+pub extern "C" fn revosti_fresh_marks(n: u32, marks: &mut [u8]) -> u64
+    ensures { λ r. ⌜ FreshInC n (now (marks .entry)) r (now (marks .exit)) ⌝ }
+{
+    match fresh_marks(n, marks) {
+        Fresh::Done => 0,
+        Fresh::Refused { refusal, record: _ } => refusal as u64,
+    }
+}

@@ -1,0 +1,257 @@
+"""Each operation over the library: its answers, its refusals, what it changes."""
+
+import contextlib
+import pickle
+import random
+import unittest
+from itertools import combinations
+
+from support import LINES, N, POINTS, ROOT, TABLE
+
+import revosti
+from sheetlib.answer import Answer
+from sheetlib.board import Board
+from sheetlib.explain import explain
+from sheetlib.parts import Parts, Record, split
+from sheetlib.read import pack
+
+
+class Operations(unittest.TestCase):
+    def refused(self, number, call, *arguments, record=0, lines=0):
+        """The call is refused so, and leaves what it gets as it was."""
+        before = pickle.dumps(arguments)
+        with self.assertRaises(revosti.Refusal) as caught:
+            call(*arguments)
+        found = caught.exception
+        self.assertEqual((found.number, found.record, found.lines), (number, record, lines))
+        if lines == 0:
+            self.assertEqual(pickle.loads(before), arguments)
+        return found
+
+
+class Measure(Operations):
+    def test_square(self):
+        flat = [number for point in POINTS for number in point]
+        for coordinates in (POINTS, flat, list(map(list, POINTS)), tuple(flat)):
+            self.assertEqual(revosti.measure(N, 1, coordinates), TABLE)
+
+    def test_rules(self):
+        points = [(0, 0), (1, 1), (1, 2), (2, 2)]
+        self.assertEqual(revosti.measure(N, 1, points), [1, 2, 3, 1, 1, 1])
+        self.assertEqual(revosti.measure(N, 2, points), [2, 3, 3, 1, 2, 1])
+
+    def test_largest(self):
+        corners = [(0, 0), (10**6, 10**6)] * 90
+        table = revosti.measure(180, 1, corners)
+        self.assertEqual((len(table), set(table)), (16110, {0, 1414214}))
+
+    def test_refusals(self):
+        far = [*POINTS[:3], (0, 10**6 + 1)]
+        for number, arguments in ((1, (3, 1, POINTS[:3])), (1, (181, 9, [])), (1, (2**32 - 1, 1, POINTS)), (1, (0, 1, [])),
+                                  (2, (N, 9, POINTS[:3])), (2, (N, 1, [0] * 7)), (2, (N, 1, [0] * 9)), (2, (5, 1, POINTS)),
+                                  (3, (N, 0, far)), (3, (N, 2**32 - 1, POINTS)), (4, (N, 1, far)), (4, (N, 1, [2**32 - 1] * 8))):
+            with self.subTest(arguments):
+                self.refused(number, revosti.measure, *arguments)
+
+
+class FreshMarks(Operations):
+    def test_all_are_open(self):
+        for n in (4, 5, 180):
+            marks = revosti.fresh_marks(n)
+            self.assertIsInstance(marks, bytearray)
+            self.assertEqual(marks, bytes([revosti.OPEN]) * (n * (n - 1) // 2))
+
+    def test_refusals(self):
+        for n in (0, 3, 181, 2**32 - 1):
+            self.refused(1, revosti.fresh_marks, n)
+
+
+class MarkSheet(Operations):
+    def setUp(self):
+        self.marks = revosti.fresh_marks(N)
+
+    def test_marks_are_changed_in_place(self):
+        self.assertEqual(revosti.mark_sheet(N, TABLE, self.marks, LINES), 2)
+        self.assertEqual(list(self.marks), [1, 0, 1, 1, 0, 1])
+
+    def test_marks_are_lent_for_the_call_only(self):
+        for sheet in (LINES, LINES[1:]):
+            with contextlib.suppress(revosti.Refusal):
+                revosti.mark_sheet(N, TABLE, self.marks, sheet)
+            self.marks.append(1)
+            del self.marks[-1]
+
+    def test_records_of_any_kind_of_list(self):
+        self.assertEqual(revosti.mark_sheet(N, tuple(TABLE), self.marks, [Record(*LINES[0]), tuple(LINES[1])]), 2)
+
+    def test_refused_at_once(self):
+        struck = bytearray([1, 0, 1, 1, 0, 1])
+        for number, arguments in ((1, (3, [], struck, [])), (2, (N, TABLE[1:], bytearray(5), [])), (2, (5, TABLE, struck, LINES)),
+                                  (5, (N, [2_000_001] * 6, bytearray(5), [])), (6, (N, TABLE, bytearray(), [])),
+                                  (6, (N, TABLE, bytearray([1, 1, 1, 1, 1, 2]), [])), (7, (N, TABLE, struck, [])),
+                                  (7, (N, TABLE, struck, LINES * 2001))):
+            with self.subTest(number):
+                self.refused(number, revosti.mark_sheet, *arguments)
+
+    def test_refused_at_a_record(self):
+        first = LINES[0]
+        for number, record, sheet in (
+                (8, 1, [[1, 1, 3, 0, 0, 2, 2, 0]]), (9, 1, [[1, 1, 3, 0, 0, 2, 1, 0]]), (10, 1, [[2, 1, 3, 0, 0, 2, 0, 0]]),
+                (10, 1, [[1, 1, 3, 0, 65535, 2, 0, 0]]), (11, 1, [[1, 1, 5, 0, 0, 2, 0, 0]]), (11, 1, [[1, 3, 3, 0, 0, 2, 0, 0]]),
+                (14, 1, [[1, 1, 2, 0, 0, 3, 0, 0]]), (14, 2, [[1, 1, 2, 0, 0, 3, 2, 0], [2, 4, 1, 0, 0, 1, 0, 0]]),
+                (15, 4, [[1, 1, 2, 0, 0, 3, 4, 0], first, first, [3, 1, 4, 1, 2, 3, 3, 0]])):
+            with self.subTest(sheet):
+                self.refused(number, revosti.mark_sheet, N, TABLE, self.marks, sheet, record=record)
+
+    def test_a_refused_sheet_keeps_its_lines(self):
+        self.refused(9, revosti.mark_sheet, N, TABLE, self.marks, [[1, 1, 3, 0, 0, 2, 0, 1]], record=1, lines=1)
+        self.assertEqual(list(self.marks), [1, 0, 1, 1, 1, 1])
+        self.refused(12, revosti.mark_sheet, N, TABLE, self.marks, LINES, record=1)
+        again = [LINES[1][:7] + [2], LINES[1]]
+        self.refused(12, revosti.mark_sheet, N, TABLE, self.marks, again, record=2, lines=1)
+        self.assertEqual(list(self.marks), [1, 0, 1, 1, 0, 1])
+
+    def test_nine_points(self):
+        parts = pack((ROOT / "tests/sheet/nine.txt").read_text()).parts
+        table, marks = revosti.measure(parts.n, parts.rule, parts.points), revosti.fresh_marks(parts.n)
+        self.assertEqual(revosti.mark_sheet(parts.n, table, marks, parts.records), 27)
+        self.assertEqual(marks.count(revosti.STRUCK), 27)
+
+    def test_180_points(self):
+        parts = split((ROOT / "docs/board-180.sheet").read_bytes())
+        tour = list(map(int, (ROOT / "docs/board-180.tour").read_text().split(",")))
+        table, marks = revosti.measure(parts.n, parts.rule, parts.points), revosti.fresh_marks(parts.n)
+        lines = revosti.mark_sheet(parts.n, table, marks, parts.records)
+        self.assertEqual((lines, marks.count(revosti.STRUCK)), (1223, 1223))
+        length = sum(table[revosti.place(parts.n, a, b)] for a, b in zip(tour, tour[1:] + tour[:1]))
+        self.assertEqual(revosti.check_tour(parts.n, table, marks, tour), (length, True))
+
+
+class ListPairs(Operations):
+    def setUp(self):
+        self.marks = revosti.fresh_marks(N)
+
+    def test_square(self):
+        self.assertEqual(revosti.list_pairs(N, TABLE, self.marks, 1, 2, 3), [(1, 4), (2, 4)])
+        self.assertEqual(revosti.list_pairs(N, TABLE, self.marks, 1, 3, 2), [])
+        self.assertEqual(self.marks, revosti.fresh_marks(N))
+
+    def test_marks_may_be_bytes(self):
+        self.assertEqual(revosti.list_pairs(N, TABLE, bytes([1, 0, 1, 1, 1, 1]), 2, 1, 3), [(2, 4)])
+
+    def test_against_a_plain_reading(self):
+        r, n = random.Random(3), 7
+        for _ in range(20):
+            points = [(r.randrange(30), r.randrange(30)) for _ in range(n)]
+            edges = list(combinations(range(1, n + 1), 2))
+            struck = r.sample(edges, r.randrange(8))
+            board, table = Board(1, points, struck), revosti.measure(n, 1, points)
+            marks = bytearray(edge not in struck for edge in edges)
+            for (a, b), c in ((e, c) for e in edges if e not in struck for c in range(1, n + 1)):
+                self.assertEqual(revosti.list_pairs(n, table, marks, a, b, c), board.standing({(a, b)}, c), (points, struck, a, b, c))
+
+    def test_room_for_every_pair(self):
+        points = [(0, 0)] * 180
+        table, marks = revosti.measure(180, 1, points), revosti.fresh_marks(180)
+        pairs = revosti.list_pairs(180, table, marks, 1, 2, 3)
+        others = [p for p in range(1, 181) if p != 3]
+        self.assertEqual(pairs, [pair for pair in combinations(others, 2) if pair != (1, 2)])
+
+    def test_refusals(self):
+        struck, points = bytearray([1, 0, 1, 1, 1, 1]), (1, 2, 3)
+        for number, arguments in ((1, (181, [], struck, 0, 0, 0)), (2, (N, TABLE * 2, bytearray(), *points)),
+                                  (5, (N, [2_000_001] * 6, bytearray(), *points)), (6, (N, TABLE, bytearray(), 0, 0, 0)),
+                                  (6, (N, TABLE, bytearray([255] * 6), *points)), (11, (N, TABLE, struck, 0, 3, 2)),
+                                  (11, (N, TABLE, struck, 2, 2, 3)), (11, (N, TABLE, struck, 1, 3, 65535)),
+                                  (12, (N, TABLE, struck, 3, 1, 2))):
+            with self.subTest(arguments):
+                self.refused(number, revosti.list_pairs, *arguments)
+
+
+class CheckTour(Operations):
+    def test_length_and_open(self):
+        marks = bytearray([1, 0, 1, 1, 0, 1])
+        self.assertEqual(revosti.check_tour(N, TABLE, marks, [1, 2, 3, 4]), revosti.Tour(length=40, open=True))
+        self.assertEqual(revosti.check_tour(N, TABLE, bytes(marks), (1, 3, 2, 4)), revosti.Tour(length=48, open=False))
+        self.assertIs(revosti.check_tour(N, TABLE, marks, [4, 3, 2, 1]).open, True)
+
+    def test_longest(self):
+        tour = revosti.check_tour(180, [2_000_000] * 16110, revosti.fresh_marks(180), range(1, 181))
+        self.assertEqual(tour, (360_000_000, True))
+
+    def test_refusals(self):
+        marks = bytearray(6)
+        for number, arguments in ((1, (3, [], marks, [])), (2, (N, [], b"", [])), (5, (N, [0] * 5 + [2_000_001], b"", [])),
+                                  (6, (N, TABLE, b"123456", [])), (6, (N, TABLE, bytes(7), [])), (17, (N, TABLE, marks, [])),
+                                  (17, (N, TABLE, marks, [1, 2, 3, 3])), (17, (N, TABLE, marks, [0, 1, 2, 3])),
+                                  (17, (N, TABLE, marks, [1, 2, 3, 4, 1]))):
+            with self.subTest(arguments):
+                self.refused(number, revosti.check_tour, *arguments)
+
+
+class Refusals(Operations):
+    def test_words(self):
+        for number, words, call in (
+                (1, "n is outside 4 to 180.", lambda: revosti.fresh_marks(3)),
+                (3, "The rule is neither 1 nor 2.", lambda: revosti.measure(N, 9, POINTS)),
+                (12, "The edge is struck already.", lambda: revosti.list_pairs(N, TABLE, bytes(6), 1, 2, 3))):
+            found = self.refused(number, call)
+            self.assertEqual((found.words, str(found)), (words, f"Refused, number {number}: {words}"))
+
+    def test_record_and_the_words_of_explain(self):
+        sheet = [[1, 1, 2, 0, 0, 3, 0, 0]]
+        found = self.refused(14, revosti.mark_sheet, N, TABLE, revosti.fresh_marks(N), sheet, record=1)
+        self.assertEqual(str(found), f"Refused, number 14, record 1: {found.words}")
+        parts = Parts(1, N, POINTS, [Record(*sheet[0])], b"")
+        self.assertIn(f"Refused, number 14: {found.words}\n", explain(parts, Answer(N, 6, [], 14, 1, 6)))
+
+    def test_goes_through_pickle(self):
+        found = pickle.loads(pickle.dumps(revosti.Refusal(16, 7, 3)))
+        self.assertEqual((found.number, found.record, found.lines, found.words), (16, 7, 3, revosti.meaning(16)))
+
+
+def cut_to(argument, bits):
+    """Arguments that so many bits would cut to this one, in its first number. Bytes are none."""
+    if isinstance(argument, int):
+        return [argument + 2**bits, argument - 2**bits]
+    return [[first, *argument[1:]] for first in cut_to(argument[0], bits)] if bits > 8 else []
+
+
+class Numbers(unittest.TestCase):
+    """What fits no format reaches no function."""
+
+    def test_numbers_that_do_not_fit(self):
+        marks = revosti.fresh_marks(N)
+        for call, *arguments in ((revosti.measure, (N, 32), (1, 32), (POINTS, 32)),
+                                 (revosti.fresh_marks, (N, 32)),
+                                 (revosti.mark_sheet, (N, 32), (TABLE, 32), (marks, 8), (LINES, 16)),
+                                 (revosti.list_pairs, (N, 32), (TABLE, 32), (marks, 8), (1, 16), (2, 16), (3, 16)),
+                                 (revosti.check_tour, (N, 32), (TABLE, 32), (marks, 8), ([1, 2, 3, 4], 16))):
+            plain = [argument for argument, _ in arguments]
+            for at, (argument, bits) in enumerate(arguments):
+                for wrong in cut_to(argument, bits):
+                    with self.subTest((call, at, wrong)), self.assertRaises(OverflowError):
+                        call(*plain[:at], wrong, *plain[at + 1:])
+        self.assertEqual(marks, revosti.fresh_marks(N))
+
+    def test_records_of_eight(self):
+        with self.assertRaisesRegex(ValueError, "record 2 has 7 numbers, not 8"):
+            revosti.mark_sheet(N, TABLE, revosti.fresh_marks(N), [LINES[0], LINES[1][:7]])
+
+    def test_other_things(self):
+        for call, arguments in ((revosti.mark_sheet, (N, TABLE, bytes(6), LINES)), (revosti.mark_sheet, (N, TABLE, [1] * 6, LINES)),
+                                (revosti.check_tour, (N, TABLE, 6, [1, 2, 3, 4])), (revosti.measure, (N, 1, [0.5] * 8))):
+            with self.subTest(arguments), self.assertRaises(TypeError):
+                call(*arguments)
+
+
+class Place(unittest.TestCase):
+    def test_edges_in_order(self):
+        for n in (4, 5, 180):
+            edges = list(combinations(range(1, n + 1), 2))
+            self.assertEqual([revosti.place(n, a, b) for a, b in edges], list(range(len(edges))))
+            self.assertEqual([revosti.place(n, b, a) for a, b in edges], list(range(len(edges))))
+
+
+if __name__ == "__main__":
+    unittest.main()

@@ -1,0 +1,111 @@
+"""The five operations (01, Each operation and its refusals): Python's numbers to bytes, a call, and back."""
+
+import ctypes
+from array import array
+from collections.abc import Iterable
+from typing import NamedTuple
+
+from .library import library
+from .refusal import Refusal
+
+LEAST_POINTS, MOST_POINTS = 4, 180
+STRUCK, OPEN = 0, 1
+RECORD = 8  # numbers
+
+WORD, HALF = "I", "H"  # 32 and 16 bits without sign, little-endian on x86-64
+
+
+class Tour(NamedTuple):
+    """What the check of a tour answers: its length, and whether all its edges are open."""
+
+    length: int
+    open: bool
+
+
+def measure(n, rule, coordinates):
+    """The table of a board by rule 1 (EUC_2D) or 2 (CEIL_2D). Coordinates are pairs, or 2n numbers."""
+    table = array(WORD, [0]) * edges(n)
+    refuse(library().revosti_measure(fit(WORD, n), fit(WORD, rule), *lend(array(WORD, flat(coordinates))), *lend(table)))
+    return table.tolist()
+
+
+def fresh_marks(n):
+    """New marks, all open."""
+    marks = bytearray(edges(n))
+    refuse(library().revosti_fresh_marks(fit(WORD, n), *lend(marks)))
+    return marks
+
+
+def mark_sheet(n, table, marks, sheet):
+    """The number of lines accepted, where all are. It strikes their edges in `marks`, the bytearray handed in."""
+    answer = library().revosti_mark_sheet(fit(WORD, n), *lend(array(WORD, table)), *lend(marks), *lend(records(sheet)))
+    lines = answer >> 24
+    refuse(answer, record=answer >> 8 & 0xffff, lines=lines)
+    return lines
+
+
+def list_pairs(n, table, marks, a, b, c):
+    """The pairs (x, y) that stand at the split point c under the edge ab, rising."""
+    found = array(HALF, [0]) * (2 * len(marks))  # a pair is an edge, too
+    answer = library().revosti_list_pairs(fit(WORD, n), *lend(array(WORD, table)), *lend(copy(marks)), fit(HALF, a), fit(HALF, b),
+                                          fit(HALF, c), *lend(found))
+    refuse(answer)
+    numbers = found[:2 * (answer >> 16)].tolist()
+    return list(zip(numbers[::2], numbers[1::2]))
+
+
+def check_tour(n, table, marks, tour):
+    """The length of a tour, and whether all its edges are open."""
+    answer = library().revosti_check_tour(fit(WORD, n), *lend(array(WORD, table)), *lend(copy(marks)), *lend(array(HALF, tour)))
+    refuse(answer)
+    return Tour(answer >> 16, bool(answer >> 8 & 1))
+
+
+def place(n, a, b):
+    """The place of the edge ab, in either order, in a table and in marks (01, Points, lengths, marks)."""
+    a, b = min(a, b), max(a, b)
+    return (a - 1) * (2 * n - a) // 2 + b - a - 1
+
+
+def edges(n):
+    """How many edges a board has. An n that is refused has none: nothing is made for it."""
+    return n * (n - 1) // 2 if LEAST_POINTS <= n <= MOST_POINTS else 0
+
+
+def refuse(answer, record=0, lines=0):
+    """Raises the refusal that an answer has in its lowest byte."""
+    if answer & 0xff:
+        raise Refusal(answer & 0xff, record, lines)
+
+
+def fit(form, number):
+    """The number, where it fits its format. ctypes would cut it."""
+    return array(form, [number])[0]
+
+
+def flat(items):
+    """Numbers, alone or in pairs, one after the other."""
+    for item in items:
+        if isinstance(item, Iterable):
+            yield from item
+        else:
+            yield item
+
+
+def records(sheet):
+    """The numbers of a sheet, one after the other."""
+    for number, record in enumerate(sheet, 1):
+        if len(record) != RECORD:
+            raise ValueError(f"record {number} has {len(record)} numbers, not {RECORD}")
+    return array(HALF, flat(sheet))
+
+
+def copy(marks):
+    """Marks that are only read may be any bytes."""
+    return bytearray(memoryview(marks))
+
+
+def lend(buffer):
+    """A buffer as C takes it, a pointer and a length in bytes. What the call writes is written there."""
+    size = memoryview(buffer).nbytes
+    return (ctypes.c_uint8 * size).from_buffer(buffer), size
