@@ -16,7 +16,7 @@ use Rattle.lists.specs.Test.{unless}
 use Rattle.lengths.proofs.Edges.{edgeCount-tri, tri-suc, tri-mono, place-below, three-way}
 use Rattle.marks.specs.Mark.{openIn}
 use Rattle.tours.specs.Tour.{Uses, Shortest, ThreeOptimal}
-use Rattle.tours.proofs.Optimal.{shortest-optimal}
+use Rattle.tours.proofs.ThreeOptimal.{shortest-optimal}
 use Rattle.argument.specs.Sheet.{sheet, run}
 use Rattle.argument.proofs.Safe.{sheet-safe, run-keeps}
 use Rattle.sheets.specs.Rules.{markingOf}

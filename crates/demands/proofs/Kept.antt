@@ -18,11 +18,11 @@ use Rattle.rules.specs.Pair.{FeasiblePair}
 use Rattle.tours.specs.Tour.{Uses, ThreeOptimal, Symmetric}
 use Rattle.tours.proofs.Edges.{inside-cons, has-sym}
 use Rattle.tours.proofs.Neighbours.{tour-no-loop, uses-point}
-use Rattle.tours.proofs.Optimal.{OwnPair, optimal-feasible, optimal-not-closed}
 use Rattle.argument.specs.Safety.{Upheld, Guarded}
 use Rattle.sheets.specs.Rules.{rulesOf, markingOf}
 use Rattle.marks.specs.Mark.{strikeIn}
 use Rattle.demands.proofs.Lawful.{lawful}
+use Rattle.demands.proofs.Optimal.{OwnPair, optimal-feasible, optimal-not-closed}
 use Rattle.demands.proofs.Strikes.{length-struck, struck-other}
 
 -- the tour uses every edge of K

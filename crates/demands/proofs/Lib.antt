@@ -6,4 +6,5 @@ pub mod Kept
 pub mod Lawful
 pub mod Listed
 pub mod Measured
+pub mod Optimal
 pub mod Strikes

@@ -12,4 +12,4 @@ pub mod Exchange
 pub mod TwoOpt
 pub mod OrOpt
 pub mod ThreeOpt
-pub mod Optimal
+pub mod ThreeOptimal

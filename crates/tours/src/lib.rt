@@ -1,1 +1,1 @@
-// Tours and exchanges: definitions and theorems, no code. They stand above `rules` so that an edit of its code does not check them again.
+// Tours, the exchanges between them and 3-optimal tours: definitions and theorems, no code.

@@ -1,36 +1,26 @@
--- Shortest tours and, more generally, tours that no exchange of at most three edges shortens: they keep to the rules. Their edges are
--- compatible, their two edges at a point are a feasible pair, and no closing settles edges that they use. Assumes nothing.
+-- A 3-optimal tour keeps to the rules: its edges are compatible, its two edges at a point are a feasible pair, and no closing settles edges
+-- that it uses. Assumes nothing.
 use Prim.Native.Nat.{ℕ, _≤_, _<_}
 use mathlib.Core.Path.{_≡_, sym, ap, ap₂, subst}
 use mathlib.Core.Bool.{Bool, true}
 use mathlib.Core.Logic.{_⊎_, inl, inr, ⊎-elim}
 use mathlib.Core.List.{List, [], _∷_}
-use lib.ListN.{length}
 use native.Mathlib.Decide.{decLe}
 use native.Mathlib.Omega.{arith}
 use Rattle.lengths.specs.Edge.{Edge, edge, Point}
-use Rattle.sets.specs.EdgeSet.{Joins, Has, closedEdges}
+use Rattle.sets.specs.EdgeSet.{Joins, Has, closedEdges, withPair, Ends}
 use Rattle.rules.specs.Pair.{Compatible, MoveSaves, FeasiblePair}
-use Rattle.sets.specs.EdgeSet.{withPair}
-use Rattle.sets.specs.EdgeSet.{Ends}
 use Rattle.closings.specs.Closing.{Crossing, Closes}
-use Rattle.tours.specs.Tour.{total, Uses, Shortest, Symmetric, ThreeOptimal}
+use Rattle.tours.specs.Tour.{total, Uses, Symmetric, ThreeOptimal}
 use Rattle.tours.proofs.Count.{tour-once}
 use Rattle.tours.proofs.Edges.{Inside, inside-cons, joins?}
 use Rattle.tours.proofs.Neighbours.{only-two, at-most-two, Neighbours, neighbours}
 use Rattle.tours.proofs.ShortCycle.{no-short-cycle}
 use Rattle.tours.proofs.Exchange.{Exchanged}
 use Rattle.tours.proofs.TwoOpt.{two-opt}
 use Rattle.tours.proofs.OrOpt.{or-opt}
 use Rattle.tours.proofs.ThreeOpt.{three-opt}
-
--- No tour of n points at all is shorter than a shortest one, so in particular none is that an exchange makes.
-pub shortest-optimal : {n : ℕ} {l : ℕ → ℕ → ℕ} {t : List ℕ} → Shortest n l t → ThreeOptimal n l t
-shortest-optimal S = record { tour = S .tour; optimal = λ u outs ins T X h. S .least u T }
-
--- the edges that an exchange of at most three edges puts in are together no shorter than those that it takes out
-no-gain : {n : ℕ} {l : ℕ → ℕ → ℕ} {t : List ℕ} {outs ins : List Edge} → ThreeOptimal n l t → Symmetric l → length outs ≤ 3 → Exchanged n t outs ins → total l outs ≤ total l ins
-no-gain {l = l} {outs = outs} {ins = ins} O y h X = omega (arith, X .exchange .balance l y, O .optimal (X .tour) outs ins (X .is-tour) (X .exchange) h)
+use Rattle.tours.proofs.ThreeOptimal.{no-gain}
 
 -- If pq and xy are one edge, one of the two sums is that edge's length twice, which is l(pq) + l(xy). Otherwise one of the two exchanges of
 -- pq and xy makes a tour (`two-opt`), by px and qy or by py and qx. That tour is no shorter than t, so what was put in is no shorter
