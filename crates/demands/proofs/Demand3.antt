@@ -6,14 +6,13 @@ use mathlib.Core.Bool.{Bool, true, false}
 use mathlib.Core.Logic.{⊎-elim}
 use mathlib.Core.List.{List, [], _∷_, map}
 use native.Mathlib.Omega.{arith}
-use lib.ListN.{length, replicate, length-replicate, getD-replicate}
-use lib.Dec.{eqb}
+use lib.ListN.{length, replicate}
 use borrow.Author.Tests.{le-leb, eq-eqb}
-use Rattle.lengths.specs.Edge.{edgeCount, place}
+use Rattle.lengths.specs.Edge.{edgeCount}
 use Rattle.lengths.specs.Instance.{leastPoints, mostPoints, inRange}
 use Rattle.lengths.specs.Table.{lengthOf}
 use Rattle.lists.specs.Test.{unless}
-use Rattle.lengths.proofs.Edges.{edgeCount-tri, tri-suc, tri-mono, place-below, three-way}
+use Rattle.lengths.proofs.Edges.{edgeCount-tri, tri-suc, tri-mono, three-way}
 use Rattle.marks.specs.Mark.{openIn}
 use Rattle.tours.specs.Tour.{Uses, Shortest, ThreeOptimal}
 use Rattle.tours.proofs.ThreeOptimal.{shortest-optimal}
@@ -23,6 +22,7 @@ use Rattle.sheets.specs.Rules.{markingOf}
 use Rattle.sheets.specs.Sheets.{wholeSheet}
 use Rattle.endian.specs.Bytes.{whole16, whole32}
 use Rattle.marks.specs.Fresh.{freshAnswer, freshMarks, freshLeft}
+use Rattle.marks.proofs.FreshMarks.{fresh-size, fresh-open}
 use Rattle.marking.specs.Marking.{markSheet, markTested, turnedDown}
 use Rattle.marking.specs.Tests.{tested}
 use Rattle.marking.proofs.Tested.{passed}
@@ -70,12 +70,7 @@ module _ {n : ℕ} (table : List ℕ) {t : List ℕ} (some : leastPoints ≤ n) 
 
   -- fresh marks are all open
   pub fresh-kept : Kept n t (freshMarks n)
-  unfolding freshMarks openIn
-  fresh-kept =
-      record {
-        whole = length-replicate (edgeCount n) 1;
-        all-open = λ a b u. ap (λ (m : ℕ). eqb m 1) (getD-replicate (edgeCount n) (place n a b) 1 0 (place-below (used-edge table some best a b u)));
-      }
+  fresh-kept = record { whole = fresh-size n; all-open = λ a b u. fresh-open (used-edge table some best a b u) }
 
 -- what *fresh marks* leaves in a buffer of the right size
 pub fresh-left : (n : ℕ) (before : List ℕ) → leastPoints ≤ n → n ≤ mostPoints → length before ≡ edgeCount n → freshLeft (freshAnswer n (length before)) n before ≡ freshMarks n

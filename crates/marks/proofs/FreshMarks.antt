@@ -1,17 +1,16 @@
 -- Fresh marks: `freshAnswer` at each way out of `fresh_marks`, and what is left: a 1 for each edge, all open. Assumes nothing.
 use Prim.Native.Nat.{ℕ, _+_, _≤_, _<_}
 use mathlib.Core.Path.{_≡_, refl, sym, _∙_, ap}
-use mathlib.Core.Bool.{Bool, true, false}
+use mathlib.Core.Bool.{true}
 use mathlib.Core.List.{List, _++_, append-nil}
 use native.Mathlib.Omega.{arith}
 use lib.Dec.{eqb}
-use lib.ListN.{length, getD, drop, set, length-set, replicate, getD-replicate, length-replicate}
+use lib.ListN.{length, drop, set, length-set, replicate, getD-replicate, length-replicate}
 use lib.Seq.{drop-length}
 use borrow.Author.Fill.{fill-none, fill-more}
 use borrow.Author.Tests.{eq-eqb, ne-eqb}
 use Rattle.lengths.specs.Edge.{edgeCount, place, IsEdge}
-use Rattle.lengths.specs.Instance.{inRange, admission}
-use Rattle.lists.specs.Test.{unless}
+use Rattle.lengths.specs.Instance.{admission}
 use Rattle.lengths.specs.declared.instance.Admission.the-variants.{OutOfRange}
 use Rattle.lengths.specs.declared.instance.Instance.{Instance}
 use Rattle.lengths.proofs.Edges.{place-below}
@@ -64,30 +63,12 @@ module _ {n : ℕ} {marks : List ℕ} where
         let answer : freshAnswer n (length marks) ≡ Done = rw (freshAnswer, a .range, eq-eqb (length marks) (edgeCount n) size) in
         record { answered = sym answer; marks-left = rw (answer, freshMarks) (l ∙ ap (λ (k : ℕ). replicate k 1) size) }
 
--- where "fresh marks" is done, n is within the limits, and fresh marks are left
-fresh-passed : (a b : Bool) → Done ≡ unless a (Refused 1 0) (unless b (Refused 6 0) Done) → (a ≡ true) × (b ≡ true)
-fresh-passed true true h = (refl, refl)
-fresh-passed true false h = absurd (let z : _≡_ {A = ℕ} 0 1 = cc in omega arith)
-fresh-passed false b h = absurd (let z : _≡_ {A = ℕ} 0 1 = cc in omega arith)
-
-module _ {n : ℕ} {marks left : List ℕ} (f : FreshAs n marks Done left) where
-  pub fresh-range : inRange n ≡ true
-  unfolding freshAnswer
-  fresh-range = fresh-passed (inRange n) (eqb (length marks) (edgeCount n)) (f .answered) .0
-
-  pub fresh-left : left ≡ freshMarks n
-  fresh-left = f .marks-left ∙ rw (← f .answered)
-
 -- fresh marks are a 1 for each edge
 pub fresh-size : (n : ℕ) → length (freshMarks n) ≡ edgeCount n
 unfolding freshMarks
 fresh-size n = length-replicate (edgeCount n) 1
 
-pub fresh-mark : (n i : ℕ) → i < edgeCount n → getD (freshMarks n) i 0 ≡ 1
-unfolding freshMarks
-fresh-mark n i h = getD-replicate {A = ℕ} (edgeCount n) i 1 0 h
-
 -- and every edge is open
 pub fresh-open : {n a b : ℕ} → IsEdge n a b → openIn n (freshMarks n) a b ≡ true
-unfolding openIn
-fresh-open {n} {a} {b} e = rw (openIn, fresh-mark n (place n a b) (place-below e))
+unfolding openIn freshMarks
+fresh-open {n} {a} {b} e = ap (λ (m : ℕ). eqb m 1) (getD-replicate (edgeCount n) (place n a b) 1 0 (place-below e))
