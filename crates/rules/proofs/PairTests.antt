@@ -9,15 +9,13 @@ use native.Mathlib.Omega.{arith}
 use lib.Dec.{eqb, ltb}
 use borrow.Author.Tests.{ne-eqb, eqb-true, eqb-false, le-leb, leb-true, ltb-true, ltb-false}
 use Rattle.lengths.specs.Edge.{Edge, edge, IsEdgeUp}
-use Rattle.lists.proofs.Bools.{and-both}
-use Rattle.sets.specs.EdgeSet.{Has, AtMostTwo, NoShortCycle}
+use Rattle.lists.proofs.Bools.{and-both, and-true}
+use Rattle.sets.specs.EdgeSet.{Has, AtMostTwo, NoShortCycle, withPair}
 use Rattle.rules.specs.Pair.{Compatible, MoveSaves, FeasiblePair}
-use Rattle.sets.specs.EdgeSet.{withPair}
 use Rattle.rules.specs.PairTest.{every, compatible?, leg?, stays?, unmoved?, feasible?}
 use Rattle.rules.specs.Pairs.{feasiblePairs}
 use Rattle.sets.specs.Rising.{Among}
 use Rattle.sets.specs.Shape.{shape?}
-use Rattle.lists.proofs.Bools.{and-true}
 use Rattle.rules.proofs.PairLists.{in-feasiblePairs}
 
 -- a test that does not mind the order of an edge's points passes at every edge exactly when it passes at all that the list has

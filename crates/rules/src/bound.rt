@@ -1,6 +1,5 @@
 // How much a pair at a split point may cost (condition 5).
 use lengths::instance::Instance;
-ghost use Prim.Native.Nat.{_+_, _*_, _<_};
 ghost use mathlib.Core.Path.{_≡_};
 ghost use Rattle.rules.specs.Bound.{tightenedBy, Short};
 
