@@ -10,4 +10,3 @@ pub mod Sheet
 pub mod SheetExact
 pub mod Safe
 pub mod Numbers
-pub mod Tried
