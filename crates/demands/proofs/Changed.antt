@@ -13,12 +13,11 @@ use borrow.Author.Tests.{eqb-true}
 use Rattle.lengths.specs.Edge.{edge, IsEdge, edgeCount, place}
 use Rattle.lengths.proofs.Edges.{place-below}
 use Rattle.sets.specs.EdgeSet.{Joins, Has}
-use Rattle.marks.specs.Mark.{openIn}
+use Rattle.marks.specs.Mark.{openIn, strikeIn}
 use Rattle.tours.proofs.Edges.{joins?}
 use Rattle.argument.specs.Line.{Struck, strikes, CompleteAt, CompleteLine}
 use Rattle.argument.specs.Sheet.{Place, Result, struck, start, CompleteLines, Answers}
 use Rattle.sheets.specs.Rules.{rulesOf, markingOf}
-use Rattle.marks.specs.Mark.{strikeIn}
 use Rattle.demands.specs.Marked.{struckEdges, differences, Changes}
 use Rattle.demands.proofs.Strikes.{differences-none, differences-set, open-joined, length-struck, struck-same, struck-other}
 

@@ -11,16 +11,14 @@ use Rattle.lengths.specs.Edge.{Edge, edge, IsEdge, edgeCount}
 use Rattle.lengths.specs.Instance.{leastPoints}
 use Rattle.lengths.specs.Table.{lengthOf}
 use Rattle.lengths.proofs.Tables.{length-symmetric}
-use Rattle.sets.specs.EdgeSet.{Joins, Has, closedEdges}
-use Rattle.marks.specs.Mark.{openIn}
-use Rattle.sets.specs.EdgeSet.{withPair}
+use Rattle.sets.specs.EdgeSet.{Joins, Has, closedEdges, withPair}
+use Rattle.marks.specs.Mark.{openIn, strikeIn}
 use Rattle.rules.specs.Pair.{FeasiblePair}
 use Rattle.tours.specs.Tour.{Uses, ThreeOptimal, Symmetric}
 use Rattle.tours.proofs.Edges.{inside-cons, has-sym}
 use Rattle.tours.proofs.Neighbours.{tour-no-loop, uses-point}
 use Rattle.argument.specs.Safety.{Upheld, Guarded}
 use Rattle.sheets.specs.Rules.{rulesOf, markingOf}
-use Rattle.marks.specs.Mark.{strikeIn}
 use Rattle.demands.proofs.Lawful.{lawful}
 use Rattle.demands.proofs.Optimal.{OwnPair, optimal-feasible, optimal-not-closed}
 use Rattle.demands.proofs.Strikes.{length-struck, struck-other}

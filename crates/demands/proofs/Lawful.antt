@@ -9,9 +9,8 @@ use Rattle.lengths.specs.Edge.{Edge, edge, Point}
 use Rattle.lengths.specs.Table.{lengthOf}
 use Rattle.lengths.proofs.Tables.{length-symmetric}
 use Rattle.closings.specs.ClosingTest.{crossedBy, refusalOf}
-use Rattle.sets.specs.EdgeSet.{Has}
+use Rattle.sets.specs.EdgeSet.{Has, withPair}
 use Rattle.marks.specs.Mark.{openIn}
-use Rattle.sets.specs.EdgeSet.{withPair}
 use Rattle.rules.specs.Pairs.{feasiblePairs}
 use Rattle.sets.specs.Shape.{Shape}
 use Rattle.closings.specs.declared.closing.Crossed.{Crossed}

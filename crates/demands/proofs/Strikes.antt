@@ -12,8 +12,7 @@ use borrow.Author.Tests.{eq-eqb, ne-eqb}
 use Rattle.lengths.specs.Edge.{edge, IsEdge, edgeCount, place}
 use Rattle.lengths.proofs.Edges.{place-below, place-injective, place-symmetric}
 use Rattle.sets.specs.EdgeSet.{Joins}
-use Rattle.marks.specs.Mark.{openIn}
-use Rattle.marks.specs.Mark.{strikeIn}
+use Rattle.marks.specs.Mark.{openIn, strikeIn}
 use Rattle.demands.specs.Marked.{differences}
 
 -- nothing differs from itself
