@@ -13,14 +13,12 @@ use mathlib.Core.Logic.{inl, inr, ⊎-elim, by-cases, _↔_}
 use lib.ListN.{length}
 use borrow.Author.Tests.{not-true}
 use Rattle.lengths.specs.Edge.{Edge, edge}
-use Rattle.lists.proofs.Bools.{and-both}
-use Rattle.sets.specs.EdgeSet.{Has, AtMostTwo, Cycle, NoShortCycle, closedEdges}
+use Rattle.lists.proofs.Bools.{and-both, and-true}
+use Rattle.sets.specs.EdgeSet.{Has, AtMostTwo, Cycle, NoShortCycle, closedEdges, withPair}
 use Rattle.sets.specs.Near.{neighbours, beyond, within?}
-use Rattle.sets.specs.EdgeSet.{withPair}
 use Rattle.sets.specs.Shape.{Shape, Apart, reaches?, shuts?, shape?}
 use Rattle.sets.specs.declared.near.Next.{Next}
 use Rattle.sets.specs.declared.near.Next.the-variants.{Stop, On, Fork}
-use Rattle.lists.proofs.Bools.{and-true}
 use Rattle.sets.proofs.Laws.Cycle.{cycle-sides, closed-in}
 use Rattle.sets.proofs.Laws.Degree.{pair-has, pair-keeps, pair-x, pair-y, x-pair, old-edge, two-of-room, room-of-two}
 use Rattle.sets.proofs.Laws.Follow.{found, met}

@@ -2,12 +2,11 @@
 -- in K besides c. Assumes nothing.
 use Prim.Native.Nat.{ℕ}
 use native.Mathlib.Decide.{ℕ-discrete}
-use mathlib.Core.Path.{_≡_, refl, sym, ap, _∙_, subst}
+use mathlib.Core.Path.{_≡_, refl, sym, _∙_, subst}
 use mathlib.Core.List.{List}
 use mathlib.Core.Logic.{_⊎_, inl, inr, ⊎-elim, by-cases}
 use Rattle.lengths.specs.Edge.{Edge}
-use Rattle.sets.specs.EdgeSet.{Has, AtMostTwo}
-use Rattle.sets.specs.EdgeSet.{withPair}
+use Rattle.sets.specs.EdgeSet.{Has, AtMostTwo, withPair}
 use Rattle.sets.specs.Shape.{Apart}
 use Rattle.sets.proofs.Laws.Joined.{pigeon}
 use Rattle.sets.proofs.Laws.Near.{Forks}

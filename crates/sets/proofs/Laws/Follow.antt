@@ -12,9 +12,8 @@ use lib.Dec.{eqb}
 use lib.ListN.{length}
 use borrow.Author.Tests.{eqb-true, eqb-false}
 use Rattle.lengths.specs.Edge.{Edge}
-use Rattle.sets.specs.EdgeSet.{Has, AtMostTwo, NoShortCycle}
+use Rattle.sets.specs.EdgeSet.{Has, AtMostTwo, NoShortCycle, withPair}
 use Rattle.sets.specs.Near.{neighbours, beyond}
-use Rattle.sets.specs.EdgeSet.{withPair}
 use Rattle.sets.specs.Shape.{reaches?, goesOn}
 use Rattle.sets.specs.declared.near.Next.{Next}
 use Rattle.sets.specs.declared.near.Next.the-variants.{Stop, On, Fork}

@@ -8,10 +8,9 @@ use mathlib.Core.Logic.{_⊎_, inl, inr, ⊎-elim, _↔_}
 use lib.Dec.{eqb}
 use borrow.Author.Tests.{eqb-true, eq-eqb}
 use Rattle.lengths.specs.Edge.{Edge, edge}
-use Rattle.lists.proofs.Bools.{and-both}
+use Rattle.lists.proofs.Bools.{and-both, and-true, or-true, true-or}
 use Rattle.sets.specs.EdgeSet.{Joins, Has}
 use Rattle.sets.specs.Joined.{joins?, has?}
-use Rattle.lists.proofs.Bools.{and-true, or-true, true-or}
 
 -- an edge in the other direction
 joins-sym : (e : Edge) (a b : ℕ) → Joins e a b → Joins e b a

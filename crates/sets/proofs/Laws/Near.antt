@@ -10,16 +10,14 @@ use native.Mathlib.Decide.{ℕ-discrete}
 use lib.Dec.{eqb}
 use borrow.Author.Tests.{eqb-true, eqb-false, eq-eqb}
 use Rattle.lengths.specs.Edge.{Edge, edge}
-use Rattle.lists.proofs.Bools.{and-both}
-use Rattle.sets.specs.EdgeSet.{Joins, Has}
-use Rattle.sets.specs.EdgeSet.{Ends}
+use Rattle.lists.proofs.Bools.{and-both, and-true, or-true, true-or}
+use Rattle.sets.specs.EdgeSet.{Joins, Has, Ends}
 use Rattle.sets.specs.Near.{withPoint, seen, neighbours, either?, within?, beyond, bothOf, endsOf}
 use Rattle.sets.specs.declared.near.Near.{Near}
 use Rattle.sets.specs.declared.near.Near.the-variants.{None, One, Two, More}
 use Rattle.sets.specs.declared.near.Next.{Next}
 use Rattle.sets.specs.declared.near.Next.the-variants.{Stop, On, Fork}
 use Rattle.sets.specs.declared.near.Ends.the-variants.{Two as Both, Other}
-use Rattle.lists.proofs.Bools.{and-true, or-true, true-or}
 use Rattle.sets.proofs.Laws.Joined.{pigeon}
 
 -- v has three different neighbours

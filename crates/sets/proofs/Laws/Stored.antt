@@ -12,10 +12,9 @@ use lib.Dec.{lit≤}
 use lib.ListN.{length, getD, set, length-set, replicate, getD-replicate}
 use lib.Seq.{getD-set-same, getD-set-other}
 use Rattle.lengths.specs.Edge.{Edge, edge, Point}
-use Rattle.sets.specs.EdgeSet.{Has}
+use Rattle.sets.specs.EdgeSet.{Has, withPair}
 use Rattle.sets.specs.Joined.{joins?, has?}
 use Rattle.sets.specs.Near.{neighbours, seen}
-use Rattle.sets.specs.EdgeSet.{withPair}
 use Rattle.sets.specs.Stored.{edgesOf, edgeList, Stored, Held, Added, Single, mostKnown}
 use Rattle.sets.specs.declared.edge_set.EdgeSet.{EdgeSet}
 
