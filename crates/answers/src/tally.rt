@@ -1,7 +1,10 @@
 // The count of examples, and how their lines are printed and judged.
 use check::same;
+use endian::bytes::count16;
+use endian::bytes::count32;
+use endian::bytes::number16;
+use endian::bytes::number32;
 use std::num::wrapping_add_u64;
-ghost use Rattle.io.specs.Counts.{Counts};
 
 // How many examples were run, and how many answers were not what they should be.
 pub struct Tally {
@@ -61,59 +64,43 @@ pub fn figure(label: &[u8], x: u64) {
     io::print_decimal(1, x);
 }
 
-// How many of the marks are lent where x are asked for. The contract names the list, so there is one function for each kind of number.
-pub fn some_marks(x: usize, s: &[u8]) -> usize
-    ensures { λ r. ⌜ Counts r (now (s .entry)) ⌝ }
-{
-    if s.len() < x {
-        return s.len();
-    }
-    x
-}
-
-// How many of the 16-bit numbers are lent where x are asked for.
-pub fn some_numbers(x: usize, s: &[u16]) -> usize
-    ensures { λ r. ⌜ Counts r (now (s .entry)) ⌝ }
-{
-    if s.len() < x {
-        return s.len();
-    }
-    x
-}
-
-// How many of the lengths are lent where x are asked for.
-pub fn some_lengths(x: usize, s: &[u32]) -> usize
-    ensures { λ r. ⌜ Counts r (now (s .entry)) ⌝ }
-{
-    if s.len() < x {
-        return s.len();
-    }
-    x
-}
-
-fn number8(x: u8) {
+fn mark(x: u8) {
     io::print_decimal(1, x as u64);
 }
 
-fn number16(x: u16) {
-    text(b" ");
-    io::print_decimal(1, x as u64);
+fn number(x: u16) {
+    figure(b" ", x as u64);
+}
+
+fn length(x: u32) {
+    figure(b" ", x as u64);
 }
 
 // Writes marks, one figure each.
 pub fn marks(s: &[u8]) {
     let mut i = 0;
     while i < s.len() {
-        number8(s[i]);
+        mark(s[i]);
         i += 1;
     }
 }
 
-// Writes 16-bit numbers, each after a space.
-pub fn numbers(s: &[u16]) {
+// Writes the numbers of 16 bits that the bytes are, each after a space.
+pub fn numbers(s: &[u8]) {
+    let count = count16(s);
     let mut i = 0;
-    while i < s.len() {
-        number16(s[i]);
+    while i < count {
+        number(number16(s, i));
+        i += 1;
+    }
+}
+
+// The same for 32 bits.
+pub fn lengths(s: &[u8]) {
+    let count = count32(s);
+    let mut i = 0;
+    while i < count {
+        length(number32(s, i));
         i += 1;
     }
 }
@@ -135,7 +122,7 @@ pub fn hold(t: Tally, got: u64, found: [u8; 7], number: u64, left: [u8; 7]) -> T
 }
 
 // Writes what is lent to an operation.
-pub fn given_text(operation: &[u8], n: u32, entries: usize, first: u32, bytes: usize, mark_1: u8) {
+pub fn given_text(operation: &[u8], n: u32, entries: u32, first: u32, bytes: usize, mark_1: u8) {
     text(operation);
     figure(b" ", n as u64);
     figure(b" points, ", entries as u64);

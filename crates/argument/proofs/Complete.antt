@@ -12,14 +12,14 @@ use Rattle.sets.proofs.Rising.{rising-unique}
 use Rattle.argument.specs.Verdict.{accepted}
 use Rattle.argument.specs.Record.{How}
 use Rattle.argument.specs.Rules.{Rules, NamesFeasible, Reached, Lawful}
-use Rattle.argument.specs.Argument.{Cases, none, pair, Closing, split, crossing, names, depth, Complete}
+use Rattle.argument.specs.Argument.{Cases, none, pair, Closing, split, threeOpt, names, depth, Complete}
 use Rattle.argument.specs.Layout.{Laid, Holds}
 use Rattle.argument.specs.Walk.{Spot, ends, takes, look, rest, opening, behind, close, act, follow, walk}
-use Rattle.argument.proofs.Verdicts.{pass-guard, pass-unless, pass-andThen}
+use Rattle.argument.proofs.Verdicts.{pass-guard, pass-refusedBy, pass-andThen}
 use Rattle.argument.proofs.Tests.{HowFits, rest-is}
 use Rattle.argument.proofs.Steps.{Taken, looks-end, looks-on}
 use Rattle.argument.proofs.Fuel.{walk-follows}
-use Rattle.argument.proofs.Sound.{Standing, ChainAt, ClosingAt, standing-opening, standing-pair, reached-case, standing-behind}
+use Rattle.argument.proofs.Sound.{SoundSpot, ChainAt, ClosingAt, sound-opening, next-feasible, reached-case, sound-behind}
 
 module _ (R : Rules) (law : Lawful R) (s : List ℕ) where
   -- a chain that names exactly the feasible pairs names the walk's list
@@ -32,7 +32,7 @@ module _ (R : Rules) (law : Lawful R) (s : List ℕ) where
   how-points : (K : List Edge) (i : ℕ) (how : How) (t : Closing) (h : ℕ) → Reached R K → Complete R K t → Holds s i how t h → HowFits (R .n) how
   unfolding Complete Holds
   how-points K i how (split c cs) h reached cl ho = subst (HowFits (R .n)) (sym (ho .1)) (cl .0)
-  how-points K i how (crossing p q r u) h reached cl ho = subst (HowFits (R .n)) (sym (ho .0)) (law .crossing-points K p q r u reached cl)
+  how-points K i how (threeOpt p q r u) h reached cl ho = subst (HowFits (R .n)) (sym (ho .0)) (law .three-opt-points K p q r u reached cl)
 
   -- a chain that has ended, and a chain at a case whose closing and whose further chain are accepted
   chain-end : (q : Spot) (h : ℕ) → ChainAt R s q none h → walk R s q ≡ accepted h
@@ -48,25 +48,25 @@ module _ (R : Rules) (law : Lawful R) (s : List ℕ) where
   mutual
     unfolding Laid Holds names depth Complete close opening behind
 
-    pub chain-complete : (cs : Cases) (q : Spot) (h : ℕ) → ChainAt R s q cs h → Standing R q → walk R s q ≡ accepted h
+    pub chain-complete : (cs : Cases) (q : Spot) (h : ℕ) → ChainAt R s q cs h → SoundSpot R q → walk R s q ≡ accepted h
     chain-complete none q h ch at = chain-end q h ch
     chain-complete (pair x y t more) q h ch at =
         let l = ch .laid in
         let e : q .pairs ≡ edge x y ∷ names more = sym (ch .named) in
         let r : rest (q .pairs) ≡ names more = rest-is (q .pairs) (edge x y) (names more) e in
         let named : q .pairs ≡ edge x y ∷ rest (q .pairs) = e ∙ ap (λ (es : List Edge). edge x y ∷ es) (sym r) in
-        let pp = law .pair-points (q .known) (q .point) x y (standing-pair R law q at x y named) in
+        let pp = law .pair-points (q .known) (q .point) x y (next-feasible R law q at x y named) in
         let reached = reached-case R law q at x y named in
         let st : ClosingAt R s (q .left) (withPair (q .known) (q .point) x y) (q .index) (l .0) t (l .2) = record { holds = l .5; complete = ch .complete .0; shallow = omega (arith, ch .shallow) } in
         let taken : Taken R s q x y (l .0) (l .1) =
         record { entered = l .3; reads = l .4; fit = record { point-a = pp .0; point-b = pp .1; apart = λ z. omega (arith, pp .2); how-fits = how-points _ (q .index) (l .0) t (l .2) reached (st .complete) (st .holds) }; named = named } in
-        chain-case q x y (l .0) (l .1) (l .2) h taken (close-complete t (q .left) _ (q .index) (l .0) (l .2) st reached) (chain-complete more (behind q (l .1) (l .2)) h (record { laid = l .6; named = sym r; complete = ch .complete .1; shallow = omega (arith, ch .shallow) }) (standing-behind R law q at x y named (l .1) (l .2)))
+        chain-case q x y (l .0) (l .1) (l .2) h taken (close-complete t (q .left) _ (q .index) (l .0) (l .2) st reached) (chain-complete more (behind q (l .1) (l .2)) h (record { laid = l .6; named = sym r; complete = ch .complete .1; shallow = omega (arith, ch .shallow) }) (sound-behind R law q at x y named (l .1) (l .2)))
 
     pub close-complete : (t : Closing) (left : ℕ) (K : List Edge) (i : ℕ) (how : How) (h : ℕ) → ClosingAt R s left K i how t h → Reached R K → close R (walk R s) left K i how ≡ accepted h
     close-complete (split c cs) left K i how h st reached =
         let ho = st .holds in
         let cl = st .complete in
-        ap (close R (walk R s) left K i) (ho .1) ∙ pass-guard _ 13 i _ (lt-ltb 0 left (omega (arith, st .shallow))) ∙ chain-complete cs (opening R left K i c (ho .0)) h (record { laid = ho .2; named = named-list K c (names cs) reached (cl .1); complete = cl .2; shallow = omega (arith, st .shallow) }) (standing-opening R law left K i c (ho .0) reached (cl .0))
-    close-complete (crossing p q r u) left K i how h st reached =
+        ap (close R (walk R s) left K i) (ho .1) ∙ pass-guard _ 13 i _ (lt-ltb 0 left (omega (arith, st .shallow))) ∙ chain-complete cs (opening R left K i c (ho .0)) h (record { laid = ho .2; named = named-list K c (names cs) reached (cl .1); complete = cl .2; shallow = omega (arith, st .shallow) }) (sound-opening R law left K i c (ho .0) reached (cl .0))
+    close-complete (threeOpt p q r u) left K i how h st reached =
         let ho = st .holds in
-        ap (close R (walk R s) left K i) (ho .0) ∙ pass-unless _ i i (law .settles K p q r u (st .complete)) ∙ ap accepted (sym (ho .1))
+        ap (close R (walk R s) left K i) (ho .0) ∙ pass-refusedBy _ i i (law .settles K p q r u (st .complete)) ∙ ap accepted (sym (ho .1))

@@ -8,8 +8,8 @@ use native.Mathlib.Omega.{arith}
 use borrow.Author.Tests.{lt-ltb, le-ltb}
 use Rattle.lengths.specs.Edge.{Edge, edge, Point}
 use Rattle.sets.specs.EdgeSet.{withPair}
-use Rattle.argument.specs.Verdict.{Verdict, accepted, refused, unless, andThen}
-use Rattle.argument.specs.Record.{How, splits, crosses, Record, line, case, other, recordAt}
+use Rattle.argument.specs.Verdict.{Verdict, accepted, refused, refusedBy, andThen}
+use Rattle.argument.specs.Record.{How, splits, threeOpts, Record, line, case, other, recordAt}
 use Rattle.argument.specs.Rules.{Rules}
 use Rattle.argument.specs.Argument.{splitLimit}
 use Rattle.argument.specs.Walk.{Spot, ends, takes, look, opening, behind, close, act, follow, walk}
@@ -43,7 +43,7 @@ module _ (R : Rules) (s : List ℕ) where
       walk-case-stops m r c = walk-takes ∙ stop-andThen _ _ m r c
 
   module _ (left : ℕ) (K : List Edge) (i : ℕ) where
-    -- a case that holds a split is its chain's verdict; the seventh split is refused; a crossing is what the rules say
+    -- a case that holds a split is its chain's verdict; the seventh split is refused; a 3-opt closing is what the rules say
     pub close-splits : (c first : ℕ) → 0 < left → close R (walk R s) left K i (splits c first) ≡ walk R s (opening R left K i c first)
     unfolding close
     close-splits c first h = pass-guard _ 13 i _ (lt-ltb 0 left h)
@@ -52,30 +52,30 @@ module _ (R : Rules) (s : List ℕ) where
     unfolding close
     close-seventh c first h = fail-guard _ 13 i _ (le-ltb 0 left (omega arith))
 
-    pub close-crosses : (p q r u : ℕ) → close R (walk R s) left K i (crosses p q r u) ≡ unless (R .closing K p q r u) i i
+    pub close-three-opts : (p q r u : ℕ) → close R (walk R s) left K i (threeOpts p q r u) ≡ refusedBy (R .closing K p q r u) i i
     unfolding close
-    close-crosses p q r u = refl
+    close-three-opts p q r u = refl
 
 -- an accepted line: what its record is, and its split's chain
-pub record Judged (R : Rules) (open? : ℕ → ℕ → Bool) (s : List ℕ) (i a b next high : ℕ) : Type 0 where
+pub record JudgeSays (R : Rules) (open? : ℕ → ℕ → Bool) (s : List ℕ) (i a b next high : ℕ) : Type 0 where
   pub c : ℕ
   pub first : ℕ
   pub at-line : LineAt R open? s i a b c first next
   pub point-c : Point (R .n) c
   pub walked : walk R s (opening R splitLimit (edge a b ∷ []) i c first) ≡ accepted high
 
-abbrev JudgedAs : Rules → (ℕ → ℕ → Bool) → List ℕ → ℕ → Struck → Type 0
-JudgedAs R open? s i (strikes a b next high) = Judged R open? s i a b next high
+abbrev JudgeSaysOf : Rules → (ℕ → ℕ → Bool) → List ℕ → ℕ → Struck → Type 0
+JudgeSaysOf R open? s i (strikes a b next high) = JudgeSays R open? s i a b next high
 
 module _ (R : Rules) (open? : ℕ → ℕ → Bool) (s : List ℕ) (i : ℕ) where
-  record-judged : (r : Record) → recordAt s i ≡ r → (x : Struck) → judgeRecord R open? s i r ≡ accepted x → JudgedAs R open? s i x
+  record-judged : (r : Record) → recordAt s i ≡ r → (x : Struck) → judgeRecord R open? s i r ≡ accepted x → JudgeSaysOf R open? s i x
   unfolding judgeRecord
   record-judged (line a b c first next) e x z =
       let f = guard-passed _ _ _ _ x z in
       let o = guard-passed _ _ _ _ x (f .1) in
       let v = andThen-passed _ _ x (o .1) in
       let fit = fits-means _ _ _ _ (f .0) in
-      let l : JudgedAs R open? s i (strikes a b next (v .0)) =
+      let l : JudgeSaysOf R open? s i (strikes a b next (v .0)) =
       record {
         c = c;
         first = first;
@@ -83,11 +83,11 @@ module _ (R : Rules) (open? : ℕ → ℕ → Bool) (s : List ℕ) (i : ℕ) whe
         point-c = fit .how-fits;
         walked = sym (close-splits R s splitLimit (edge a b ∷ []) i c first (omega arith)) ∙ v .1;
       } in
-      subst (JudgedAs R open? s i) (accepted-inj (v .2)) l
+      subst (JudgeSaysOf R open? s i) (accepted-inj (v .2)) l
   record-judged (case a b how next) e x z = absurd (refused-accepted z)
   record-judged other e x z = absurd (refused-accepted z)
 
-  pub judged : (a b next high : ℕ) → judge R open? s i ≡ accepted (strikes a b next high) → Judged R open? s i a b next high
+  pub judged : (a b next high : ℕ) → judge R open? s i ≡ accepted (strikes a b next high) → JudgeSays R open? s i a b next high
   unfolding judge
   judged a b next high e = record-judged (recordAt s i) refl (strikes a b next high) e
 

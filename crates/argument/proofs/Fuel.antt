@@ -5,11 +5,11 @@ use mathlib.Core.List.{List}
 use native.Mathlib.Omega.{arith}
 use Rattle.lengths.specs.Edge.{Edge}
 use Rattle.argument.specs.Verdict.{Verdict, accepted, andThen}
-use Rattle.argument.specs.Record.{How, splits, crosses, records}
+use Rattle.argument.specs.Record.{How, splits, threeOpts, records}
 use Rattle.argument.specs.Rules.{Rules}
 use Rattle.argument.specs.Walk.{Spot, Step, ends, takes, opening, behind, close, act, follow, walkBy, walk}
-use Rattle.argument.proofs.Verdicts.{refused-accepted, accepted-inj, guard-passed, unless-passed, andThen-passed, andThen-agree}
-use Rattle.argument.proofs.Steps.{Looked, looked}
+use Rattle.argument.proofs.Verdicts.{refused-accepted, accepted-inj, guard-passed, refusedBy-passed, andThen-passed, andThen-agree}
+use Rattle.argument.proofs.Steps.{LookSays, looked}
 
 -- an accepted chain ends no lower than it began
 abbrev pub Rises : (Spot → Verdict ℕ) → Type 0
@@ -23,7 +23,7 @@ module _ (R : Rules) (s : List ℕ) where
   pub close-rises : (go : Spot → Verdict ℕ) → Rises go → (left : ℕ) (K : List Edge) (i : ℕ) (how : How) (h : ℕ) → close R go left K i how ≡ accepted h → i ≤ h
   unfolding close opening
   close-rises go rises left K i (splits c first) h e = rises _ h (guard-passed _ _ _ _ h e .1)
-  close-rises go rises left K i (crosses p q r u) h e = let z = unless-passed _ _ _ h e .1 in omega arith
+  close-rises go rises left K i (threeOpts p q r u) h e = let z = refusedBy-passed _ _ _ h e .1 in omega arith
 
   follow-rises : (go : Spot → Verdict ℕ) → Rises go → Rises (follow R s go)
   unfolding follow act behind
@@ -31,7 +31,7 @@ module _ (R : Rules) (s : List ℕ) where
       let v = andThen-passed _ _ h e in
       by (v .0) (looked R s q (v .0) (v .1)) (v .2)
     where
-      by : (step : Step) → Looked R s q step → act R go q step ≡ accepted h → q .high ≤ h
+      by : (step : Step) → LookSays R s q step → act R go q step ≡ accepted h → q .high ≤ h
       by ends l z = let k = accepted-inj z in omega arith
       by (takes a b how next) l z =
           let v = andThen-passed _ _ h z in
@@ -48,13 +48,13 @@ module _ (R : Rules) (s : List ℕ) where
     close-agree : (left : ℕ) (K : List Edge) (i : ℕ) (how : How) → Agree go go′ i → close R go left K i how ≡ close R go′ left K i how
     unfolding close opening
     close-agree left K i (splits c first) same = rw (same (opening R left K i c first) (omega arith))
-    close-agree left K i (crosses p q r u) same = refl
+    close-agree left K i (threeOpts p q r u) same = refl
 
     follow-agree : (q : Spot) → (q .high < q .index → q .index ≤ records s → Agree go go′ (q .index)) → follow R s go q ≡ follow R s go′ q
     unfolding follow act behind
     follow-agree q same = andThen-agree _ _ _ (λ step e. by step (looked R s q step e))
       where
-        by : (step : Step) → Looked R s q step → act R go q step ≡ act R go′ q step
+        by : (step : Step) → LookSays R s q step → act R go q step ≡ act R go′ q step
         by ends l = refl
         by (takes a b how next) l =
             let same′ = same (l .entered .above) (l .entered .inside) in

@@ -10,15 +10,15 @@ use lib.Dec.{eqb}
 use borrow.Author.Tests.{eqb-true, eqb-false, leb-true, ltb-true}
 use Rattle.lengths.specs.Edge.{Edge, edge}
 use Rattle.argument.specs.Verdict.{Verdict, accepted, refused, andThen}
-use Rattle.argument.specs.Record.{How, splits, crosses, Record, line, case, other, records, Readable, recordAt}
+use Rattle.argument.specs.Record.{How, splits, threeOpts, Record, line, case, other, records, Readable, recordAt}
 use Rattle.argument.specs.Rules.{Rules, Lawful}
 use Rattle.argument.specs.Argument.{splitLimit}
 use Rattle.argument.specs.Layout.{Enters}
 use Rattle.argument.specs.Walk.{Spot, Step, ends, takes, entering, readCase, look, opening, behind, close, act, follow, walkBy, walk}
 use Rattle.argument.specs.Line.{Struck, strikes, judgeRecord, judge}
 use Rattle.argument.specs.Sheet.{Marking, Place, struck, start, Result, CompleteLines, Stops, ended, above, not-above, incomplete, Answers, RefusedAt}
-use Rattle.argument.proofs.Verdicts.{refused-accepted, refused-inj, guard-refused, unless-refused, andThen-refused}
-use Rattle.argument.proofs.Steps.{Looked, looked, look-end, look-on}
+use Rattle.argument.proofs.Verdicts.{refused-accepted, refused-inj, guard-refused, refusedBy-refused, andThen-refused}
+use Rattle.argument.proofs.Steps.{LookSays, looked, look-end, look-on}
 use Rattle.argument.proofs.Fuel.{close-rises, walk-rises}
 
 module _ (s : List ℕ) where
@@ -62,8 +62,8 @@ module _ (s : List ℕ) where
     unfolding close opening
     close-told go left K i (splits c first) m r named f e =
         ⊎-elim (tested 13 i m r (omega arith) (omega arith) named) (λ z. f (opening R left K i c first) (omega arith) named (z .1)) (guard-refused _ _ _ _ m r e)
-    close-told go left K i (crosses p q u v) m r named f e =
-        let z = unless-refused _ _ _ m r e in
+    close-told go left K i (threeOpts p q u v) m r named f e =
+        let z = refusedBy-refused _ _ _ m r e in
         let k = law .closing-number K p q u v (omega (arith, z .0, z .2)) in
         tested (R .closing K p q u v) i m r (omega (arith, k .0)) (k .1) named (z .0, z .1)
 
@@ -73,7 +73,7 @@ module _ (s : List ℕ) where
     walkBy-told (suc fuel) q m r h l named e =
         ⊎-elim (look-told q m r named) (λ v. by (v .0) (looked R s q (v .0) (v .1)) (v .2) (λ q′ h′ l′. walkBy-told fuel q′ m r h′ l′)) (andThen-refused _ _ m r e)
       where
-        by : (step : Step) → Looked R s q step → act R (walkBy R s fuel) q step ≡ refused m r →
+        by : (step : Step) → LookSays R s q step → act R (walkBy R s fuel) q step ≡ refused m r →
             ((q′ : Spot) → 1 ≤ fuel → records s < fuel + q′ .high → Readable s (q′ .last) → walkBy R s fuel q′ ≡ refused m r → RefusedAt s m r) → RefusedAt s m r
         by ends k z ih = absurd (refused-accepted (sym z))
         by (takes a b how next) k z ih =

@@ -9,16 +9,16 @@ use Rattle.sets.specs.EdgeSet.{withPair}
 use Rattle.sets.specs.Rising.{Among}
 use Rattle.argument.specs.Verdict.{accepted}
 use Rattle.argument.specs.Rules.{Rules, Lawful}
-use Rattle.argument.specs.Argument.{Cases, none, pair, Closing, split, crossing, names, Complete, AllComplete, CompleteArgument}
+use Rattle.argument.specs.Argument.{Cases, none, pair, Closing, split, threeOpt, names, Complete, AllComplete, CompleteArgument}
 use Rattle.argument.specs.Line.{Struck, strikes, judge}
 use Rattle.argument.specs.Sheet.{Marking, Place, onward, struck, turn, Result, answer, start, sheet, run}
 use Rattle.argument.specs.Safety.{Upheld, Guarded}
 use Rattle.argument.proofs.Exact.{line-sound}
-use Rattle.argument.proofs.Sheet.{Turned, turned, sheet-stop}
+use Rattle.argument.proofs.Sheet.{TurnSays, turned, sheet-stop}
 
 module _ (R : Rules) (Good : List Edge → Type 0) (up : Upheld R Good) where
   -- A complete closing rules out K. Take the case of the tour's own pair, which is feasible and so is named, and go down: the tour uses that
-  -- case's K too. The tree ends in crossings and in splits with no case, and neither leaves room for the tour.
+  -- case's K too. The tree ends in 3-opt closings and in splits with no case, and neither leaves room for the tour.
   mutual
     unfolding Complete names
 
@@ -26,7 +26,7 @@ module _ (R : Rules) (Good : List Edge → Type 0) (up : Upheld R Good) where
     complete-safe (split c cs) K cl g =
         let k = up .keeps K c g (cl .0) in
         cases-safe cs K c (cl .2) (k .0) (k .1) (cl .1 .exactly (k .0) (k .1) .1 (k .2)) (k .3)
-    complete-safe (crossing p q r s) K cl g = up .unsettled K p q r s g cl
+    complete-safe (threeOpt p q r s) K cl g = up .unsettled K p q r s g cl
 
     cases-safe : (cs : Cases) (K : List Edge) (c : ℕ) → AllComplete R K c cs → (x y : ℕ) → Among (names cs) x y → Good (withPair K c x y) → ⊥
     cases-safe none K c cl x y m g = List·Memᴰ·not-nil m
@@ -50,7 +50,7 @@ module _ {M : Type 0} (𝓜 : Marking M) (Good : List Edge → Type 0) (Kept : M
   unfolding struck
   turn-safe s p p′ k e = by (t .x) (t .judged) (t .place)
     where
-      t : Turned 𝓜 s p (onward p′)
+      t : TurnSays 𝓜 s p (onward p′)
       t = turned 𝓜 s p (onward p′) e
 
       by : (x : Struck) → judge (𝓜 .rules (p .marks)) (𝓜 .open? (p .marks)) s (p .index) ≡ accepted x → p′ ≡ struck 𝓜 p x → Kept (p′ .marks)

@@ -19,15 +19,15 @@ use Rattle.argument.proofs.Fuel.{walk-rises}
 use Rattle.argument.proofs.Equations.{judged}
 
 -- an accepted line, entered at p's index, and the place behind it
-pub record Marked {M : Type 0} (𝓜 : Marking M) (s : List ℕ) (p p′ : Place M) : Type 0 where
+pub record LineMarked {M : Type 0} (𝓜 : Marking M) (s : List ℕ) (p p′ : Place M) : Type 0 where
   pub x : Struck
   pub entered : Enters s (p .high) (p .index)
   pub judged : judge (𝓜 .rules (p .marks)) (𝓜 .open? (p .marks)) s (p .index) ≡ accepted x
   pub place : p′ ≡ struck 𝓜 p x
 
-abbrev pub Turned : {M : Type 0} → Marking M → List ℕ → Place M → Turn M → Type 0
-Turned 𝓜 s p over = p .index ≡ 0
-Turned 𝓜 s p (onward p′) = Marked 𝓜 s p p′
+abbrev pub TurnSays : {M : Type 0} → Marking M → List ℕ → Place M → Turn M → Type 0
+TurnSays 𝓜 s p over = p .index ≡ 0
+TurnSays 𝓜 s p (onward p′) = LineMarked 𝓜 s p p′
 
 module _ {M : Type 0} (𝓜 : Marking M) (s : List ℕ) (p : Place M) where
   pub turn-over : p .index ≡ 0 → turn 𝓜 s p ≡ accepted over
@@ -38,19 +38,19 @@ module _ {M : Type 0} (𝓜 : Marking M) (s : List ℕ) (p : Place M) where
   unfolding turn
   turn-on h = rw (ne-eqb (p .index) 0 h, turn)
 
-  pub turned : (t : Turn M) → turn 𝓜 s p ≡ accepted t → Turned 𝓜 s p t
+  pub turned : (t : Turn M) → turn 𝓜 s p ≡ accepted t → TurnSays 𝓜 s p t
   turned t z = by (eqb (p .index) 0) refl
     where
-      by : (b : Bool) → eqb (p .index) 0 ≡ b → Turned 𝓜 s p t
+      by : (b : Bool) → eqb (p .index) 0 ≡ b → TurnSays 𝓜 s p t
       by true e =
           let i = eqb-true (p .index) 0 e in
-          let o : Turned 𝓜 s p over = i in
-          subst (Turned 𝓜 s p) (accepted-inj (sym (turn-over i) ∙ z)) o
+          let o : TurnSays 𝓜 s p over = i in
+          subst (TurnSays 𝓜 s p) (accepted-inj (sym (turn-over i) ∙ z)) o
       by false e =
           let g = entering-passed _ _ _ _ _ t (sym (turn-on (eqb-false (p .index) 0 e)) ∙ z) in
           let v = andThen-passed _ _ t (g .1) in
-          let m : Turned 𝓜 s p (onward (struck 𝓜 p (v .0))) = record { x = v .0; entered = g .0; judged = v .1; place = refl } in
-          subst (Turned 𝓜 s p) (accepted-inj (v .2)) m
+          let m : TurnSays 𝓜 s p (onward (struck 𝓜 p (v .0))) = record { x = v .0; entered = g .0; judged = v .1; place = refl } in
+          subst (TurnSays 𝓜 s p) (accepted-inj (v .2)) m
 
   -- the ways of a turn, for code: the index is refused, the line is refused, or its edge is struck
   pub turn-8 : records s < p .index → turn 𝓜 s p ≡ refused 8 (p .last)

@@ -15,7 +15,7 @@ use Rattle.argument.specs.Line.{Struck, strikes, judge, CompleteAt}
 use Rattle.argument.specs.Sheet.{Marking, Place, Turn, over, onward, struck, turn, Result, answer, linesFrom, start, sheet, CompleteLines, Stops, ended, above, not-above, incomplete, Answers}
 use Rattle.argument.proofs.Verdicts.{refused-accepted, refused-as}
 use Rattle.argument.proofs.Exact.{line-sound, line-complete}
-use Rattle.argument.proofs.Sheet.{Marked, turned, turn-over, turn-8, turn-9, turn-stops, turn-strikes, turn-rises, lines-over, lines-stop, lines-go-on}
+use Rattle.argument.proofs.Sheet.{LineMarked, turned, turn-over, turn-8, turn-9, turn-stops, turn-strikes, turn-rises, lines-over, lines-stop, lines-go-on}
 
 module _ (R : Rules) (law : Lawful R) (open? : ℕ → ℕ → Bool) (s : List ℕ) (i : ℕ) where
   pub judge-complete : (x : Struck) → judge R open? s i ≡ accepted x → CompleteAt R open? s i x
@@ -80,7 +80,7 @@ module _ {M : Type 0} (𝓜 : Marking M) (law : (m : M) → Lawful (𝓜 .rules 
       here : (v : Verdict (Unit {0})) → Stops 𝓜 s p v → Answers 𝓜 s p (linesFrom 𝓜 s p)
       here v st = subst (Answers 𝓜 s p) (sym (stopped p v st)) (record { lines = []; place = p; chain = refl; stops = st; marks-left = refl; counted = refl })
 
-      step : (p′ : Place M) → turn 𝓜 s p ≡ accepted (onward p′) → Marked 𝓜 s p p′ → Answers 𝓜 s p′ (linesFrom 𝓜 s p′) → Answers 𝓜 s p (linesFrom 𝓜 s p)
+      step : (p′ : Place M) → turn 𝓜 s p ≡ accepted (onward p′) → LineMarked 𝓜 s p p′ → Answers 𝓜 s p′ (linesFrom 𝓜 s p′) → Answers 𝓜 s p (linesFrom 𝓜 s p)
       step p′ e m t =
           subst (Answers 𝓜 s p) (sym (lines-go-on 𝓜 s p p′ e))
           (record {

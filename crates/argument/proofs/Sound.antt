@@ -10,17 +10,17 @@ use Rattle.lengths.specs.Edge.{Edge, edge, Point}
 use Rattle.sets.specs.EdgeSet.{withPair}
 use Rattle.sets.specs.Rising.{Among}
 use Rattle.argument.specs.Verdict.{Verdict, accepted}
-use Rattle.argument.specs.Record.{How, splits, crosses, records}
+use Rattle.argument.specs.Record.{How, splits, threeOpts, records}
 use Rattle.argument.specs.Rules.{Rules, NamesFeasible, Reached, grown, Lawful}
-use Rattle.argument.specs.Argument.{Cases, none, pair, Closing, split, crossing, names, depth, depths, Complete, AllComplete}
+use Rattle.argument.specs.Argument.{Cases, none, pair, Closing, split, threeOpt, names, depth, depths, Complete, AllComplete}
 use Rattle.argument.specs.Layout.{Laid, Holds}
 use Rattle.argument.specs.Walk.{Spot, Step, ends, takes, rest, opening, behind, close, act, follow, walkBy, walk}
-use Rattle.argument.proofs.Verdicts.{refused-accepted, accepted-inj, guard-passed, unless-passed, andThen-passed}
+use Rattle.argument.proofs.Verdicts.{refused-accepted, accepted-inj, guard-passed, refusedBy-passed, andThen-passed}
 use Rattle.argument.proofs.Tests.{HowFits}
-use Rattle.argument.proofs.Steps.{Looked, looked}
+use Rattle.argument.proofs.Steps.{LookSays, looked}
 
 -- a walk stands rightly at q: its K is one that an argument comes to, its point is one of 1 to n, and the pairs left are feasible
-pub record Standing (R : Rules) (q : Spot) : Type 0 where
+pub record SoundSpot (R : Rules) (q : Spot) : Type 0 where
   pub reached : Reached R (q .known)
   pub centre : Point (R .n) (q .point)
   pub feasible : (x y : ℕ) → Among (q .pairs) x y → R .Feasible (q .known) (q .point) x y
@@ -39,24 +39,24 @@ pub record ClosingAt (R : Rules) (s : List ℕ) (left : ℕ) (K : List Edge) (i 
   pub shallow : depth t ≤ left
 
 abbrev SoundChains : Rules → List ℕ → (Spot → Verdict ℕ) → Type 0
-SoundChains R s go = (q : Spot) (h : ℕ) → Standing R q → go q ≡ accepted h → (cs : Cases) × ChainAt R s q cs h
+SoundChains R s go = (q : Spot) (h : ℕ) → SoundSpot R q → go q ≡ accepted h → (cs : Cases) × ChainAt R s q cs h
 
 -- a chain stands rightly at its beginning, and behind a case; the case's K is reached
 module _ (R : Rules) (law : Lawful R) where
-  pub standing-opening : (left : ℕ) (K : List Edge) (i c first : ℕ) → Reached R K → Point (R .n) c → Standing R (opening R left K i c first)
+  pub sound-opening : (left : ℕ) (K : List Edge) (i c first : ℕ) → Reached R K → Point (R .n) c → SoundSpot R (opening R left K i c first)
   unfolding opening
-  standing-opening left K i c first reached centre = record { reached = reached; centre = centre; feasible = λ x y m. law .listed K c reached .exactly x y .0 m }
+  sound-opening left K i c first reached centre = record { reached = reached; centre = centre; feasible = λ x y m. law .listed K c reached .exactly x y .0 m }
 
-  module _ (q : Spot) (st : Standing R q) (a b : ℕ) (named : q .pairs ≡ edge a b ∷ rest (q .pairs)) where
-    pub standing-pair : R .Feasible (q .known) (q .point) a b
-    standing-pair = st .feasible a b (subst (λ (es : List Edge). Among es a b) (sym named) (List·Memᴰ·head refl))
+  module _ (q : Spot) (st : SoundSpot R q) (a b : ℕ) (named : q .pairs ≡ edge a b ∷ rest (q .pairs)) where
+    pub next-feasible : R .Feasible (q .known) (q .point) a b
+    next-feasible = st .feasible a b (subst (λ (es : List Edge). Among es a b) (sym named) (List·Memᴰ·head refl))
 
     pub reached-case : Reached R (withPair (q .known) (q .point) a b)
-    reached-case = grown (st .reached) (st .centre) standing-pair
+    reached-case = grown (st .reached) (st .centre) next-feasible
 
-    pub standing-behind : (next high : ℕ) → Standing R (behind q next high)
+    pub sound-behind : (next high : ℕ) → SoundSpot R (behind q next high)
     unfolding behind
-    standing-behind next high =
+    sound-behind next high =
         record { reached = st .reached; centre = st .centre; feasible = λ x y m. st .feasible x y (subst (λ (es : List Edge). Among es x y) (sym named) (List·Memᴰ·tail m)) }
 
 module _ (R : Rules) (law : Lawful R) (s : List ℕ) where
@@ -64,13 +64,13 @@ module _ (R : Rules) (law : Lawful R) (s : List ℕ) where
   unfolding close opening Holds Complete depth
   close-sound go sound left K i (splits c first) h reached fit e =
       let g = guard-passed _ _ _ _ h e in
-      let f = sound _ h (standing-opening R law left K i c first reached fit) (g .1) in
+      let f = sound _ h (sound-opening R law left K i c first reached fit) (g .1) in
       let ch = f .1 in
       let pos = ltb-true 0 left (g .0) in
       (split c (f .0), record { holds = (first, refl, ch .laid); complete = (fit, subst (NamesFeasible R K c) (sym (ch .named)) (law .listed K c reached), ch .complete); shallow = omega (arith, ch .shallow) })
-  close-sound go sound left K i (crosses p q r u) h reached fit e =
-      let g = unless-passed _ _ _ h e in
-      (crossing p q r u, record { holds = (refl, sym (g .1)); complete = law .settled K p q r u (g .0); shallow = omega arith })
+  close-sound go sound left K i (threeOpts p q r u) h reached fit e =
+      let g = refusedBy-passed _ _ _ h e in
+      (threeOpt p q r u, record { holds = (refl, sym (g .1)); complete = law .settled K p q r u (g .0); shallow = omega arith })
 
   follow-sound : (go : Spot → Verdict ℕ) → SoundChains R s go → SoundChains R s (follow R s go)
   unfolding follow act behind Laid AllComplete names depth
@@ -78,12 +78,12 @@ module _ (R : Rules) (law : Lawful R) (s : List ℕ) where
       let v = andThen-passed _ _ h e in
       by (v .0) (looked R s q (v .0) (v .1)) (v .2)
     where
-      by : (step : Step) → Looked R s q step → act R go q step ≡ accepted h → (cs : Cases) × ChainAt R s q cs h
+      by : (step : Step) → LookSays R s q step → act R go q step ≡ accepted h → (cs : Cases) × ChainAt R s q cs h
       by ends l z = (none, record { laid = (l .0, sym (accepted-inj z)); named = sym (l .1); complete = tt; shallow = omega arith })
       by (takes a b how next) l z =
           let v = andThen-passed _ _ h z in
           let t = close-sound go sound _ _ _ how _ (reached-case R law q st a b (l .named)) (l .fit .how-fits) (v .1) in
-          let f = sound _ h (standing-behind R law q st a b (l .named) next (v .0)) (v .2) in
+          let f = sound _ h (sound-behind R law q st a b (l .named) next (v .0)) (v .2) in
           let T = t .1 in
           let F = f .1 in
           (pair a b (t .0) (f .0), record { laid = (how, next, v .0, l .entered, l .reads, T .holds, F .laid); named = ap (λ (es : List Edge). edge a b ∷ es) (F .named) ∙ sym (l .named); complete = (T .complete, F .complete); shallow = omega (arith, T .shallow, F .shallow) })
@@ -93,6 +93,6 @@ module _ (R : Rules) (law : Lawful R) (s : List ℕ) where
   walkBy-sound zero q h st e = absurd (refused-accepted e)
   walkBy-sound (suc fuel) q h st e = follow-sound (walkBy R s fuel) (walkBy-sound fuel) q h st e
 
-  pub walk-sound : (q : Spot) (h : ℕ) → Standing R q → walk R s q ≡ accepted h → (cs : Cases) × ChainAt R s q cs h
+  pub walk-sound : (q : Spot) (h : ℕ) → SoundSpot R q → walk R s q ≡ accepted h → (cs : Cases) × ChainAt R s q cs h
   unfolding walk
   walk-sound q h st e = walkBy-sound (suc (records s)) q h st e

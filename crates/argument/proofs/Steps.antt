@@ -23,9 +23,9 @@ pub record Taken (R : Rules) (s : List ℕ) (q : Spot) (a b : ℕ) (how : How) (
   pub named : q .pairs ≡ edge a b ∷ rest (q .pairs)
 
 -- what an accepted step says
-abbrev pub Looked : Rules → List ℕ → Spot → Step → Type 0
-Looked R s q ends = (q .index ≡ 0) × (q .pairs ≡ [])
-Looked R s q (takes a b how next) = Taken R s q a b how next
+abbrev pub LookSays : Rules → List ℕ → Spot → Step → Type 0
+LookSays R s q ends = (q .index ≡ 0) × (q .pairs ≡ [])
+LookSays R s q (takes a b how next) = Taken R s q a b how next
 
 module _ (R : Rules) (s : List ℕ) (q : Spot) where
   pub look-end : q .index ≡ 0 → look R s q ≡ guard (noneLeft (q .pairs)) 14 (q .last) λ _. accepted ends
@@ -36,30 +36,30 @@ module _ (R : Rules) (s : List ℕ) (q : Spot) where
   unfolding look
   look-on h = rw (ne-eqb (q .index) 0 h, look)
 
-  read-passed : Enters s (q .high) (q .index) → (r : Record) → recordAt s (q .index) ≡ r → (step : Step) → readCase R q r ≡ accepted step → Looked R s q step
+  read-passed : Enters s (q .high) (q .index) → (r : Record) → recordAt s (q .index) ≡ r → (step : Step) → readCase R q r ≡ accepted step → LookSays R s q step
   unfolding readCase
   read-passed h (line a b c first next) e step z = absurd (refused-accepted z)
   read-passed h (case a b how next) e step z =
       let f = guard-passed _ _ _ _ step z in
       let g = guard-passed _ _ _ _ step (f .1) in
-      let t : Looked R s q (takes a b how next) = record { entered = h; reads = e; fit = fits-means _ _ _ _ (f .0); named = next-is _ a b (g .0) } in
-      subst (Looked R s q) (accepted-inj (g .1)) t
+      let t : LookSays R s q (takes a b how next) = record { entered = h; reads = e; fit = fits-means _ _ _ _ (f .0); named = next-is _ a b (g .0) } in
+      subst (LookSays R s q) (accepted-inj (g .1)) t
   read-passed h other e step z = absurd (refused-accepted z)
 
-  pub looked : (step : Step) → look R s q ≡ accepted step → Looked R s q step
+  pub looked : (step : Step) → look R s q ≡ accepted step → LookSays R s q step
   looked step z = by (eqb (q .index) 0) refl
     where
-      by : (b : Bool) → eqb (q .index) 0 ≡ b → Looked R s q step
+      by : (b : Bool) → eqb (q .index) 0 ≡ b → LookSays R s q step
       by true e =
           let i = eqb-true (q .index) 0 e in
           let g = guard-passed _ _ _ _ step (sym (look-end i) ∙ z) in
-          let t : Looked R s q ends = (i, none-left _ (g .0)) in
-          subst (Looked R s q) (accepted-inj (g .1)) t
+          let t : LookSays R s q ends = (i, none-left _ (g .0)) in
+          subst (LookSays R s q) (accepted-inj (g .1)) t
       by false e =
           let g = entering-passed _ _ _ _ _ step (sym (look-on (eqb-false (q .index) 0 e)) ∙ z) in
           read-passed (g .0) (recordAt s (q .index)) refl step (g .1)
 
-  pub looks-end : Looked R s q ends → look R s q ≡ accepted ends
+  pub looks-end : LookSays R s q ends → look R s q ≡ accepted ends
   looks-end h = look-end (h .0) ∙ pass-guard _ _ _ _ (left-none _ (h .1))
 
   pub looks-on : {a b : ℕ} {how : How} {next : ℕ} → Taken R s q a b how next → look R s q ≡ accepted (takes a b how next)

@@ -9,7 +9,7 @@ use borrow.Author.Tests.{leb-true, le-leb, lt-leb, ltb-true, lt-ltb, le-ltb, eqb
 use Rattle.lengths.specs.Edge.{Edge, edge, Point}
 use Rattle.lists.proofs.Bools.{and-both}
 use Rattle.argument.specs.Verdict.{Verdict, accepted, refused}
-use Rattle.argument.specs.Record.{How, splits, crosses, records, isPoint, howFits, fits}
+use Rattle.argument.specs.Record.{How, splits, threeOpts, records, isPoint, howFits, fits}
 use Rattle.argument.specs.Layout.{Enters}
 use Rattle.argument.specs.Walk.{entering, noneLeft, isNext, rest}
 use Rattle.argument.proofs.Verdicts.{guard-passed, pass-guard, fail-guard}
@@ -25,7 +25,7 @@ point-is {n} {a} p = and-both _ _ (le-leb 1 a (p .low)) (le-leb a n (p .high))
 -- what refusal 11 leaves of a record's points
 abbrev pub HowFits : ℕ → How → Type 0
 HowFits n (splits c first) = Point n c
-HowFits n (crosses p q r s) = Point n p × Point n q × Point n r × Point n s
+HowFits n (threeOpts p q r s) = Point n p × Point n q × Point n r × Point n s
 
 pub record Fits (n a b : ℕ) (how : How) : Type 0 where
   pub point-a : Point n a
@@ -36,7 +36,7 @@ pub record Fits (n a b : ℕ) (how : How) : Type 0 where
 how-fits : (n : ℕ) (how : How) → howFits n how ≡ true → HowFits n how
 unfolding howFits
 how-fits n (splits c first) e = is-point n c e
-how-fits n (crosses p q r s) e =
+how-fits n (threeOpts p q r s) e =
     let h = both _ _ e in
     let k = both _ _ (h .1) in
     let l = both _ _ (k .1) in
@@ -45,7 +45,7 @@ how-fits n (crosses p q r s) e =
 fits-how : (n : ℕ) (how : How) → HowFits n how → howFits n how ≡ true
 unfolding howFits
 fits-how n (splits c first) p = point-is p
-fits-how n (crosses p q r s) h = and-both _ _ (point-is (h .0)) (and-both _ _ (point-is (h .1)) (and-both _ _ (point-is (h .2)) (point-is (h .3))))
+fits-how n (threeOpts p q r s) h = and-both _ _ (point-is (h .0)) (and-both _ _ (point-is (h .1)) (and-both _ _ (point-is (h .2)) (point-is (h .3))))
 
 pub fits-means : (n a b : ℕ) (how : How) → fits n a b how ≡ true → Fits n a b how
 unfolding fits

@@ -5,7 +5,7 @@ use mathlib.Core.Path.{_≡_, refl, sym}
 use mathlib.Core.Logic.{_⊎_, inl, inr}
 use mathlib.Core.Bool.{Bool, true, false}
 use native.Mathlib.Omega.{arith}
-use Rattle.argument.specs.Verdict.{Verdict, accepted, refused, guard, unless, andThen}
+use Rattle.argument.specs.Verdict.{Verdict, accepted, refused, guard, refusedBy, andThen}
 
 pub refused-accepted : {A : Type 0} {m r : ℕ} {a : A} → refused m r ≡ accepted a → ⊥
 refused-accepted e = let z : _≡_ {A = ℕ} 0 1 = cc in omega arith
@@ -26,14 +26,14 @@ pub fail-guard : {A : Type 0} (b : Bool) (m r : ℕ) (k : Unit {0} → Verdict A
 unfolding guard
 fail-guard b m r k e = rw e
 
-pub unless-passed : {A : Type 0} (m r : ℕ) (a a′ : A) → unless m r a ≡ accepted a′ → (m ≡ 0) × (a ≡ a′)
-unfolding unless
-unless-passed zero r a a′ e = (refl, accepted-inj e)
-unless-passed (suc m) r a a′ e = absurd (refused-accepted e)
+pub refusedBy-passed : {A : Type 0} (m r : ℕ) (a a′ : A) → refusedBy m r a ≡ accepted a′ → (m ≡ 0) × (a ≡ a′)
+unfolding refusedBy
+refusedBy-passed zero r a a′ e = (refl, accepted-inj e)
+refusedBy-passed (suc m) r a a′ e = absurd (refused-accepted e)
 
-pub pass-unless : {A : Type 0} (m r : ℕ) (a : A) → m ≡ 0 → unless m r a ≡ accepted a
-unfolding unless
-pass-unless m r a e = rw e
+pub pass-refusedBy : {A : Type 0} (m r : ℕ) (a : A) → m ≡ 0 → refusedBy m r a ≡ accepted a
+unfolding refusedBy
+pass-refusedBy m r a e = rw e
 
 pub andThen-passed : {A B : Type 0} (v : Verdict A) (k : A → Verdict B) (b : B) → andThen v k ≡ accepted b → (a : A) × (v ≡ accepted a) × (k a ≡ accepted b)
 unfolding andThen
@@ -66,10 +66,10 @@ unfolding guard
 guard-refused true m r k m′ r′ e = inr (refl, e)
 guard-refused false m r k m′ r′ e = inl (refused-inj e)
 
-pub unless-refused : {A : Type 0} (m r : ℕ) (a : A) (m′ r′ : ℕ) → unless m r a ≡ refused m′ r′ → (m ≡ m′) × (r ≡ r′) × (1 ≤ m′)
-unfolding unless
-unless-refused zero r a m′ r′ e = absurd (refused-accepted (sym e))
-unless-refused (suc m) r a m′ r′ e = let z = refused-inj e in (z .0, z .1, omega (arith, z .0))
+pub refusedBy-refused : {A : Type 0} (m r : ℕ) (a : A) (m′ r′ : ℕ) → refusedBy m r a ≡ refused m′ r′ → (m ≡ m′) × (r ≡ r′) × (1 ≤ m′)
+unfolding refusedBy
+refusedBy-refused zero r a m′ r′ e = absurd (refused-accepted (sym e))
+refusedBy-refused (suc m) r a m′ r′ e = let z = refused-inj e in (z .0, z .1, omega (arith, z .0))
 
 pub andThen-refused : {A B : Type 0} (v : Verdict A) (k : A → Verdict B) (m r : ℕ) → andThen v k ≡ refused m r → (v ≡ refused m r) ⊎ ((a : A) × (v ≡ accepted a) × (k a ≡ refused m r))
 unfolding andThen

@@ -3,8 +3,8 @@
 use Prim.Native.Nat.{ℕ, _≤_, _<_}
 use mathlib.Core.Path.{_≡_}
 use mathlib.Core.List.{List}
-use Rattle.argument.specs.Record.{How, splits, crosses, case, records, recordAt}
-use Rattle.argument.specs.Argument.{Cases, none, pair, Closing, split, crossing}
+use Rattle.argument.specs.Record.{How, splits, threeOpts, case, records, recordAt}
+use Rattle.argument.specs.Argument.{Cases, none, pair, Closing, split, threeOpt}
 
 -- "Each record entered has a higher number than all entered before it in the sheet"
 pub record Enters (s : List ℕ) (high i : ℕ) : Type 0 where
@@ -22,4 +22,4 @@ unfoldable mutual
   -- what the record i holds as its closing sets down a closing
   pub Holds : (s : List ℕ) (i : ℕ) → How → Closing → (after : ℕ) → Type 0
   Holds s i how (split c cs) after = (first : ℕ) × (how ≡ splits c first) × Laid s i first cs after
-  Holds s i how (crossing p q r u) after = (how ≡ crosses p q r u) × (after ≡ i)
+  Holds s i how (threeOpt p q r u) after = (how ≡ threeOpts p q r u) × (after ≡ i)

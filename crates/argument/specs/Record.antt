@@ -22,10 +22,10 @@ pub record Readable (s : List ℕ) (i : ℕ) : Type 0 where
 unfoldable pub field : List ℕ → ℕ → ℕ → ℕ
 field s i f = getD s ((i - 1) * recordSize + f) 0
 
--- how a case is closed: by a split at c whose first case is the record `first`, or by the crossing of pq with the centres r and s
+-- how a case is closed: by a split at c whose first case is the record `first`, or by 3-opt (01's crossing) with the edge pq and the centres r and s
 pub data How : Type 0 where
   splits : (c first : ℕ) → How
-  crosses : (p q r s : ℕ) → How
+  threeOpts : (p q r s : ℕ) → How
 
 -- what a record is: a line, a case, or neither
 pub data Record : Type 0 where
@@ -45,7 +45,7 @@ content kind a b u v c d next =
       | false ↦ elim (eqb kind 2) [
         | true ↦ bare u v (case a b (splits c d) next)
         | false ↦ elim (eqb kind 3) [
-          | true ↦ case a b (crosses u v c d) next
+          | true ↦ case a b (threeOpts u v c d) next
           | false ↦ other
         ]
       ]
@@ -61,7 +61,7 @@ isPoint n a = leb 1 a && leb a n
 -- the point fields of a closing are points
 unfoldable pub howFits : ℕ → How → Bool
 howFits n (splits c first) = isPoint n c
-howFits n (crosses p q r s) = isPoint n p && (isPoint n q && (isPoint n r && isPoint n s))
+howFits n (threeOpts p q r s) = isPoint n p && (isPoint n q && (isPoint n r && isPoint n s))
 
 -- refusal 11 does not apply: no "point field outside 1 to n, or a = b". A line is read as a case with a split.
 unfoldable pub fits : (n a b : ℕ) → How → Bool

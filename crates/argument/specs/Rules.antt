@@ -1,4 +1,4 @@
--- All that arguments know of the rules: which pairs are feasible, and which crossings settle a case; and what the walk computes for the two.
+-- All that arguments know of the rules: which pairs are feasible, and which 3-opt closings settle a case; and what the walk computes for the two.
 -- Lengths, marks and cycles are not seen here; `Lawful` is what the rules have to prove of themselves.
 use Prim.Native.Nat.{ℕ, _≤_, _<_}
 use mathlib.Core.Path.{_≡_}
@@ -13,11 +13,11 @@ pub record Rules : Type 1 where
   pub n : ℕ
   -- the pair x, y stands at c under K
   pub Feasible : (K : List Edge) (c x y : ℕ) → Type 0
-  -- the crossing of pq with the centres r and s settles K: it keeps 01's conditions, and some labelling saves
+  -- the 3-opt closing of pq with the centres r and s settles K: it keeps 01's conditions, and some labelling saves
   pub Settles : (K : List Edge) (p q r s : ℕ) → Type 0
   -- what the walk goes by: the list of the feasible pairs
   pub pairs : (K : List Edge) (c : ℕ) → List Edge
-  -- and 0 if the crossing settles K, else the number of its refusal
+  -- and 0 if the 3-opt closing settles K, else the number of its refusal
   pub closing : (K : List Edge) (p q r s : ℕ) → ℕ
 
 -- "exactly the standing pairs, in rising order"
@@ -36,7 +36,7 @@ pub record Lawful (R : Rules) : Type 0 where
   pub settles : (K : List Edge) (p q r s : ℕ) → R .Settles K p q r s → R .closing K p q r s ≡ 0
   -- a feasible pair is two points, the lower first
   pub pair-points : (K : List Edge) (c x y : ℕ) → R .Feasible K c x y → Point (R .n) x × Point (R .n) y × (x < y)
-  -- a crossing that settles K names points
-  pub crossing-points : (K : List Edge) (p q r s : ℕ) → Reached R K → R .Settles K p q r s → Point (R .n) p × Point (R .n) q × Point (R .n) r × Point (R .n) s
-  -- a crossing is refused by 15 or 16
+  -- a 3-opt closing that settles K names points
+  pub three-opt-points : (K : List Edge) (p q r s : ℕ) → Reached R K → R .Settles K p q r s → Point (R .n) p × Point (R .n) q × Point (R .n) r × Point (R .n) s
+  -- a 3-opt closing is refused by 15 or 16
   pub closing-number : (K : List Edge) (p q r s : ℕ) → 1 ≤ R .closing K p q r s → (15 ≤ R .closing K p q r s) × (R .closing K p q r s ≤ 16)

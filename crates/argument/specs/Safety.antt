@@ -12,7 +12,7 @@ use Rattle.argument.specs.Sheet.{Marking}
 pub record Upheld (R : Rules) (Good : List Edge → Type 0) : Type 0 where
   -- the tour's own pair at a point is feasible, and the tour uses K with it
   pub keeps : (K : List Edge) (c : ℕ) → Good K → Point (R .n) c → (x : ℕ) × (y : ℕ) × R .Feasible K c x y × Good (withPair K c x y)
-  -- no crossing settles a set that the tour uses
+  -- no 3-opt closing settles a set that the tour uses
   pub unsettled : (K : List Edge) (p q r s : ℕ) → Good K → R .Settles K p q r s → ⊥
 
 pub record Guarded {M : Type 0} (𝓜 : Marking M) (Good : List Edge → Type 0) (Kept : M → Type 0) : Type 0 where

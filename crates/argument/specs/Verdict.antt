@@ -12,10 +12,10 @@ unfoldable pub guard : {A : Type 0} → Bool → (number rec : ℕ) → (Unit {0
 guard true number rec go = go tt
 guard false number rec go = refused number rec
 
--- the answer a, unless the number of a refusal stands in its way: 0 is none
-unfoldable pub unless : {A : Type 0} → (number rec : ℕ) → A → Verdict A
-unless zero rec a = accepted a
-unless (suc number) rec a = refused (suc number) rec
+-- refused by the number of a refusal, at a record, or the answer a where the number is 0
+unfoldable pub refusedBy : {A : Type 0} → (number rec : ℕ) → A → Verdict A
+refusedBy zero rec a = accepted a
+refusedBy (suc number) rec a = refused (suc number) rec
 
 -- go on with the result; a refusal stays
 unfoldable pub andThen : {A B : Type 0} → Verdict A → (A → Verdict B) → Verdict B

@@ -6,8 +6,8 @@ use mathlib.Core.List.{List, [], _∷_}
 use lib.Dec.{leb, ltb, eqb}
 use Rattle.lengths.specs.Edge.{Edge, edge}
 use Rattle.sets.specs.EdgeSet.{withPair}
-use Rattle.argument.specs.Verdict.{Verdict, accepted, refused, guard, unless, andThen}
-use Rattle.argument.specs.Record.{How, splits, crosses, Record, line, case, other, records, recordAt, fits}
+use Rattle.argument.specs.Verdict.{Verdict, accepted, refused, guard, refusedBy, andThen}
+use Rattle.argument.specs.Record.{How, splits, threeOpts, Record, line, case, other, records, recordAt, fits}
 use Rattle.argument.specs.Rules.{Rules}
 
 -- where a walk stands in a chain of cases: at an index that is yet to be followed
@@ -77,7 +77,7 @@ behind q next high = record { left = q .left; known = q .known; point = q .point
 -- above; 16, no labelling saves". It answers the highest record entered.
 unfoldable pub close : Rules → (go : Spot → Verdict ℕ) (left : ℕ) (K : List Edge) (i : ℕ) → How → Verdict ℕ
 close R go left K i (splits c first) = guard (ltb 0 left) 13 i λ _. go (opening R left K i c first)
-close R go left K i (crosses p q r s) = unless (R .closing K p q r s) i i
+close R go left K i (threeOpts p q r s) = refusedBy (R .closing K p q r s) i i
 
 -- a chain at its next index, whose further chains are left to `go`
 unfoldable pub act : Rules → (go : Spot → Verdict ℕ) → Spot → Step → Verdict ℕ

@@ -1,5 +1,5 @@
--- The closing's test is exact: `crossedBy` answers Settled exactly when the closing settles K, NoCrossing (refusal 15) exactly when
--- no ends make the edge and the centres a crossing, and NoSaving (refusal 16) in the cases left. Assumes nothing.
+-- The closing's test is exact: `threeOptOutcome` answers Settled exactly when the closing settles K, NoMoves (refusal 15) exactly when
+-- no ends make the edge and the centres a 3-opt closing, and NoSaving (refusal 16) in the cases left. Assumes nothing.
 use Prim.Native.Nat.{ℕ, _+_}
 use mathlib.Core.Path.{_≡_, refl, sym, _∙_}
 use mathlib.Core.Bool.{Bool, true, false, not, cond, false≢true}
@@ -9,37 +9,37 @@ use native.Mathlib.Omega.{arith}
 use lib.Dec.{eqb, ltb}
 use borrow.Author.Tests.{eqb-false, ne-eqb, ltb-true, lt-ltb, not-true}
 use Rattle.lengths.specs.Edge.{Edge}
-use Rattle.sets.specs.EdgeSet.{Ends}
-use Rattle.closings.specs.Closing.{Saves, Crossing, Closes}
+use Rattle.sets.specs.EdgeSet.{DegreeTwo}
+use Rattle.closings.specs.Closing.{Saves, ThreeOptMoves, Closes}
 use Rattle.sets.specs.Joined.{has?}
-use Rattle.sets.specs.Near.{endsOf}
-use Rattle.closings.specs.ClosingTest.{saves?, labelling?, apart?, placed?, crossedBy}
-use Rattle.sets.specs.declared.near.Ends as near
-use Rattle.sets.specs.declared.near.Ends.the-variants.{Two, Other}
-use Rattle.closings.specs.declared.closing.Crossed.the-variants.{Settled, NoCrossing, NoSaving}
+use Rattle.sets.specs.Neighbours.{endsOf}
+use Rattle.closings.specs.ClosingTest.{saves?, labelling?, centresApart?, placed?, threeOptOutcome}
+use Rattle.sets.specs.declared.neighbours.Ends as neighbours
+use Rattle.sets.specs.declared.neighbours.Ends.the-variants.{Two, Other}
+use Rattle.closings.specs.declared.closing.ThreeOptOutcome.the-variants.{Settled, NoMoves, NoSaving}
 use Rattle.lists.proofs.Bools.{and-true, or-true, true-or}
 use Rattle.sets.proofs.Laws.Joined.{has-exact}
-use Rattle.sets.proofs.Laws.Near.{ends-sound, ends-complete}
-use Rattle.closings.proofs.Crossings.{unplaced, no-ends-r, no-ends-s, both-ends, answer}
+use Rattle.sets.proofs.Laws.Neighbours.{ends-sound, ends-complete}
+use Rattle.closings.proofs.ClosingTests.{unplaced, no-ends-r, no-ends-s, both-ends, answer}
 
 -- the three answers are different, and so are the two of `endsOf`
-settled-crosses : Settled ≡ NoCrossing → ⊥
-settled-crosses e = let z : _≡_ {A = ℕ} 0 1 = cc in omega arith
+settled-not-unplaced : Settled ≡ NoMoves → ⊥
+settled-not-unplaced e = let z : _≡_ {A = ℕ} 0 1 = cc in omega arith
 
 settled-saves : Settled ≡ NoSaving → ⊥
 settled-saves e = let z : _≡_ {A = ℕ} 0 1 = cc in omega arith
 
-saving-crosses : NoSaving ≡ NoCrossing → ⊥
-saving-crosses e = let z : _≡_ {A = ℕ} 0 1 = cc in omega arith
+no-saving-not-unplaced : NoSaving ≡ NoMoves → ⊥
+no-saving-not-unplaced e = let z : _≡_ {A = ℕ} 0 1 = cc in omega arith
 
-no-ends : (K : List Edge) (r x y : ℕ) → endsOf K r ≡ Other → Ends K r x y → ⊥
+no-ends : (K : List Edge) (r x y : ℕ) → endsOf K r ≡ Other → DegreeTwo K r x y → ⊥
 no-ends K r x y e h = ⊎-elim (differ x y) (differ y x) (ends-complete K r x y h)
   where
     differ : (a b : ℕ) → endsOf K r ≡ Two a b → ⊥
     differ a b f = let z : _≡_ {A = ℕ} 0 1 = cc in omega arith
 
 -- the ends of a centre, named the other way round
-ends-swap : {K : List Edge} {r x y : ℕ} → Ends K r x y → Ends K r y x
+ends-swap : {K : List Edge} {r x y : ℕ} → DegreeTwo K r x y → DegreeTwo K r y x
 ends-swap h =
     record {
       apart = λ e. h .apart (sym e);
@@ -50,11 +50,11 @@ ends-swap h =
 
 -- the edge and the centres: the test and the conditions
 module _ (K : List Edge) (p q r s : ℕ) where
-  crossing-of : {x y z w : ℕ} → placed? K p q r s ≡ true → Ends K r x y → Ends K s z w → Crossing K p q r s x y z w
-  unfolding placed? apart?
-  crossing-of h i j =
+  moves-of : {x y z w : ℕ} → placed? K p q r s ≡ true → DegreeTwo K r x y → DegreeTwo K s z w → ThreeOptMoves K p q r s x y z w
+  unfolding placed? centresApart?
+  moves-of h i j =
       let a = and-true (has? K p q) _ h in
-      let b = and-true (apart? p q r s) (not (has? K r s)) (a .1) in
+      let b = and-true (centresApart? p q r s) (not (has? K r s)) (a .1) in
       let c = and-true (not (eqb r s)) _ (b .0) in
       let d = and-true (not (eqb r p)) _ (c .1) in
       let e = and-true (not (eqb r q)) _ (d .1) in
@@ -71,13 +71,13 @@ module _ (K : List Edge) (p q r s : ℕ) where
         ends-s = j;
       }
 
-  placed-of : {x y z w : ℕ} → Crossing K p q r s x y z w → placed? K p q r s ≡ true
-  unfolding placed? apart?
+  placed-of : {x y z w : ℕ} → ThreeOptMoves K p q r s x y z w → placed? K p q r s ≡ true
+  unfolding placed? centresApart?
   placed-of h =
       let free : has? K r s ≡ false = not-has (has? K r s) refl in
       rw (
         placed?,
-        apart?,
+        centresApart?,
         has-exact K p q .1 (h .edge-of-K),
         free,
         ne-eqb r s (h .centres),
@@ -118,8 +118,8 @@ module _ (l : ℕ → ℕ → ℕ) (p q r s : ℕ) where
         (inr (true-or (saves? l p q r s y x z w) _ (inr (true-or (saves? l p q r s x y w z) _ (inr h))))),
   )
 
-  -- and the four labellings are the four ways to name the ends of a crossing
-  closes-of : {K : List Edge} (x y z w : ℕ) → labelling? l p q r s x y z w ≡ true → Crossing K p q r s x y z w → Closes l K p q r s
+  -- and the four labellings are the four ways to name the ends of a 3-opt closing
+  closes-of : {K : List Edge} (x y z w : ℕ) → labelling? l p q r s x y z w ≡ true → ThreeOptMoves K p q r s x y z w → Closes l K p q r s
   unfolding labelling?
   closes-of {K} x y z w h c =
       ⊎-elim (λ e. by x y z w (c .ends-r) (c .ends-s) e)
@@ -130,14 +130,14 @@ module _ (l : ℕ → ℕ → ℕ) (p q r s : ℕ) where
       (or-true _ _ h))
       (or-true _ _ h)
     where
-      by : (x y z w : ℕ) → Ends K r x y → Ends K s z w → saves? l p q r s x y z w ≡ true → Closes l K p q r s
+      by : (x y z w : ℕ) → DegreeTwo K r x y → DegreeTwo K s z w → saves? l p q r s x y z w ≡ true → Closes l K p q r s
       by x y z w i j e =
           record {
             x = x;
             y = y;
             z = z;
             w = w;
-            crossing =
+            moves =
                 record {
                   edge-of-K = c .edge-of-K;
                   centres = c .centres;
@@ -152,106 +152,106 @@ module _ (l : ℕ → ℕ → ℕ) (p q r s : ℕ) where
             saves = saves-of x y z w e;
           }
 
--- a crossing that settles nothing
+-- a 3-opt closing that settles nothing
 pub record Unsaved (l : ℕ → ℕ → ℕ) (K : List Edge) (p q r s : ℕ) : Type 0 where
   pub x : ℕ
   pub y : ℕ
   pub z : ℕ
   pub w : ℕ
-  pub crossing : Crossing K p q r s x y z w
+  pub moves : ThreeOptMoves K p q r s x y z w
   pub unsettled : Closes l K p q r s → ⊥
 
--- What the test finds: no crossing, or a crossing with its ends, whose labellings decide.
-data Judged (l : ℕ → ℕ → ℕ) (K : List Edge) (p q r s : ℕ) : Type 0 where
-  none : crossedBy l K p q r s ≡ NoCrossing → ((x y z w : ℕ) → Crossing K p q r s x y z w → ⊥) → Judged l K p q r s
-  some : (x y z w : ℕ) → Crossing K p q r s x y z w → crossedBy l K p q r s ≡ cond (labelling? l p q r s x y z w) Settled NoSaving
-      → Judged l K p q r s
+-- What the test finds: no 3-opt closing, or a 3-opt closing with its ends, whose labellings decide.
+data TestFinds (l : ℕ → ℕ → ℕ) (K : List Edge) (p q r s : ℕ) : Type 0 where
+  none : threeOptOutcome l K p q r s ≡ NoMoves → ((x y z w : ℕ) → ThreeOptMoves K p q r s x y z w → ⊥) → TestFinds l K p q r s
+  some : (x y z w : ℕ) → ThreeOptMoves K p q r s x y z w → threeOptOutcome l K p q r s ≡ cond (labelling? l p q r s x y z w) Settled NoSaving
+      → TestFinds l K p q r s
 
--- The proof of the three theorems. The tests of pq, of the centres and of rs are 01's conditions one for one, so a crossing passes
+-- The proof of the three theorems. The tests of pq, of the centres and of rs are 01's conditions one for one, so a 3-opt closing passes
 -- them, and where they pass only the ends are open. `endsOf` answers two ends exactly where a centre has them; so the test finds no
--- crossing, or the ends x, y, z, w of one. Whoever names the ends of the same centres names these, each pair in this order or swapped:
+-- 3-opt closing, or the ends x, y, z, w of one. Whoever names the ends of the same centres names these, each pair in this order or swapped:
 -- a labelling that saves under one choice of names is one of the four under every other. So the four tests at the ends found decide
 -- whether any choice of names saves on both moves, which is what `Closes` asks.
 module _ (l : ℕ → ℕ → ℕ) (K : List Edge) (p q r s : ℕ) where
-  judged : Judged l K p q r s
+  judged : TestFinds l K p q r s
   judged = go (placed? K p q r s) refl (endsOf K r) refl (endsOf K s) refl
     where
-      go : (t : Bool) → placed? K p q r s ≡ t → (e : near.Ends) → endsOf K r ≡ e → (f : near.Ends) → endsOf K s ≡ f → Judged l K p q r s
+      go : (t : Bool) → placed? K p q r s ≡ t → (e : neighbours.Ends) → endsOf K r ≡ e → (f : neighbours.Ends) → endsOf K s ≡ f → TestFinds l K p q r s
       go false h e i f j = none (unplaced l K p q r s h) (λ x y z w c. false≢true (sym h ∙ placed-of K p q r s c))
       go true h Other i f j = none (no-ends-r l K p q r s h i) (λ x y z w c. no-ends K r x y i (c .ends-r))
       go true h (Two x y) i Other j = none (no-ends-s l K p q r s h i j) (λ x y z w c. no-ends K s z w j (c .ends-s))
       go true h (Two x y) i (Two z w) j =
-          some x y z w (crossing-of K p q r s h (ends-sound K r x y i) (ends-sound K s z w j)) (both-ends l K p q r s h i j)
+          some x y z w (moves-of K p q r s h (ends-sound K r x y i) (ends-sound K s z w j)) (both-ends l K p q r s h i j)
 
-  settled-closes : crossedBy l K p q r s ≡ Settled → Closes l K p q r s
+  settled-closes : threeOptOutcome l K p q r s ≡ Settled → Closes l K p q r s
   settled-closes h = go judged
     where
       saving : (t : Bool) → Settled ≡ cond t Settled NoSaving → t ≡ true
       saving true e = refl
       saving false e = absurd (settled-saves e)
 
-      go : Judged l K p q r s → Closes l K p q r s
-      go (none e n) = absurd (settled-crosses (sym h ∙ e))
+      go : TestFinds l K p q r s → Closes l K p q r s
+      go (none e n) = absurd (settled-not-unplaced (sym h ∙ e))
       go (some x y z w c e) = closes-of l p q r s x y z w (saving _ (sym h ∙ e)) c
 
-  closes-settled : Closes l K p q r s → crossedBy l K p q r s ≡ Settled
+  closes-settled : Closes l K p q r s → threeOptOutcome l K p q r s ≡ Settled
   closes-settled h =
       let four = labelled l p q r s (h .x) (h .y) (h .z) (h .w) (of-saves l p q r s (h .saves)) in
       ⊎-elim (λ i. ⊎-elim (λ j. by i j (four .0)) (λ j. by i j (four .1)) ends-s)
       (λ i. ⊎-elim (λ j. by i j (four .2)) (λ j. by i j (four .3)) ends-s)
-      (ends-complete K r (h .x) (h .y) (h .crossing .ends-r))
+      (ends-complete K r (h .x) (h .y) (h .moves .ends-r))
     where
       ends-s : (endsOf K s ≡ Two (h .z) (h .w)) ⊎ (endsOf K s ≡ Two (h .w) (h .z))
-      ends-s = ends-complete K s (h .z) (h .w) (h .crossing .ends-s)
+      ends-s = ends-complete K s (h .z) (h .w) (h .moves .ends-s)
 
-      by : {x y z w : ℕ} → endsOf K r ≡ Two x y → endsOf K s ≡ Two z w → labelling? l p q r s x y z w ≡ true → crossedBy l K p q r s ≡ Settled
-      by i j e = sym (answer l K p q r s (placed-of K p q r s (h .crossing)) i j e)
+      by : {x y z w : ℕ} → endsOf K r ≡ Two x y → endsOf K s ≡ Two z w → labelling? l p q r s x y z w ≡ true → threeOptOutcome l K p q r s ≡ Settled
+      by i j e = sym (answer l K p q r s (placed-of K p q r s (h .moves)) i j e)
 
   -- Settled exactly when the closing settles K
-  pub settled-exact : (crossedBy l K p q r s ≡ Settled) ↔ Closes l K p q r s
+  pub settled-exact : (threeOptOutcome l K p q r s ≡ Settled) ↔ Closes l K p q r s
   settled-exact = (settled-closes, closes-settled)
 
-  refused-uncrossed : crossedBy l K p q r s ≡ NoCrossing → (x y z w : ℕ) → Crossing K p q r s x y z w → ⊥
-  refused-uncrossed h = go judged
+  refused-no-moves : threeOptOutcome l K p q r s ≡ NoMoves → (x y z w : ℕ) → ThreeOptMoves K p q r s x y z w → ⊥
+  refused-no-moves h = go judged
     where
-      saved : (t : Bool) → cond t Settled NoSaving ≡ NoCrossing → ⊥
-      saved true e = settled-crosses e
-      saved false e = saving-crosses e
+      saved : (t : Bool) → cond t Settled NoSaving ≡ NoMoves → ⊥
+      saved true e = settled-not-unplaced e
+      saved false e = no-saving-not-unplaced e
 
-      go : Judged l K p q r s → (x y z w : ℕ) → Crossing K p q r s x y z w → ⊥
+      go : TestFinds l K p q r s → (x y z w : ℕ) → ThreeOptMoves K p q r s x y z w → ⊥
       go (none e n) = n
       go (some x y z w c e) = absurd (saved (labelling? l p q r s x y z w) (sym e ∙ h))
 
-  uncrossed-refused : ((x y z w : ℕ) → Crossing K p q r s x y z w → ⊥) → crossedBy l K p q r s ≡ NoCrossing
-  uncrossed-refused h = go judged
+  no-moves-refused : ((x y z w : ℕ) → ThreeOptMoves K p q r s x y z w → ⊥) → threeOptOutcome l K p q r s ≡ NoMoves
+  no-moves-refused h = go judged
     where
-      go : Judged l K p q r s → crossedBy l K p q r s ≡ NoCrossing
+      go : TestFinds l K p q r s → threeOptOutcome l K p q r s ≡ NoMoves
       go (none e n) = e
       go (some x y z w c e) = absurd (h x y z w c)
 
-  -- NoCrossing exactly when the edge and the centres break a condition of a crossing (refusal 15)
-  pub no-crossing-exact : (crossedBy l K p q r s ≡ NoCrossing) ↔ ((x y z w : ℕ) → Crossing K p q r s x y z w → ⊥)
-  no-crossing-exact = (refused-uncrossed, uncrossed-refused)
+  -- NoMoves exactly when the edge and the centres break a condition of a 3-opt closing (refusal 15)
+  pub no-moves-exact : (threeOptOutcome l K p q r s ≡ NoMoves) ↔ ((x y z w : ℕ) → ThreeOptMoves K p q r s x y z w → ⊥)
+  no-moves-exact = (refused-no-moves, no-moves-refused)
 
-  unsaved-left : crossedBy l K p q r s ≡ NoSaving → Unsaved l K p q r s
+  unsaved-left : threeOptOutcome l K p q r s ≡ NoSaving → Unsaved l K p q r s
   unsaved-left h = go judged
     where
-      go : Judged l K p q r s → Unsaved l K p q r s
-      go (none e n) = absurd (saving-crosses (sym h ∙ e))
+      go : TestFinds l K p q r s → Unsaved l K p q r s
+      go (none e n) = absurd (no-saving-not-unplaced (sym h ∙ e))
       go (some x y z w c e) =
-          record { x = x; y = y; z = z; w = w; crossing = c; unsettled = λ c. settled-saves (sym (closes-settled c) ∙ h) }
+          record { x = x; y = y; z = z; w = w; moves = c; unsettled = λ c. settled-saves (sym (closes-settled c) ∙ h) }
 
-  left-unsaved : Unsaved l K p q r s → crossedBy l K p q r s ≡ NoSaving
+  left-unsaved : Unsaved l K p q r s → threeOptOutcome l K p q r s ≡ NoSaving
   left-unsaved h = go judged
     where
       unsaved : (t : Bool) → (t ≡ true → ⊥) → cond t Settled NoSaving ≡ NoSaving
       unsaved true n = absurd (n refl)
       unsaved false n = refl
 
-      go : Judged l K p q r s → crossedBy l K p q r s ≡ NoSaving
-      go (none e n) = absurd (n (h .x) (h .y) (h .z) (h .w) (h .crossing))
+      go : TestFinds l K p q r s → threeOptOutcome l K p q r s ≡ NoSaving
+      go (none e n) = absurd (n (h .x) (h .y) (h .z) (h .w) (h .moves))
       go (some x y z w c e) = e ∙ unsaved (labelling? l p q r s x y z w) (λ t. h .unsettled (closes-of l p q r s x y z w t c))
 
-  -- NoSaving exactly in the cases left: there is a crossing, and no labelling of it saves (refusal 16)
-  pub no-saving-exact : (crossedBy l K p q r s ≡ NoSaving) ↔ Unsaved l K p q r s
+  -- NoSaving exactly in the cases left: there is a 3-opt closing, and no labelling of it saves (refusal 16)
+  pub no-saving-exact : (threeOptOutcome l K p q r s ≡ NoSaving) ↔ Unsaved l K p q r s
   no-saving-exact = (unsaved-left, left-unsaved)

@@ -1,2 +1,2 @@
 pub mod ClosingExact
-pub mod Crossings
+pub mod ClosingTests

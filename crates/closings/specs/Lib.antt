@@ -1,2 +1,3 @@
+pub mod asks
 pub mod Closing
 pub mod ClosingTest

@@ -1,25 +1,27 @@
 // The 3-opt closing (01, "Arguments": a crossing): its conditions, and the labelling that saves on both moves.
 use lengths::table::length_between;
 use sets::edge_set::EdgeSet;
-use sets::near::Ends;
-use sets::near::ends_of;
+use sets::neighbours::Ends;
+use sets::neighbours::ends_of;
 ghost use mathlib.Core.Path.{_≡_};
 ghost use Prim.Native.Nat.{_+_};
+ghost use Rattle.endian.specs.Bytes.{whole32};
 ghost use Rattle.lengths.specs.Table.{lengthOf};
-ghost use Rattle.closings.specs.ClosingTest.{ThreeEdges, Labelled, Crossable, pick, apart?, placed?, saves?, labelling?, crossedBy};
-ghost use Rattle.sets.specs.Stored.{edgeList, Stored};
+ghost use Rattle.closings.specs.ClosingTest.{centresApart?, placed?, saves?, labelling?, threeOptOutcome};
+ghost use Rattle.closings.specs.asks.ClosingTest.{ThreeEdges, Labelled, ThreeOptAsked, pick};
+ghost use Rattle.sets.specs.asks.Stored.{edgeList, Stored};
 
-// What a 3-opt closing comes to. 01's refusals: NoCrossing is 15, NoSaving is 16, and Settled is none.
-pub enum Crossed {
+// What a 3-opt closing (01's crossing) comes to. 01's refusals: NoMoves is 15, NoSaving is 16, and Settled is none.
+pub enum ThreeOptOutcome {
     Settled,
-    NoCrossing,
+    NoMoves,
     NoSaving,
 }
 
 // The length of the edges ab, cd and ef together.
-fn length_of_three(n: u16, table: &[u32], a: u16, b: u16, c: u16, d: u16, e: u16, f: u16) -> u64
-    requires { ⌜ ThreeEdges n (now table) a b c d e f ⌝ }
-    ensures { λ r. ⌜ r ≡ lengthOf n (now (table .entry)) a b + lengthOf n (now (table .entry)) c d + lengthOf n (now (table .entry)) e f ⌝ }
+fn length_of_three(n: u16, table: &[u8], a: u16, b: u16, c: u16, d: u16, e: u16, f: u16) -> u64
+    requires { ⌜ ThreeEdges n (whole32 (now table)) a b c d e f ⌝ }
+    ensures { λ r. ⌜ r ≡ lengthOf n (whole32 (now (table .entry))) a b + lengthOf n (whole32 (now (table .entry))) c d + lengthOf n (whole32 (now (table .entry))) e f ⌝ }
 {
     length_between(n, table, a, b) + length_between(n, table, c, d) + length_between(n, table, e, f)
 }
@@ -27,7 +29,7 @@ fn length_of_three(n: u16, table: &[u32], a: u16, b: u16, c: u16, d: u16, e: u16
 // Do both moves save, by this labelling: rs, px, qw for pq, rx, sw, and rs, pz, qy for pq, ry, sz?
 fn both_moves_save(
     n: u16,
-    table: &[u32],
+    table: &[u8],
     p: u16,
     q: u16,
     r: u16,
@@ -37,8 +39,8 @@ fn both_moves_save(
     z: u16,
     w: u16,
 ) -> bool
-    requires { ⌜ Labelled n (now table) p q r s x y z w ⌝ }
-    ensures { λ b. ⌜ b ≡ saves? (lengthOf n (now (table .entry))) p q r s x y z w ⌝ }
+    requires { ⌜ Labelled n (whole32 (now table)) p q r s x y z w ⌝ }
+    ensures { λ b. ⌜ b ≡ saves? (lengthOf n (whole32 (now (table .entry)))) p q r s x y z w ⌝ }
 {
     if length_of_three(n, table, r, s, p, x, q, w) < length_of_three(n, table, p, q, r, x, s, w) {
         return length_of_three(n, table, r, s, p, z, q, y)
@@ -60,7 +62,7 @@ fn end_by(swap: u8, a: u16, b: u16) -> u16
 // Do both moves save by some labelling: x and y swapped or not (i), z and w swapped or not (j)?
 fn some_labelling_saves(
     n: u16,
-    table: &[u32],
+    table: &[u8],
     p: u16,
     q: u16,
     r: u16,
@@ -70,8 +72,8 @@ fn some_labelling_saves(
     z: u16,
     w: u16,
 ) -> bool
-    requires { ⌜ Labelled n (now table) p q r s x y z w ⌝ }
-    ensures { λ b. ⌜ b ≡ labelling? (lengthOf n (now (table .entry))) p q r s x y z w ⌝ }
+    requires { ⌜ Labelled n (whole32 (now table)) p q r s x y z w ⌝ }
+    ensures { λ b. ⌜ b ≡ labelling? (lengthOf n (whole32 (now (table .entry)))) p q r s x y z w ⌝ }
 {
     let mut saves = false;
     'swaps: for i in 0..2u8 {
@@ -89,7 +91,7 @@ fn some_labelling_saves(
 
 // Are r and s different, and neither of them p or q?
 fn centres_apart(p: u16, q: u16, r: u16, s: u16) -> bool
-    ensures { λ b. ⌜ b ≡ apart? p q r s ⌝ }
+    ensures { λ b. ⌜ b ≡ centresApart? p q r s ⌝ }
 {
     if r == s {
         return false;
@@ -120,22 +122,30 @@ fn well_placed(k: EdgeSet, p: u16, q: u16, r: u16, s: u16) -> bool
     !k.has(r, s)
 }
 
-// Does the 3-opt closing with the edge pq and the centres r and s settle k?
-pub fn crossing(n: u16, table: &[u32], k: EdgeSet, p: u16, q: u16, r: u16, s: u16) -> Crossed
-    requires { ⌜ Crossable n (now table) k p q r s ⌝ }
-    ensures { λ c. ⌜ c ≡ crossedBy (lengthOf n (now (table .entry))) (edgeList k) p q r s ⌝ }
+// Does the 3-opt closing with the edge pq and the centres r and s (01's crossing) settle k?
+pub fn close_by_three_opt(
+    n: u16,
+    table: &[u8],
+    k: EdgeSet,
+    p: u16,
+    q: u16,
+    r: u16,
+    s: u16,
+) -> ThreeOptOutcome
+    requires { ⌜ ThreeOptAsked n (whole32 (now table)) k p q r s ⌝ }
+    ensures { λ c. ⌜ c ≡ threeOptOutcome (lengthOf n (whole32 (now (table .entry)))) (edgeList k) p q r s ⌝ }
 {
     if !well_placed(k, p, q, r, s) {
-        return Crossed::NoCrossing;
+        return ThreeOptOutcome::NoMoves;
     }
     let Ends::Two(x, y) = ends_of(k, r) else {
-        return Crossed::NoCrossing;
+        return ThreeOptOutcome::NoMoves;
     };
     let Ends::Two(z, w) = ends_of(k, s) else {
-        return Crossed::NoCrossing;
+        return ThreeOptOutcome::NoMoves;
     };
     if some_labelling_saves(n, table, p, q, r, s, x, y, z, w) {
-        return Crossed::Settled;
+        return ThreeOptOutcome::Settled;
     }
-    Crossed::NoSaving
+    ThreeOptOutcome::NoSaving
 }

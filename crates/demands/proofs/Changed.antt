@@ -14,7 +14,7 @@ use Rattle.lengths.specs.Edge.{edge, IsEdge, edgeCount, place}
 use Rattle.lengths.proofs.Edges.{place-below}
 use Rattle.sets.specs.EdgeSet.{Joins, Has}
 use Rattle.marks.specs.Mark.{openIn, strikeIn}
-use Rattle.tours.proofs.Edges.{joins?}
+use Rattle.tours.proofs.Edges.{joins-dec}
 use Rattle.argument.specs.Line.{Struck, strikes, CompleteAt, CompleteLine}
 use Rattle.argument.specs.Sheet.{Place, Result, struck, start, CompleteLines, Answers}
 use Rattle.sheets.specs.Rules.{rulesOf, markingOf}
@@ -70,7 +70,7 @@ module _ (n : ℕ) (table sheet : List ℕ) where
     unfolding CompleteLines struck
     stays-struck [] p q whole e h = subst (λ (z : Place (List ℕ)). openIn n (z .marks) c d ≡ false) e h
     stays-struck (strikes a b next high ∷ xs) p q whole l h =
-        stays-struck xs (struck (markingOf n table) p (strikes a b next high)) q (length-struck n (p .marks) a b ∙ whole) (l .2) (by (joins? a b c d))
+        stays-struck xs (struck (markingOf n table) p (strikes a b next high)) q (length-struck n (p .marks) a b ∙ whole) (l .2) (by (joins-dec a b c d))
       where
         ab : IsEdge n a b
         ab = line-edge (p .marks) (p .index) a b next high (l .1)
@@ -85,7 +85,7 @@ module _ (n : ℕ) (table sheet : List ℕ) where
         (openIn n (strikeIn n marks a b) c d ≡ false → openIn n left c d ≡ false) →
         (Has (struckEdges xs) c d ↔ ((openIn n (strikeIn n marks a b) c d ≡ true) × (openIn n left c d ≡ false))) →
         Has (edge a b ∷ struckEdges xs) c d ↔ ((openIn n marks c d ≡ true) × (openIn n left c d ≡ false))
-    line-exactly marks left xs a b whole ab o stays rest = (to, from (joins? a b c d))
+    line-exactly marks left xs a b whole ab o stays rest = (to, from (joins-dec a b c d))
       where
         before : openIn n (strikeIn n marks a b) c d ≡ true → Dec (Joins (edge a b) c d) → openIn n marks c d ≡ true
         before h (yes j) = absurd (false≢true (sym (struck-same marks whole ab c d j) ∙ h))
@@ -93,7 +93,7 @@ module _ (n : ℕ) (table sheet : List ℕ) where
 
         to : Has (edge a b ∷ struckEdges xs) c d → (openIn n marks c d ≡ true) × (openIn n left c d ≡ false)
         to (inl j) = (open-joined n marks a b c d j ∙ o, stays (struck-same marks whole ab c d j))
-        to (inr h) = let r = rest .0 h in (before (r .0) (joins? a b c d), r .1)
+        to (inr h) = let r = rest .0 h in (before (r .0) (joins-dec a b c d), r .1)
 
         from : Dec (Joins (edge a b) c d) → (openIn n marks c d ≡ true) × (openIn n left c d ≡ false) → Has (edge a b ∷ struckEdges xs) c d
         from (yes j) h = inl j

@@ -17,9 +17,9 @@ use Rattle.argument.proofs.Numbers.{refusal-told}
 use Rattle.argument.proofs.SheetExact.{chain-length, sheet-exact}
 use Rattle.sheets.proofs.Records.{sheet-records}
 use Rattle.sheets.specs.Rules.{rulesOf, markingOf}
-use Rattle.sheets.specs.Sheets.{wholeSheet}
+use Rattle.sheets.specs.Sheet.{wholeSheet}
 use Rattle.marking.proofs.Tested.{passed}
-use Rattle.marking.specs.Marking.{markSheet, markTested, turnedDown}
+use Rattle.marking.specs.Mark.{markSheet, markTested, turnedDown}
 use Rattle.marking.specs.Tests.{tested}
 use Rattle.marking.specs.declared.tests.Tested.{Tested}
 use Rattle.marking.specs.declared.tests.Tested.the-variants.{Points, Refused}
@@ -30,7 +30,7 @@ use Rattle.demands.proofs.Lawful.{lawful}
 -- DEMAND 2: a line, entered as record i, is accepted exactly when it is a complete line: it names two different points, their edge is
 -- open, and a complete argument for it is laid out behind the record, at most six splits deep.
 -- The walk accepts exactly the complete arguments laid out there (`line-sound`, `line-complete`), since the rules are lawful: on every set
--- that an argument comes to, the walk's list has exactly the feasible pairs, and its number is 0 exactly where the crossing settles.
+-- that an argument comes to, the walk's list has exactly the feasible pairs, and its number is 0 exactly where the 3-opt closing settles.
 pub demand-2 :
     (n : ℕ) (table marks sheet : List ℕ) (i a b next high : ℕ) →
     (judge (rulesOf n table marks) (openIn n marks) sheet i ≡ accepted (strikes a b next high)) ↔ CompleteLine (rulesOf n table marks) (openIn n marks) sheet i a b next high

@@ -7,7 +7,7 @@ use mathlib.Core.Logic.{⊎-elim}
 use mathlib.Core.List.{List, [], _∷_, map}
 use native.Mathlib.Omega.{arith}
 use lib.ListN.{length, replicate}
-use borrow.Author.Tests.{le-leb, eq-eqb}
+use borrow.Author.Tests.{le-leb}
 use Rattle.lengths.specs.Edge.{edgeCount}
 use Rattle.lengths.specs.Instance.{leastPoints, mostPoints, inRange}
 use Rattle.lengths.specs.Table.{lengthOf}
@@ -19,11 +19,11 @@ use Rattle.tours.proofs.ThreeOptimal.{shortest-optimal}
 use Rattle.argument.specs.Sheet.{sheet, run}
 use Rattle.argument.proofs.Safe.{sheet-safe, run-keeps}
 use Rattle.sheets.specs.Rules.{markingOf}
-use Rattle.sheets.specs.Sheets.{wholeSheet}
+use Rattle.sheets.specs.Sheet.{wholeSheet}
 use Rattle.endian.specs.Bytes.{whole16, whole32}
 use Rattle.marks.specs.Fresh.{freshAnswer, freshMarks, freshLeft}
-use Rattle.marks.proofs.FreshMarks.{fresh-size, fresh-open}
-use Rattle.marking.specs.Marking.{markSheet, markTested, turnedDown}
+use Rattle.marks.proofs.FreshMarks.{fresh-left, fresh-size, fresh-open}
+use Rattle.marking.specs.Mark.{markSheet, markTested, turnedDown}
 use Rattle.marking.specs.Tests.{tested}
 use Rattle.marking.proofs.Tested.{passed}
 use Rattle.marking.specs.declared.tests.Tested.{Tested}
@@ -72,16 +72,15 @@ module _ {n : ℕ} (table : List ℕ) {t : List ℕ} (some : leastPoints ≤ n) 
   pub fresh-kept : Kept n t (freshMarks n)
   fresh-kept = record { whole = fresh-size n; all-open = λ a b u. fresh-open (used-edge table some best a b u) }
 
--- what *fresh marks* leaves in a buffer of the right size
-pub fresh-left : (n : ℕ) (before : List ℕ) → leastPoints ≤ n → n ≤ mostPoints → length before ≡ edgeCount n → freshLeft (freshAnswer n (length before)) n before ≡ freshMarks n
-unfolding freshAnswer inRange
-fresh-left n before some most whole = rw (freshAnswer, inRange, le-leb leastPoints n some, le-leb n mostPoints most, eq-eqb (length before) (edgeCount n) whole)
+in-limits : {n : ℕ} → leastPoints ≤ n → n ≤ mostPoints → inRange n ≡ true
+unfolding inRange
+in-limits {n} some most = rw (inRange, le-leb leastPoints n some, le-leb n mostPoints most)
 
 -- Take a tour of n points that no exchange of at most three edges shortens. On fresh marks all its edges are open. Suppose that they are
 -- open before a call. If the call is refused before its first line, no mark changes. If not, it states the n of the table, since
 -- n(n - 1)/2 tells n, and its lines are judged one after the other. An accepted line has a closed argument for its edge ab. If the tour used ab,
 -- its own two neighbours of each split point would be a feasible pair, so the argument would have a case for them, and a further
--- split or a crossing that settles it; going down, some crossing would settle a set of edges that the tour uses, and one of its two moves
+-- split or a 3-opt closing that settles it; going down, some 3-opt closing would settle a set of edges that the tour uses, and one of its two moves
 -- would shorten the tour. So ab is no edge of the tour, and striking it leaves the tour's edges open.
 pub three-optimal-open :
     (n : ℕ) → leastPoints ≤ n → n ≤ mostPoints → (table : List ℕ) → length table ≡ edgeCount n → (before : List ℕ) → length before ≡ edgeCount n →
@@ -89,7 +88,7 @@ pub three-optimal-open :
     openIn n (runOf table calls (freshLeft (freshAnswer n (length before)) n before)) a b ≡ true
 three-optimal-open n some most table whole before sized calls t best a b u =
     let kept = run-kept table some whole best calls (freshMarks n) (fresh-kept table some whole best) in
-    rw (fresh-left n before some most sized) (kept .all-open a b u)
+    rw (fresh-left n before (in-limits some most) sized) (kept .all-open a b u)
 
 -- DEMAND 3: for every n from 4 to 180, every table of n(n - 1)/2 lengths, every list of calls and every shortest tour, each edge of
 -- the tour is open after the run that starts from the marks that *fresh marks* left in a buffer for this n.

@@ -16,7 +16,7 @@ use Rattle.marks.specs.Mark.{openIn, strikeIn}
 use Rattle.rules.specs.Pair.{FeasiblePair}
 use Rattle.tours.specs.Tour.{Uses, ThreeOptimal, Symmetric}
 use Rattle.tours.proofs.Edges.{inside-cons, has-sym}
-use Rattle.tours.proofs.Neighbours.{tour-no-loop, uses-point}
+use Rattle.tours.proofs.TourNeighbours.{tour-no-loop, uses-point}
 use Rattle.argument.specs.Safety.{Upheld, Guarded}
 use Rattle.sheets.specs.Rules.{rulesOf, markingOf}
 use Rattle.demands.proofs.Lawful.{lawful}

@@ -8,13 +8,13 @@ use native.Mathlib.Omega.{arith}
 use Rattle.lengths.specs.Edge.{Edge, edge, Point}
 use Rattle.lengths.specs.Table.{lengthOf}
 use Rattle.lengths.proofs.Tables.{length-symmetric}
-use Rattle.closings.specs.ClosingTest.{crossedBy, refusalOf}
+use Rattle.closings.specs.ClosingTest.{threeOptOutcome, refusalOf}
 use Rattle.sets.specs.EdgeSet.{Has, withPair}
 use Rattle.marks.specs.Mark.{openIn}
 use Rattle.rules.specs.Pairs.{feasiblePairs}
 use Rattle.sets.specs.Shape.{Shape}
-use Rattle.closings.specs.declared.closing.Crossed.{Crossed}
-use Rattle.closings.specs.declared.closing.Crossed.the-variants.{Settled, NoCrossing, NoSaving}
+use Rattle.closings.specs.declared.closing.ThreeOptOutcome.{ThreeOptOutcome}
+use Rattle.closings.specs.declared.closing.ThreeOptOutcome.the-variants.{Settled, NoMoves, NoSaving}
 use Rattle.closings.proofs.ClosingExact.{settled-exact}
 use Rattle.sets.proofs.Exact.{shape-exact, kept-shape, single-shape}
 use Rattle.rules.proofs.PairLists.{feasiblePairs-rising}
@@ -22,20 +22,20 @@ use Rattle.rules.proofs.PairTests.{feasiblePairs-iff}
 use Rattle.argument.specs.Rules.{NamesFeasible, Reached, single, grown, Lawful}
 use Rattle.sheets.specs.Rules.{rulesOf}
 
-zero-settled : (c : Crossed) → refusalOf c ≡ 0 → c ≡ Settled
+zero-settled : (c : ThreeOptOutcome) → refusalOf c ≡ 0 → c ≡ Settled
 unfolding refusalOf
 zero-settled Settled h = refl
-zero-settled NoCrossing h = absurd (omega arith)
+zero-settled NoMoves h = absurd (omega arith)
 zero-settled NoSaving h = absurd (omega arith)
 
 settled-zero : refusalOf Settled ≡ 0
 unfolding refusalOf
 settled-zero = refl
 
-refused-number : (c : Crossed) → 1 ≤ refusalOf c → (15 ≤ refusalOf c) × (refusalOf c ≤ 16)
+refused-number : (c : ThreeOptOutcome) → 1 ≤ refusalOf c → (15 ≤ refusalOf c) × (refusalOf c ≤ 16)
 unfolding refusalOf
 refused-number Settled h = absurd (omega arith)
-refused-number NoCrossing h = (omega arith, omega arith)
+refused-number NoMoves h = (omega arith, omega arith)
 refused-number NoSaving h = (omega arith, omega arith)
 
 -- every edge of K joins two of the points 1 to n
@@ -70,12 +70,12 @@ module _ (n : ℕ) (table marks : List ℕ) where
   lawful =
       record {
         listed = names-feasible;
-        settled = λ K p q r s h. settled-exact (lengthOf n table) K p q r s .0 (zero-settled (crossedBy (lengthOf n table) K p q r s) h);
+        settled = λ K p q r s h. settled-exact (lengthOf n table) K p q r s .0 (zero-settled (threeOptOutcome (lengthOf n table) K p q r s) h);
         settles = λ K p q r s c. ap refusalOf (settled-exact (lengthOf n table) K p q r s .1 c) ∙ settled-zero;
         pair-points = λ K c x y f. (f .point-x, f .point-y, f .rising);
-        crossing-points = λ K p q r s reached c.
+        three-opt-points = λ K p q r s reached c.
             let w = reached-within reached in
-            let x = c .crossing in
+            let x = c .moves in
             (w p q (x .edge-of-K) .0, w p q (x .edge-of-K) .1, w r (c .x) (x .ends-r .has-x) .0, w s (c .z) (x .ends-s .has-x) .0);
-        closing-number = λ K p q r s. refused-number (crossedBy (lengthOf n table) K p q r s);
+        closing-number = λ K p q r s. refused-number (threeOptOutcome (lengthOf n table) K p q r s);
       }

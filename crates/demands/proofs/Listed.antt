@@ -8,6 +8,8 @@ use lib.Dec.{leb}
 use lib.ListN.{length, drop, length-append, length-drop}
 use lib.Seq.{take-at, drop-at}
 use borrow.Author.Tests.{leb-true}
+use Rattle.endian.specs.Bytes.{bytes16}
+use Rattle.endian.proofs.Writing.{bytes-length}
 use Rattle.lengths.specs.Edge.{Edge, edge}
 use Rattle.lists.specs.Test.{unless}
 use Rattle.marks.specs.Mark.{openIn}
@@ -18,7 +20,7 @@ use Rattle.argument.proofs.Tests.{fits-means}
 use Rattle.sheets.specs.Rules.{rulesOf}
 use Rattle.marking.proofs.Tested.{passed}
 use Rattle.enumeration.specs.Find.{pairsAt, numbersOf}
-use Rattle.marking.specs.Listing.{listTested, listed, listLeft}
+use Rattle.marking.specs.Listing.{listTested, listed, listLeft, placesOf}
 use Rattle.marking.specs.Tests.{tested}
 use Rattle.marking.specs.declared.listing.Listed.{Listed}
 use Rattle.marking.specs.declared.listing.Listed.the-variants as listing
@@ -44,42 +46,43 @@ module _ (n : ℕ) (table marks : List ℕ) (a b c : ℕ) where
       let f = fits-means n a b (splits c 0) h in
       lawful n table marks .listed (edge a b ∷ []) c (single (f .point-a) (f .point-b) (f .apart))
 
-  -- "x then y for each pair", and the rest as it was
-  pairs-written : (list : List ℕ) (count : ℕ) → NamesFeasible (rulesOf n table marks) (edge a b ∷ []) c (pairsAt n table marks a b c) → count ≡ length (pairsAt n table marks a b c) → 2 * count ≤ length list →
-      ListsFeasible n table marks a b c list (numbersOf (pairsAt n table marks a b c) ++ drop (2 * count) list) count
+  -- "x then y for each pair", 16 bits each, and the rest as it was
+  pairs-written : (list : List ℕ) (count : ℕ) → NamesFeasible (rulesOf n table marks) (edge a b ∷ []) c (pairsAt n table marks a b c) → count ≡ length (pairsAt n table marks a b c) → 2 * count ≤ placesOf list →
+      ListsFeasible n table marks a b c list (bytes16 (numbersOf (pairsAt n table marks a b c)) ++ drop (4 * count) list) count
   pairs-written list count f counted room =
-      let size : length (numbersOf (pairsAt n table marks a b c)) ≡ 2 * count = omega (arith, length-numbers (pairsAt n table marks a b c)) in
+      let written : List ℕ = bytes16 (numbersOf (pairsAt n table marks a b c)) in
+      let size : length written ≡ 4 * count = omega (arith, bytes-length 2 (numbersOf (pairsAt n table marks a b c)), length-numbers (pairsAt n table marks a b c)) in
       record {
         pairs = pairsAt n table marks a b c;
         feasible = f;
         counted = counted;
-        front = take-at (numbersOf (pairsAt n table marks a b c)) (drop (2 * count) list) (2 * count) size;
-        past = drop-at (numbersOf (pairsAt n table marks a b c)) (drop (2 * count) list) (2 * count) size;
-        size = omega (arith, size, length-append (numbersOf (pairsAt n table marks a b c)) (drop (2 * count) list), length-drop (2 * count) list);
+        front = take-at written (drop (4 * count) list) (4 * count) size;
+        past = drop-at written (drop (4 * count) list) (4 * count) size;
+        size = omega (arith, size, length-append written (drop (4 * count) list), length-drop (4 * count) list);
       }
 
   -- DEMAND 2 for *list pairs*: where a call answers a count, its list begins with the pairs that are feasible under {ab} at c, each once,
   -- rising, x then y for each, and nothing past them changed. What the search finds is the list of the feasible pairs, since {ab} is a set
   -- that an argument comes to.
-  pub demand-2-list : (list : List ℕ) (count : ℕ) → listed n table marks a b c (length list) ≡ listing.Pairs count →
-      ListsFeasible n table marks a b c list (listLeft (listed n table marks a b c (length list)) n table marks a b c list) count
+  pub demand-2-list : (list : List ℕ) (count : ℕ) → listed n table marks a b c (placesOf list) ≡ listing.Pairs count →
+      ListsFeasible n table marks a b c list (listLeft (listed n table marks a b c (placesOf list)) n table marks a b c list) count
   unfolding listed
   demand-2-list list count h = subst (λ (l : Listed). ListsFeasible n table marks a b c list (listLeft l n table marks a b c list) count) (sym h) (by (tested n table marks) refl h)
     where
-      by : (t : Tested) → tested n table marks ≡ t → listTested t table marks a b c (length list) ≡ listing.Pairs count →
-          ListsFeasible n table marks a b c list (numbersOf (pairsAt n table marks a b c) ++ drop (2 * count) list) count
+      by : (t : Tested) → tested n table marks ≡ t → listTested t table marks a b c (placesOf list) ≡ listing.Pairs count →
+          ListsFeasible n table marks a b c list (bytes16 (numbersOf (pairsAt n table marks a b c)) ++ drop (4 * count) list) count
       by (Refused number) e z = absurd (not-pairs z)
-      by (Points m) e z = whole (subst (λ (k : ℕ). listTested (Points k) table marks a b c (length list) ≡ listing.Pairs count) (passed e .same) z)
+      by (Points m) e z = whole (subst (λ (k : ℕ). listTested (Points k) table marks a b c (placesOf list) ≡ listing.Pairs count) (passed e .same) z)
         where
-          whole : listTested (Points n) table marks a b c (length list) ≡ listing.Pairs count →
-              ListsFeasible n table marks a b c list (numbersOf (pairsAt n table marks a b c) ++ drop (2 * count) list) count
+          whole : listTested (Points n) table marks a b c (placesOf list) ≡ listing.Pairs count →
+              ListsFeasible n table marks a b c list (bytes16 (numbersOf (pairsAt n table marks a b c)) ++ drop (4 * count) list) count
           whole z =
               let z1 = answered (fits n a b (splits c 0)) _ _ _ not-pairs z in
               let z2 = answered (openIn n marks a b) _ _ _ not-pairs (z1 .1) in
-              let z3 = answered (leb (2 * length (pairsAt n table marks a b c)) (length list)) _ _ _ not-pairs (z2 .1) in
+              let z3 = answered (leb (2 * length (pairsAt n table marks a b c)) (placesOf list)) _ _ _ not-pairs (z2 .1) in
               let found : listing.Pairs (length (pairsAt n table marks a b c)) ≡ listing.Pairs count = z3 .1 in
               let counted : count ≡ length (pairsAt n table marks a b c) = cc in
-              pairs-written list count (pairs-feasible (z1 .0)) counted (omega (arith, leb-true (2 * length (pairsAt n table marks a b c)) (length list) (z3 .0)))
+              pairs-written list count (pairs-feasible (z1 .0)) counted (omega (arith, leb-true (2 * length (pairsAt n table marks a b c)) (placesOf list) (z3 .0)))
 
   -- and what a call answers that passes tests 1 to 12: 18 where the list has fewer than twice as many places as there are feasible pairs, else
   -- their number. Only one list has exactly the feasible pairs, rising (`named-list`).

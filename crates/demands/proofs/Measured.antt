@@ -9,10 +9,12 @@ use native.Mathlib.Omega.{arith}
 use lib.Dec.{eqb}
 use lib.ListN.{length}
 use borrow.Author.Tests.{eqb-true}
+use Rattle.endian.specs.Bytes.{whole32}
 use Rattle.lengths.specs.Distance.{distanceBy, ruleOf, IsEuc2d, IsCeil2d}
 use Rattle.lengths.specs.Edge.{Point, edgeCount}
 use Rattle.lengths.specs.Instance.{mostCoordinate, mostSquares, inRange}
-use Rattle.lengths.specs.Measure.{xOf, yOf, gapOf, squares, measuredTable, known, measured, tableAfter, Located}
+use Rattle.lengths.specs.Measure.{xOf, yOf, gapOf, squares, measuredTable, known, measured, tableAfter}
+use Rattle.lengths.specs.asks.Measure.{Located}
 use Rattle.lengths.specs.Table.{lengthOf}
 use Rattle.lists.specs.Test.{allAtMost}
 use Rattle.lengths.specs.declared.distance.NamedRule.the-variants.{Known}
@@ -21,7 +23,7 @@ use Rattle.lengths.specs.declared.distance.Rule.the-variants.{Euc2d, Ceil2d}
 use Rattle.lengths.specs.declared.measure.Measured.the-variants.{Done, Refused}
 use Rattle.lengths.proofs.Coordinates.{gaps, squares-is}
 use Rattle.lengths.proofs.Distances.{distance-euc2d, euc2d-only, distance-ceil2d, ceil2d-only}
-use Rattle.lengths.proofs.Filling.{length-measured, measured-length}
+use Rattle.lengths.proofs.Filling.{length-measured, measured-again, measured-length}
 use Rattle.lengths.proofs.Limits.{limit-each}
 use Rattle.lengths.proofs.Tables.{length-self}
 use Rattle.marking.proofs.Tested.{range-admits}
@@ -93,18 +95,18 @@ module _ (n : ℕ) (cs : List ℕ) (p : Surveyed n cs) where
         only = λ a b d pa pb is. ceil2d-only (squares cs a b) d (sum-small a b pa pb) (is .ceil2d refl) ∙ sym (length-is Ceil2d a b pa pb);
       }
 
--- DEMAND 2 for *measure*: in the table that a call leaves where it refuses nothing, the length between any two points is the d that 01's rule of
+-- DEMAND 2 for *measure*: in the table whose bytes a call leaves where it refuses nothing, the length between any two points is the d that 01's rule of
 -- this number gives for their S, and nothing else is. The tests on n and the coordinates keep S within the limit that the rules' theorems ask.
-pub demand-2-measure : (n rule : ℕ) (cs table : List ℕ) → measured n rule cs (length table) ≡ Done → Measures n rule cs (tableAfter n rule cs table)
+pub demand-2-measure : (n rule : ℕ) (cs table : List ℕ) → measured n rule cs (length (whole32 table)) ≡ Done → Measures n rule cs (whole32 (tableAfter n rule cs table))
 unfolding measured tableAfter
 demand-2-measure n rule cs table h =
     let z1 = answered (inRange n) _ _ Done not-done h in
     let z2 = answered (eqb (length cs) (2 * n)) _ _ Done not-done (z1 .1) in
-    let z3 = answered (eqb (length table) (edgeCount n)) _ _ Done not-done (z2 .1) in
+    let z3 = answered (eqb (length (whole32 table)) (edgeCount n)) _ _ Done not-done (z2 .1) in
     let z4 = answered (known (ruleOf rule)) _ _ Done not-done (z3 .1) in
     let z5 = answered (allAtMost mostCoordinate cs) _ _ Done not-done (z4 .1) in
     by (record { some = omega (arith, range-admits n (z1 .0) .least); located = eqb-true (length cs) (2 * n) (z2 .0); small = z5 .0 }) (rule-known rule (z4 .0))
   where
-    by : Surveyed n cs → ((rule ≡ 1) × (ruleOf rule ≡ Known Euc2d)) ⊎ ((rule ≡ 2) × (ruleOf rule ≡ Known Ceil2d)) → Measures n rule cs (tableAfter n rule cs table)
-    by p (inl k) = rw (tableAfter, h, k .1, k .0) (measures-euc2d n cs p)
-    by p (inr k) = rw (tableAfter, h, k .1, k .0) (measures-ceil2d n cs p)
+    by : Surveyed n cs → ((rule ≡ 1) × (ruleOf rule ≡ Known Euc2d)) ⊎ ((rule ≡ 2) × (ruleOf rule ≡ Known Ceil2d)) → Measures n rule cs (whole32 (tableAfter n rule cs table))
+    by p (inl k) = rw (tableAfter, h, k .1, k .0, measured-again Euc2d cs n) (measures-euc2d n cs p)
+    by p (inr k) = rw (tableAfter, h, k .1, k .0, measured-again Ceil2d cs n) (measures-ceil2d n cs p)

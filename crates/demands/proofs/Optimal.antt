@@ -8,13 +8,13 @@ use mathlib.Core.List.{List, [], _∷_}
 use native.Mathlib.Decide.{decLe}
 use native.Mathlib.Omega.{arith}
 use Rattle.lengths.specs.Edge.{Edge, edge, Point}
-use Rattle.sets.specs.EdgeSet.{Joins, Has, closedEdges, withPair, Ends}
+use Rattle.sets.specs.EdgeSet.{Joins, Has, closedEdges, withPair, DegreeTwo}
 use Rattle.rules.specs.Pair.{Compatible, MoveSaves, FeasiblePair}
-use Rattle.closings.specs.Closing.{Crossing, Closes}
+use Rattle.closings.specs.Closing.{ThreeOptMoves, Closes}
 use Rattle.tours.specs.Tour.{total, Uses, Symmetric, ThreeOptimal}
 use Rattle.tours.proofs.Count.{tour-once}
-use Rattle.tours.proofs.Edges.{Inside, inside-cons, joins?}
-use Rattle.tours.proofs.Neighbours.{only-two, at-most-two, Neighbours, neighbours}
+use Rattle.tours.proofs.Edges.{Inside, inside-cons, joins-dec}
+use Rattle.tours.proofs.TourNeighbours.{only-two, at-most-two, TourNeighbours, tour-neighbours}
 use Rattle.tours.proofs.ShortCycle.{no-short-cycle}
 use Rattle.tours.proofs.Exchange.{Exchanged}
 use Rattle.tours.proofs.TwoOpt.{two-opt}
@@ -27,7 +27,7 @@ use Rattle.tours.proofs.ThreeOptimal.{no-gain}
 -- than what was taken out: that sum is at least l(pq) + l(xy), and so is the larger of the two. Edges that touch are no special case.
 pub optimal-compatible : {n : ℕ} {l : ℕ → ℕ → ℕ} {t : List ℕ} → ThreeOptimal n l t → Symmetric l → (p q x y : ℕ) → Uses t p q → Uses t x y → Compatible l p q x y
 unfolding total
-optimal-compatible {n} {l} {t} O s p q x y hp hx = go (joins? p q x y)
+optimal-compatible {n} {l} {t} O s p q x y hp hx = go (joins-dec p q x y)
   where
     equal : Joins (edge p q) x y → Compatible l p q x y
     equal (inl e) = omega (arith, ap₂ l (e .0) (e .1), ap (l p) (e .1), ap (l q) (e .0), s p q)
@@ -94,8 +94,8 @@ module _
     pub optimal-feasible : 3 ≤ n → (c : ℕ) → Point n c → OwnPair n l open? K t c
     optimal-feasible three c p = go (decLe (N .x) (N .y))
       where
-        N : Neighbours n t c
-        N = neighbours (O .tour) three c p
+        N : TourNeighbours n t c
+        N = tour-neighbours (O .tour) three c p
 
         go : Dec (N .x ≤ N .y) → OwnPair n l open? K t c
         go (yes h) = own-pair c (N .x) (N .y) (omega (arith, N .apart)) (N .uses-x) (N .uses-y) (N .point-x) (N .point-y) (N .apart-x) (N .apart-y)
@@ -111,13 +111,13 @@ unfolding total
 optimal-not-closed {n} {l} {t} O y K uses p q r s C =
     go (three-opt (O .tour) p q r s (C .x) (C .y) (C .z) (C .w) hp (X .r-not-p) (X .r-not-q) (X .s-not-p) (X .s-not-q) (X .centres) hx hy (R .apart) hz hw (S .apart) free)
   where
-    X : Crossing K p q r s (C .x) (C .y) (C .z) (C .w)
-    X = C .crossing
+    X : ThreeOptMoves K p q r s (C .x) (C .y) (C .z) (C .w)
+    X = C .moves
 
-    R : Ends K r (C .x) (C .y)
+    R : DegreeTwo K r (C .x) (C .y)
     R = X .ends-r
 
-    S : Ends K s (C .z) (C .w)
+    S : DegreeTwo K s (C .z) (C .w)
     S = X .ends-s
 
     hp : Uses t p q

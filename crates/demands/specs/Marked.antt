@@ -11,7 +11,7 @@ use Rattle.lengths.specs.Edge.{Edge, edge, IsEdge}
 use Rattle.sets.specs.EdgeSet.{Has}
 use Rattle.marks.specs.Mark.{openIn}
 use Rattle.argument.specs.Line.{Struck, strikes}
-use Rattle.sheets.specs.Sheets.{wholeSheet}
+use Rattle.sheets.specs.Sheet.{wholeSheet}
 use Rattle.marking.specs.Tests.{tested}
 use Rattle.marking.specs.declared.tests.Tested.the-variants.{Points}
 

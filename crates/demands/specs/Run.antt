@@ -4,7 +4,7 @@ use Prim.Native.Nat.{ℕ}
 use mathlib.Core.List.{List}
 use Rattle.argument.specs.Sheet.{run}
 use Rattle.revosti.specs.Mark.{markInC}
-use Rattle.marking.specs.Marking.{markSheet}
+use Rattle.marking.specs.Mark.{markSheet}
 
 pub record Call : Type 0 where
   pub n : ℕ

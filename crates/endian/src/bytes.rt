@@ -1,102 +1,85 @@
-// Little-endian bytes: tables of 32-bit and lists of 16-bit numbers, decoded and encoded.
+// Little-endian numbers of 16 and 32 bits among bytes, read and written in place.
 ghost use mathlib.Core.Path.{_≡_};
 ghost use mathlib.Core.List.{_++_};
-ghost use Prim.Native.Nat.{_*_, _%_};
-ghost use lib.ListN.{length, drop};
-ghost use Rattle.endian.specs.Bytes.{ByteIs, bytes16, bytes32, Decoded, EncodeAsked, EntriesAre, fitting16, fitting32};
+ghost use Prim.Native.Nat.{_*_, _%_, _<_};
+ghost use lib.ListN.{length, getD, drop};
+ghost use Rattle.endian.specs.Bytes.{bytes16, whole16, whole32};
+ghost use Rattle.endian.specs.asks.Bytes.{ByteIs, EncodeAsked, Entry, Put};
 
-// Decodes the bytes into `out` and answers how many numbers there are: 0 where the bytes are no whole numbers, or too many.
-pub fn decode32(bytes: &[u8], out: &mut [u32]) -> usize
-    ensures { λ r. ⌜ Decoded (fitting32 (now (bytes .entry)) (length (now (out .entry)))) (now (out .entry)) r (now (out .exit)) ⌝ }
+// How many numbers of 32 bits the bytes are: none where they are no whole numbers.
+pub fn count32(bytes: &[u8]) -> usize
+    ensures { λ r. ⌜ r ≡ length (whole32 (now (bytes .entry))) ⌝ }
 {
     if bytes.len() % 4 != 0 {
-        return 0;
-    }
-    let size = bytes.len() / 4;
-    if out.len() < size {
-        return 0;
-    }
-    let mut i = 0;
-    while i < size {
-        let at = 4 * i;
-        out[i] = byte(bytes[at])
-            + 256 * byte(bytes[at + 1])
-            + 65_536 * byte(bytes[at + 2])
-            + 16_777_216 * byte(bytes[at + 3]);
-        i += 1;
-    }
-    size
-}
-
-// The same for 16-bit numbers.
-pub fn decode16(bytes: &[u8], out: &mut [u16]) -> usize
-    ensures { λ r. ⌜ Decoded (fitting16 (now (bytes .entry)) (length (now (out .entry)))) (now (out .entry)) r (now (out .exit)) ⌝ }
-{
-    if bytes.len() % 2 != 0 {
-        return 0;
-    }
-    let size = bytes.len() / 2;
-    if out.len() < size {
-        return 0;
-    }
-    let mut i = 0;
-    while i < size {
-        let at = 2 * i;
-        out[i] = byte16(bytes[at]) + 256 * byte16(bytes[at + 1]);
-        i += 1;
-    }
-    size
-}
-
-// How many numbers the bytes are: 0 where they are no whole numbers, or more than there is room for.
-pub fn entries32(bytes: &[u8], room: usize) -> usize
-    ensures { λ r. ⌜ EntriesAre (now (bytes .entry)) room r ⌝ }
-{
-    if bytes.len() % 4 != 0 {
-        return 0;
-    }
-    if room < bytes.len() / 4 {
         return 0;
     }
     bytes.len() / 4
 }
 
-// Writes the bytes of the numbers to the front of `bytes`; those past them stay.
-pub fn encode32(numbers: &[u32], bytes: &mut [u8])
-    requires { ⌜ EncodeAsked 4 (now numbers) (now bytes) ⌝ }
-    ensures { λ _. ⌜ now (bytes .exit) ≡ bytes32 (now (numbers .entry)) ++ drop (4 * length (now (numbers .entry))) (now (bytes .entry)) ⌝ }
+// The same for 16 bits.
+pub fn count16(bytes: &[u8]) -> usize
+    ensures { λ r. ⌜ r ≡ length (whole16 (now (bytes .entry))) ⌝ }
 {
-    let mut i = 0;
-    while i < numbers.len() {
-        let at = 4 * i;
-        let number = numbers[i];
-        bytes[at] = low(number);
-        bytes[at + 1] = low(number / 256);
-        bytes[at + 2] = low(number / 65_536);
-        bytes[at + 3] = low(number / 16_777_216);
-        i += 1;
+    if bytes.len() % 2 != 0 {
+        return 0;
     }
+    bytes.len() / 2
 }
 
-// The same for 16-bit numbers.
+// The number of 32 bits at a place among the numbers that the bytes are.
+pub fn number32(bytes: &[u8], at: usize) -> u32
+    requires { ⌜ at < length (whole32 (now bytes)) ⌝ }
+    ensures { λ r. ⌜ r ≡ getD (whole32 (now (bytes .entry))) at 0 ⌝ }
+{
+    let start = 4 * at;
+    byte(bytes[start])
+        + 256 * byte(bytes[start + 1])
+        + 65_536 * byte(bytes[start + 2])
+        + 16_777_216 * byte(bytes[start + 3])
+}
+
+// The same for 16 bits.
+pub fn number16(bytes: &[u8], at: usize) -> u16
+    requires { ⌜ at < length (whole16 (now bytes)) ⌝ }
+    ensures { λ r. ⌜ r ≡ getD (whole16 (now (bytes .entry))) at 0 ⌝ }
+{
+    let start = 2 * at;
+    byte16(bytes[start]) + 256 * byte16(bytes[start + 1])
+}
+
+// Writes a number of 32 bits over the entry with this number.
+pub fn put32(bytes: &mut [u8], at: usize, number: u32)
+    requires { ⌜ Entry 4 (now bytes) at ⌝ }
+    ensures { λ _. ⌜ Put 4 (now (bytes .entry)) at number (now (bytes .exit)) ⌝ }
+{
+    let start = 4 * at;
+    bytes[start] = low(number);
+    bytes[start + 1] = low(number / 256);
+    bytes[start + 2] = low(number / 65_536);
+    bytes[start + 3] = low(number / 16_777_216);
+}
+
+// The same for 16 bits.
+fn put16(bytes: &mut [u8], at: usize, number: u16)
+    requires { ⌜ Entry 2 (now bytes) at ⌝ }
+    ensures { λ _. ⌜ Put 2 (now (bytes .entry)) at number (now (bytes .exit)) ⌝ }
+{
+    let start = 2 * at;
+    let wide = number as u32;
+    bytes[start] = low(wide);
+    bytes[start + 1] = low(wide / 256);
+}
+
+// Writes the bytes of the numbers to the front of `bytes`; those past them stay.
 pub fn encode16(numbers: &[u16], bytes: &mut [u8])
     requires { ⌜ EncodeAsked 2 (now numbers) (now bytes) ⌝ }
     ensures { λ _. ⌜ now (bytes .exit) ≡ bytes16 (now (numbers .entry)) ++ drop (2 * length (now (numbers .entry))) (now (bytes .entry)) ⌝ }
 {
     let mut i = 0;
     while i < numbers.len() {
-        let at = 2 * i;
-        let number = wide(numbers[i]);
-        bytes[at] = low(number);
-        bytes[at + 1] = low(number / 256);
+        put16(bytes, i, numbers[i]);
         i += 1;
     }
-}
-
-fn wide(number: u16) -> u32
-    ensures { λ r. ⌜ r ≡ number ⌝ }
-{
-    number as u32
 }
 
 // The lowest byte of a number.

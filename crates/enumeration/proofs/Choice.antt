@@ -1,5 +1,5 @@
--- The pairs that `find_pairs` finds are the feasible ones of K = {ab}, by either search: at a point apart from K's edge every pair that passes the comparison is
--- feasible but ab itself, which the row of its lower point bars. Assumes nothing.
+-- The pairs that `find_pairs` finds are the feasible ones of K = {ab}. At an end of the edge every pair that passes the comparison and has the other
+-- end is feasible; at a point apart from it every pair that passes but ab itself, which the row of its lower point bars. Assumes nothing.
 use Prim.Native.Nat.{ℕ, _≤_, _<_}
 use mathlib.Core.Path.{_≡_, refl, sym, _∙_, ap, ap₂, subst}
 use mathlib.Core.Bool.{Bool, false, not, _&&_}
@@ -10,32 +10,46 @@ use native.Mathlib.Decide.{ℕ-discrete, decLt}
 use lib.Dec.{eqb}
 use lib.ListN.{length}
 use borrow.Author.Tests.{eq-eqb, ne-eqb}
-use Rattle.lengths.specs.Edge.{Edge, edge, IsEdgeUp, edges}
+use Rattle.lengths.specs.Edge.{Edge, edge, edges}
+use Rattle.lengths.specs.asks.Edge.{IsEdgeUp}
 use Rattle.lengths.specs.Table.{lengthOf}
 use Rattle.sets.specs.Joined.{joins?}
 use Rattle.marks.specs.Mark.{openIn}
-use Rattle.search.specs.NextPair.{passes?}
-use Rattle.rules.specs.Pairs.{keep, feasiblePairs}
-use Rattle.search.specs.Split.{Prepared, SplitOf}
-use Rattle.sets.specs.Stored.{edgeList, Single}
+use Rattle.search.specs.asks.Pairs.{passes?}
+use Rattle.rules.specs.Pairs.{keep}
+use Rattle.search.specs.asks.Split.{Prepared, SingleAsked, SplitOf}
+use Rattle.sets.specs.asks.Stored.{Single}
 use Rattle.sets.specs.declared.edge_set.EdgeSet.{EdgeSet}
-use Rattle.search.proofs.SingleEdge.{single-pairs}
-use Rattle.enumeration.specs.Find.{pairsAt, numbersOf, unbarred?, barredIn, apart?, SearchAsked, FindAsked, Found}
+use Rattle.search.proofs.SingleEdge.{EndOf, end-first, end-second, end-pairs, single-pairs}
+use Rattle.enumeration.specs.Find.{pairsAt, numbersOf}
+use Rattle.enumeration.specs.asks.Find.{unbarred?, barredIn, passesApart?, atEnd?, FindAsked, Found}
 
--- c is a point of ab: the search pair by pair
+pub single-asked : {n : ℕ} {table marks : List ℕ} {a b c : ℕ} {found : List ℕ} {k : EdgeSet} → FindAsked n table marks a b c found → Single a b k → SingleAsked n table marks k c
+single-asked {n} g s = record { legs = g .legs; held = s .held n (g .first) (g .second); one = s .one }
 
-pub end-asked : {n : ℕ} {table marks : List ℕ} {a b c : ℕ} {found : List ℕ} {k : EdgeSet} → FindAsked n table marks a b c found → Single a b k → SearchAsked n table marks k c found
-end-asked {n} g s = record { split = record { legs = g .legs; held = s .held n (g .first) (g .second); one = s .one }; room = g .room }
+pub prepared-single : {n : ℕ} {table marks : List ℕ} {a b c : ℕ} {k : EdgeSet} {legs : List ℕ} {bound : ℕ} → Single a b k → SplitOf n table marks k c legs bound
+    → Prepared n (lengthOf n table) (openIn n marks) (edge a b ∷ []) c legs bound
+prepared-single {n} {table} {marks} {c = c} {legs = legs} {bound = bound} k p = subst (λ (K : List Edge). Prepared n (lengthOf n table) (openIn n marks) K c legs bound) (k .edges) (p .prepared)
 
 same-found : {ps qs : List Edge} {count : ℕ} {found : List ℕ} → ps ≡ qs → Found ps count found → Found qs count found
 same-found e f = record { counted = f .counted ∙ ap length e; front = f .front ∙ ap numbersOf e; few = f .few; room = f .room }
 
-pub end-found : {n : ℕ} {table marks : List ℕ} {a b c : ℕ} {found₀ : List ℕ} {k : EdgeSet} {count : ℕ} {found : List ℕ} → FindAsked n table marks a b c found₀ → Single a b k
-    → Found (feasiblePairs n (lengthOf n table) (openIn n marks) (edgeList k) c) count found → Found (pairsAt n table marks a b c) count found
-unfolding pairsAt
-end-found {n} {table} {marks} {c = c} g s f = same-found (ap (λ (K : List Edge). feasiblePairs n (lengthOf n table) (openIn n marks) K c) (s .edges)) f
+-- c is a point of ab
 
--- c is not: the search row by row
+module _ {n : ℕ} {table marks : List ℕ} {a b c : ℕ} {found₀ legs : List ℕ} {bound : ℕ} (g : FindAsked n table marks a b c found₀)
+    (p : Prepared n (lengthOf n table) (openIn n marks) (edge a b ∷ []) c legs bound) where
+  end-found : {other count : ℕ} {found : List ℕ} → EndOf (edge a b ∷ []) c other → Found (keep (atEnd? n table legs bound other) (edges n)) count found
+      → Found (pairsAt n table marks a b c) count found
+  unfolding pairsAt atEnd?
+  end-found {other} e f = same-found (end-pairs (g .legs .lengths) p e (atEnd? n table legs bound other) (λ x y u. refl)) f
+
+  pub first-found : {count : ℕ} {found : List ℕ} → c ≡ a → Found (keep (atEnd? n table legs bound b) (edges n)) count found → Found (pairsAt n table marks a b c) count found
+  first-found e f = end-found (subst (λ (v : ℕ). EndOf (edge a b ∷ []) v b) (sym e) (end-first a b (g .apart))) f
+
+  pub second-found : {count : ℕ} {found : List ℕ} → c ≡ b → Found (keep (atEnd? n table legs bound a) (edges n)) count found → Found (pairsAt n table marks a b c) count found
+  second-found e f = end-found (subst (λ (v : ℕ). EndOf (edge a b ∷ []) v a) (sym e) (end-second a b (g .apart))) f
+
+-- c is no point of ab
 
 module _ (low high x z : ℕ) (rises : low < high) (first : 1 ≤ x) (up : x < z) where
   barred-here : x ≡ low → eqb z (barredIn low high x) ≡ eqb z high
@@ -104,23 +118,19 @@ barred-edge {a} {b} {low} {high} o x z first up = go (o .points)
     go (inl e) = barred-up low high x z (o .rises) first up ∙ ap₂ (λ (p q : ℕ). joins? p q x z) (sym (e .0)) (sym (e .1))
     go (inr e) = barred-down low high x z (o .rises) first up ∙ ap₂ (λ (p q : ℕ). joins? p q x z) (sym (e .0)) (sym (e .1))
 
-pub prepared-single : {n : ℕ} {table marks : List ℕ} {a b c : ℕ} {k : EdgeSet} {legs : List ℕ} {bound : ℕ} → Single a b k → SplitOf n table marks k c legs bound
-    → Prepared n (lengthOf n table) (openIn n marks) (edge a b ∷ []) c legs bound
-prepared-single {n} {table} {marks} {c = c} {legs = legs} {bound = bound} k p = subst (λ (K : List Edge). Prepared n (lengthOf n table) (openIn n marks) K c legs bound) (k .edges) (p .prepared)
-
-module _ {n : ℕ} {table marks : List ℕ} {a b c : ℕ} {found₀ legs : List ℕ} {bound : ℕ} (g : FindAsked n table marks a b c found₀) (c-a : c ≡ a → ⊥) (c-b : c ≡ b → ⊥)
-    (p : Prepared n (lengthOf n table) (openIn n marks) (edge a b ∷ []) c legs bound) where
-  apart-pairs : {low high : ℕ} → Ordered a b low high → keep (apart? n table legs bound low high) (edges n) ≡ pairsAt n table marks a b c
-  unfolding pairsAt apart? unbarred?
-  apart-pairs {low} {high} o = single-pairs (g .legs .lengths) p (g .least) (g .apart) c-a c-b (apart? n table legs bound low high) same
+module _ {n : ℕ} {table marks : List ℕ} {a b c : ℕ} {found₀ legs : List ℕ} {bound : ℕ} (g : FindAsked n table marks a b c found₀)
+    (p : Prepared n (lengthOf n table) (openIn n marks) (edge a b ∷ []) c legs bound) (c-a : c ≡ a → ⊥) (c-b : c ≡ b → ⊥) where
+  apart-pairs : {low high : ℕ} → Ordered a b low high → keep (passesApart? n table legs bound low high) (edges n) ≡ pairsAt n table marks a b c
+  unfolding pairsAt passesApart? unbarred?
+  apart-pairs {low} {high} o = single-pairs (g .legs .lengths) p (g .least) (g .apart) c-a c-b (passesApart? n table legs bound low high) same
     where
       same : (x y : ℕ) → IsEdgeUp n x y → passes? n table legs bound x y && not (eqb y (barredIn low high x)) ≡ passes? n table legs bound x y && not (joins? a b x y)
       same x y u = ap (λ (t : Bool). passes? n table legs bound x y && not t) (barred-edge o x y (u .low) (u .up))
 
-  pub apart-up : {count : ℕ} {found : List ℕ} → a < b → Found (keep (apart? n table legs bound a b) (edges n)) count found → Found (pairsAt n table marks a b c) count found
+  pub apart-up : {count : ℕ} {found : List ℕ} → a < b → Found (keep (passesApart? n table legs bound a b) (edges n)) count found → Found (pairsAt n table marks a b c) count found
   apart-up h f = same-found (apart-pairs (record { rises = h; points = inl (refl, refl) })) f
 
-  pub apart-down : {count : ℕ} {found : List ℕ} → b ≤ a → Found (keep (apart? n table legs bound b a) (edges n)) count found → Found (pairsAt n table marks a b c) count found
+  pub apart-down : {count : ℕ} {found : List ℕ} → b ≤ a → Found (keep (passesApart? n table legs bound b a) (edges n)) count found → Found (pairsAt n table marks a b c) count found
   apart-down h f = same-found (apart-pairs (record { rises = below; points = inr (refl, refl) })) f
     where
       below : b < a

@@ -1,3 +1,5 @@
+pub mod AllRows
+pub mod AtEnd
 pub mod Choice
-pub mod Loops
 pub mod Rows
+pub mod Writing

@@ -1,23 +1,19 @@
-// The feasible pairs of K = {ab} at c, all of them: row by row, or one after another at an end of the edge.
+// The feasible pairs of K = {ab} at c, all of them: row by row, or those of one point at an end of the edge.
+use endian::bytes::number32;
 use lengths::edge;
 use lengths::instance::Instance;
+use lengths::table::length_between;
 use rules::legs;
-use search::nearby;
-use search::nearby::list_nearby;
-use search::pairs::NextPair;
-use search::pairs::next_pair;
 use search::split::prepare_single;
 use sets::edge_set::EdgeSet;
-use sets::near::neighbours;
 ghost use mathlib.Core.Bool.{_&&_, not};
 ghost use mathlib.Core.Path.{_≡_};
 ghost use lib.Dec.{eqb, leb};
+ghost use Rattle.endian.specs.Bytes.{whole32};
 ghost use Rattle.lengths.specs.Edge.{edges};
-ghost use Rattle.lengths.specs.Table.{lengthOf};
-ghost use Rattle.marks.specs.Mark.{openIn};
-ghost use Rattle.rules.specs.Pairs.{keep, feasiblePairs};
-ghost use Rattle.sets.specs.Stored.{edgeList};
-ghost use Rattle.enumeration.specs.Find.{pairsAt, ones, barredIn, apart?, RowToList, RowFound, ApartAsked, SearchAsked, FindAsked, Found};
+ghost use Rattle.rules.specs.Pairs.{keep};
+ghost use Rattle.enumeration.specs.Find.{pairsAt};
+ghost use Rattle.enumeration.specs.asks.Find.{ones, barredIn, passesApart?, atEnd?, RowToList, RowFound, RowsToList, RowsFound, EndAsked, FindAsked, Found};
 
 // 1 where the pair is kept: its cost is at most what it may be, and z is not barred.
 fn kept(cost: u32, most: u32, z: usize, barred: usize) -> u16
@@ -30,7 +26,7 @@ fn kept(cost: u32, most: u32, z: usize, barred: usize) -> u16
 // Each pair is written first and counted only if it stands, so that no branch depends on it. Where c-x is no leg, no pair of x stands.
 fn find_in_row(
     n: u16,
-    table: &[u32],
+    table: &[u8],
     legs: &[u32; Instance::PLACES],
     bound: u32,
     x: u16,
@@ -38,8 +34,8 @@ fn find_in_row(
     found: &mut [u16],
     before: u16,
 ) -> u16
-    requires { ⌜ RowToList n (now table) (now legs) bound x (now found) before ⌝ }
-    ensures { λ r. ⌜ RowFound n (now (table .entry)) (now (legs .entry)) bound x barred (now (found .entry)) before r (now (found .exit)) ⌝ }
+    requires { ⌜ RowToList n (whole32 (now table)) (now legs) bound x (now found) before ⌝ }
+    ensures { λ r. ⌜ RowFound n (whole32 (now (table .entry))) (now (legs .entry)) bound x barred (now (found .entry)) before r (now (found .exit)) ⌝ }
 {
     let leg = legs[x as usize];
     if leg == legs::FAR {
@@ -57,7 +53,7 @@ fn find_in_row(
         let z = start + i;
         found[at] = x;
         found[at + 1] = z as u16;
-        count += kept(cost + legs[z], table[first + i] + bound, z, skip);
+        count += kept(cost + legs[z], number32(table, first + i) + bound, z, skip);
         i += 1;
     }
     count
@@ -76,15 +72,15 @@ fn barred_in(low: u16, high: u16, x: u16) -> u16
 // Writes the feasible pairs at a point apart from K's edge, whose ends are low and high, row by row, and answers how many there are.
 fn find_apart(
     n: u16,
-    table: &[u32],
+    table: &[u8],
     legs: &[u32; Instance::PLACES],
     bound: u32,
     low: u16,
     high: u16,
     found: &mut [u16],
 ) -> u16
-    requires { ⌜ ApartAsked n (now table) (now legs) bound (now found) ⌝ }
-    ensures { λ r. ⌜ Found (keep (apart? n (now (table .entry)) (now (legs .entry)) bound low high) (edges n)) r (now (found .exit)) ⌝ }
+    requires { ⌜ RowsToList n (whole32 (now table)) (now legs) bound (now found) ⌝ }
+    ensures { λ r. ⌜ Found (keep (passesApart? n (whole32 (now (table .entry))) (now (legs .entry)) bound low high) (edges n)) r (now (found .exit)) ⌝ }
 {
     let mut count: u16 = 0;
     let mut x: u16 = 1;
@@ -104,58 +100,74 @@ fn find_apart(
     count
 }
 
-// Writes the feasible pairs of k at c, x then y for each, and answers how many there are: for an end c of k's edge.
-fn find_at_end(n: u16, table: &[u32], marks: &[u8], k: EdgeSet, c: u16, found: &mut [u16]) -> u16
-    requires { ⌜ SearchAsked n (now table) (now marks) k c (now found) ⌝ }
-    ensures { λ r. ⌜ Found (feasiblePairs n (lengthOf n (now (table .entry))) (openIn n (now (marks .entry))) (edgeList k) c) r (now (found .exit)) ⌝ }
+// Writes the pairs of `other` with the points below it that pass the one comparison, and answers how many there are.
+fn find_below(
+    n: u16,
+    table: &[u8],
+    legs: &[u32; Instance::PLACES],
+    bound: u32,
+    other: u16,
+    found: &mut [u16],
+) -> u16
+    requires { ⌜ EndAsked n (whole32 (now table)) (now legs) bound other (now found) ⌝ }
+    ensures { λ r. ⌜ RowsFound n (atEnd? n (whole32 (now (table .entry))) (now (legs .entry)) bound other) (now (found .entry)) (now (found .exit)) other r ⌝ }
 {
-    let split = prepare_single(n, table, marks, k, c);
-    let legs = split.legs;
-    let bound = split.bound;
-    let centre = neighbours(k, c);
-    let mut near = [0u16; nearby::PLACES];
-    let mut rank = [0u16; nearby::PLACES];
-    list_nearby(n, &legs, &mut near, &mut rank);
-    let mut x: u16 = 1;
-    let mut y: u16 = 1;
+    let cost = legs[other as usize] + Instance::MOST_LENGTH;
     let mut count: u16 = 0;
-    loop {
-        let next = next_pair(n, table, &legs, &near, &rank, bound, c, centre, k, x, y);
-        let NextPair::Pair(a, b) = next else {
-            return count;
-        };
+    let mut x: u16 = 1;
+    while x < other {
+        let length = length_between(n, table, x, other) as u32;
         let at = 2 * count as usize;
-        found[at] = a;
-        found[at + 1] = b;
-        count += 1;
-        x = a;
-        y = b;
+        found[at] = x;
+        found[at + 1] = other;
+        count += kept(cost + legs[x as usize], length + bound, other as usize, 0);
+        x += 1;
     }
+    count
+}
+
+// Writes the feasible pairs at an end of K's edge, and answers how many there are: `other`, the other end, is one point of each.
+fn find_at_end(
+    n: u16,
+    table: &[u8],
+    legs: &[u32; Instance::PLACES],
+    bound: u32,
+    other: u16,
+    found: &mut [u16],
+) -> u16
+    requires { ⌜ EndAsked n (whole32 (now table)) (now legs) bound other (now found) ⌝ }
+    ensures { λ r. ⌜ Found (keep (atEnd? n (whole32 (now (table .entry))) (now (legs .entry)) bound other) (edges n)) r (now (found .exit)) ⌝ }
+{
+    let count = find_below(n, table, legs, bound, other, found);
+    if other < n {
+        return find_in_row(n, table, legs, bound, other, 0, found, count);
+    }
+    count
 }
 
 // Writes the feasible pairs of K = {ab} at c, x then y for each, and answers how many there are.
 pub fn find_pairs(
     n: u16,
-    table: &[u32],
+    table: &[u8],
     marks: &[u8],
     a: u16,
     b: u16,
     c: u16,
     found: &mut [u16],
 ) -> u16
-    requires { ⌜ FindAsked n (now table) (now marks) a b c (now found) ⌝ }
-    ensures { λ r. ⌜ Found (pairsAt n (now (table .entry)) (now (marks .entry)) a b c) r (now (found .exit)) ⌝ }
+    requires { ⌜ FindAsked n (whole32 (now table)) (now marks) a b c (now found) ⌝ }
+    ensures { λ r. ⌜ Found (pairsAt n (whole32 (now (table .entry))) (now (marks .entry)) a b c) r (now (found .exit)) ⌝ }
 {
     let k = EdgeSet::single(a, b);
-    if c == a {
-        return find_at_end(n, table, marks, k, c, found);
-    }
-    if c == b {
-        return find_at_end(n, table, marks, k, c, found);
-    }
     let split = prepare_single(n, table, marks, k, c);
     let legs = split.legs;
     let bound = split.bound;
+    if c == a {
+        return find_at_end(n, table, &legs, bound, b, found);
+    }
+    if c == b {
+        return find_at_end(n, table, &legs, bound, a, found);
+    }
     if a < b {
         return find_apart(n, table, &legs, bound, a, b, found);
     }

@@ -1,32 +1,23 @@
 // "Fresh marks": each refusal and their order. A refused call leaves the marks as they were, 0202020.
+use answers::data::some_bytes;
 use answers::tally::Tally;
 use answers::tally::figure;
 use answers::tally::hold;
-use answers::tally::some_marks;
 use answers::tally::subject;
 use answers::tally::text;
 use check::same;
-use marks::fresh::Fresh;
-use marks::fresh::fresh_marks;
+use revosti::fresh::revosti_fresh_marks;
 
 // Marks that nothing was written to.
 const UNTOUCHED: [u8; 7] = [0, 2, 0, 2, 0, 2, 0];
-
-// The refusal number, or 0.
-fn number_of(fresh: Fresh) -> u64 {
-    match fresh {
-        Fresh::Done => 0,
-        Fresh::Refused { refusal, record: _ } => refusal as u64,
-    }
-}
 
 // Makes so many marks of n points fresh.
 fn fresh(t: Tally, n: u32, size: usize, number: u64, left: [u8; 7]) -> Tally {
     figure(b"fresh, points ", n as u64);
     figure(b", marks ", size as u64);
     let mut bytes = UNTOUCHED;
-    let k = some_marks(size, &bytes);
-    let got = number_of(fresh_marks(n, &mut bytes[..k]));
+    let k = some_bytes(size, &bytes);
+    let got = revosti_fresh_marks(n, &mut bytes[..k]);
     text(b":");
     hold(t, got, bytes, number, left)
 }
@@ -35,7 +26,7 @@ fn fresh(t: Tally, n: u32, size: usize, number: u64, left: [u8; 7]) -> Tally {
 fn largest(t: Tally) -> Tally {
     let mut bytes = [0u8; 16110];
     let ones = [1u8; 16110];
-    let got = number_of(fresh_marks(180, &mut bytes));
+    let got = revosti_fresh_marks(180, &mut bytes);
     figure(b"fresh, points 180, marks 16110: ", got);
     text(b", should be 0 and all 1");
     let all_one = same(&bytes, &ones);

@@ -1,4 +1,5 @@
-// Examples of all operations but *mark a sheet*, for every refusal, executed: a line for each, with what it should be.
+// Examples of the operations, executed by their functions for C, for every refusal but those of a sheet's records: a line for each, with what it
+// should be.
 mod c;
 mod fresh;
 mod measure;

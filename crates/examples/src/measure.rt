@@ -1,54 +1,42 @@
 // "Measure": both rules, each refusal, and their order. A refused call leaves the table as it was, all 7.
+use answers::data::lengths_as_bytes;
+use answers::data::some_bytes;
 use answers::tally::Tally;
 use answers::tally::figure;
-use answers::tally::some_lengths;
+use answers::tally::lengths;
 use answers::tally::subject;
 use answers::tally::text;
-use lengths::measure::Measured;
-use lengths::measure::measure;
+use check::same;
+use revosti::measure::revosti_measure;
 
 // A table of sevens that nothing was written to.
-const UNTOUCHED: [u32; 7] = [7, 7, 7, 7, 7, 7, 7];
+const UNTOUCHED: [u32; 10] = [7, 7, 7, 7, 7, 7, 7, 7, 7, 7];
 
-// The refusal number, or 0.
-fn number_of(measured: Measured) -> u64 {
-    match measured {
-        Measured::Done => 0,
-        Measured::Refused { refusal, record: _ } => refusal as u64,
-    }
-}
-
-// Writes a length after a space.
-fn length(x: u32) {
-    figure(b" ", x as u64);
-}
-
-// Writes an answer with what is left in the table.
-fn answer(number: u64, left: [u32; 7]) {
+// Writes an answer with the first seven lengths that are left in the table.
+fn answer(number: u64, left: &[u8]) {
     figure(b" ", number);
     text(b" table");
-    length(left[0]);
-    length(left[1]);
-    length(left[2]);
-    length(left[3]);
-    length(left[4]);
-    length(left[5]);
-    length(left[6]);
-}
-
-// Are the tables the same?
-fn same(a: [u32; 7], b: [u32; 7]) -> bool {
-    let front = a[0] == b[0] && a[1] == b[1] && a[2] == b[2] && a[3] == b[3];
-    front && a[4] == b[4] && a[5] == b[5] && a[6] == b[6]
+    let k = some_bytes(28, left);
+    lengths(&left[..k]);
 }
 
 // Holds an answer and what is left to what they should be.
-fn hold(t: Tally, got: u64, found: [u32; 7], number: u64, left: [u32; 7]) -> Tally {
-    answer(got, found);
+fn hold(t: Tally, got: u64, found: [u8; 40], number: u64, left: [u8; 40]) -> Tally {
+    answer(got, &found);
     text(b", should be");
-    answer(number, left);
-    let same_table = same(found, left);
+    answer(number, &left);
+    let same_table = same(&found, &left);
     t.judged(got == number && same_table)
+}
+
+// Writes what is lent.
+fn lent_text(n: u32, rule: u32, size: u32, x: u32, places: u32) {
+    figure(b"measure, points ", n as u64);
+    figure(b", rule ", rule as u64);
+    figure(b", coordinates ", size as u64);
+    figure(b" from ", x as u64);
+    figure(b", places ", places as u64);
+    text(b":");
 }
 
 // Measures n points: the first so many of the square's coordinates, x the first of them, into so many places of a table.
@@ -56,36 +44,31 @@ fn measured(
     t: Tally,
     n: u32,
     rule: u32,
-    size: usize,
+    size: u32,
     x: u32,
-    places: usize,
+    places: u32,
     number: u64,
-    left: [u32; 7],
+    left: [u32; 10],
 ) -> Tally {
-    figure(b"measure, points ", n as u64);
-    figure(b", rule ", rule as u64);
-    figure(b", coordinates ", size as u64);
-    figure(b" from ", x as u64);
-    figure(b", places ", places as u64);
-    let coordinates = [x, 0, 10, 0, 10, 10, 0, 10, 0];
-    let mut table = UNTOUCHED;
-    let k = some_lengths(size, &coordinates);
-    let m = some_lengths(places, &table);
-    let got = number_of(measure(n, rule, &coordinates[..k], &mut table[..m]));
-    text(b":");
-    hold(t, got, table, number, left)
+    lent_text(n, rule, size, x, places);
+    let coordinates = lengths_as_bytes([x, 0, 10, 0, 10, 10, 0, 10, 0, 0]);
+    let mut table = lengths_as_bytes(UNTOUCHED);
+    let k = some_bytes(4 * size as usize, &coordinates);
+    let m = some_bytes(4 * places as usize, &table);
+    let got = revosti_measure(n, rule, &coordinates[..k], &mut table[..m]);
+    hold(t, got, table, number, lengths_as_bytes(left))
 }
 
 // The same, where it is refused.
-fn refused(t: Tally, n: u32, rule: u32, size: usize, x: u32, places: usize, number: u64) -> Tally {
+fn refused(t: Tally, n: u32, rule: u32, size: u32, x: u32, places: u32, number: u64) -> Tally {
     measured(t, n, rule, size, x, places, number, UNTOUCHED)
 }
 
 // The square by both rules, and the largest coordinate.
 fn accepted(t: Tally) -> Tally {
     subject(b"measure");
-    let t = measured(t, 4, 1, 8, 0, 6, 0, [10, 14, 10, 10, 14, 10, 7]);
-    let t = measured(t, 4, 2, 8, 0, 6, 0, [10, 15, 10, 10, 15, 10, 7]);
+    let t = measured(t, 4, 1, 8, 0, 6, 0, [10, 14, 10, 10, 14, 10, 7, 7, 7, 7]);
+    let t = measured(t, 4, 2, 8, 0, 6, 0, [10, 15, 10, 10, 15, 10, 7, 7, 7, 7]);
     let t = measured(
         t,
         4,
@@ -94,7 +77,7 @@ fn accepted(t: Tally) -> Tally {
         1_000_000,
         6,
         0,
-        [999_990, 999_990, 1_000_000, 10, 14, 10, 7],
+        [999_990, 999_990, 1_000_000, 10, 14, 10, 7, 7, 7, 7],
     );
     measured(
         t,
@@ -104,7 +87,7 @@ fn accepted(t: Tally) -> Tally {
         1_000_000,
         6,
         0,
-        [999_990, 999_991, 1_000_001, 10, 15, 10, 7],
+        [999_990, 999_991, 1_000_001, 10, 15, 10, 7, 7, 7, 7],
     )
 }
 

@@ -1,50 +1,25 @@
 // "List pairs" on the square: each refusal and their order. A refused call leaves the list as it was, all 9.
+use answers::data::numbers_as_bytes;
+use answers::data::some_bytes;
+use answers::data::square;
 use answers::tally::Tally;
 use answers::tally::figure;
 use answers::tally::given_text;
 use answers::tally::numbers;
-use answers::tally::some_lengths;
-use answers::tally::some_marks;
-use answers::tally::some_numbers;
 use answers::tally::subject;
 use answers::tally::text;
-use marking::listing::Listed;
-use marking::listing::list_pairs;
+use check::same;
+use revosti::listing::revosti_list_pairs;
 
 // A list that nothing was written to.
 const UNTOUCHED: [u16; 8] = [9, 9, 9, 9, 9, 9, 9, 9];
 
-// The refusal number, or 0.
-fn number_of(listed: Listed) -> u64 {
-    match listed {
-        Listed::Pairs(_) => 0,
-        Listed::Refused { refusal, record: _ } => refusal as u64,
-    }
-}
-
-// The number of pairs, or 0.
-fn count_of(listed: Listed) -> u64 {
-    match listed {
-        Listed::Pairs(count) => count as u64,
-        Listed::Refused {
-            refusal: _,
-            record: _,
-        } => 0,
-    }
-}
-
 // Writes an answer with what is left in the list.
-fn answer(number: u64, count: u64, left: &[u16]) {
+fn answer(number: u64, count: u64, left: &[u8]) {
     figure(b" ", number);
     figure(b" pairs ", count);
     text(b" list");
     numbers(left);
-}
-
-// Are the lists the same?
-fn same(a: [u16; 8], b: [u16; 8]) -> bool {
-    let front = a[0] == b[0] && a[1] == b[1] && a[2] == b[2] && a[3] == b[3];
-    front && a[4] == b[4] && a[5] == b[5] && a[6] == b[6] && a[7] == b[7]
 }
 
 // Holds an answer and what is left in the list to what they should be.
@@ -52,20 +27,20 @@ fn hold(
     t: Tally,
     got: u64,
     found: u64,
-    list: [u16; 8],
+    list: [u8; 16],
     number: u64,
     count: u64,
-    left: [u16; 8],
+    left: [u8; 16],
 ) -> Tally {
     answer(got, found, &list);
     text(b", should be");
     answer(number, count, &left);
-    let same_list = same(list, left);
+    let same_list = same(&list, &left);
     t.judged(got == number && found == count && same_list)
 }
 
 // Writes the question: K = {ab}, the split point c, and how many places the list has.
-fn question(a: u16, b: u16, c: u16, places: usize) {
+fn question(a: u16, b: u16, c: u16, places: u32) {
     figure(b" edge ", a as u64);
     figure(b" ", b as u64);
     figure(b" split ", c as u64);
@@ -77,35 +52,35 @@ fn question(a: u16, b: u16, c: u16, places: usize) {
 fn pairs(
     t: Tally,
     n: u32,
-    entries: usize,
+    entries: u32,
     first: u32,
     bytes: usize,
     mark_1: u8,
     a: u16,
     b: u16,
     c: u16,
-    places: usize,
+    places: u32,
     number: u64,
     count: u64,
     left: [u16; 8],
 ) -> Tally {
     given_text(b"pairs,", n, entries, first, bytes, mark_1);
     question(a, b, c, places);
-    let table = [first, 14, 10, 10, 14, 10, 10];
+    let table = square(first);
     let marks = [mark_1, 1, 1, 1, 1, 1, 1];
-    let mut list = UNTOUCHED;
-    let k = some_lengths(entries, &table);
-    let m = some_marks(bytes, &marks);
-    let p = some_numbers(places, &list);
-    let listed = list_pairs(n, &table[..k], &marks[..m], a, b, c, &mut list[..p]);
+    let mut list = numbers_as_bytes(UNTOUCHED);
+    let k = some_bytes(4 * entries as usize, &table);
+    let m = some_bytes(bytes, &marks);
+    let p = some_bytes(2 * places as usize, &list);
+    let got = revosti_list_pairs(n, &table[..k], &marks[..m], a, b, c, &mut list[..p]);
     hold(
         t,
-        number_of(listed),
-        count_of(listed),
+        got % 65_536,
+        got / 65_536,
         list,
         number,
         count,
-        left,
+        numbers_as_bytes(left),
     )
 }
 
@@ -116,7 +91,7 @@ fn listed(
     a: u16,
     b: u16,
     c: u16,
-    places: usize,
+    places: u32,
     count: u64,
     left: [u16; 8],
 ) -> Tally {
@@ -124,7 +99,7 @@ fn listed(
 }
 
 // The same, where the question is refused.
-fn asked(t: Tally, mark_1: u8, a: u16, b: u16, c: u16, places: usize, number: u64) -> Tally {
+fn asked(t: Tally, mark_1: u8, a: u16, b: u16, c: u16, places: u32, number: u64) -> Tally {
     pairs(
         t,
         4,
@@ -146,7 +121,7 @@ fn asked(t: Tally, mark_1: u8, a: u16, b: u16, c: u16, places: usize, number: u6
 fn lent(
     t: Tally,
     n: u32,
-    entries: usize,
+    entries: u32,
     first: u32,
     bytes: usize,
     mark_1: u8,
@@ -170,7 +145,7 @@ fn lent(
 }
 
 // The same with a = b.
-fn lent_point(t: Tally, n: u32, entries: usize, first: u32, bytes: usize, number: u64) -> Tally {
+fn lent_point(t: Tally, n: u32, entries: u32, first: u32, bytes: usize, number: u64) -> Tally {
     pairs(
         t,
         n,
@@ -189,7 +164,7 @@ fn lent_point(t: Tally, n: u32, entries: usize, first: u32, bytes: usize, number
 }
 
 // The same with a list of no places.
-fn lent_no_list(t: Tally, n: u32, entries: usize, first: u32, bytes: usize, number: u64) -> Tally {
+fn lent_no_list(t: Tally, n: u32, entries: u32, first: u32, bytes: usize, number: u64) -> Tally {
     pairs(
         t,
         n,

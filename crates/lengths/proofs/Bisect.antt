@@ -17,6 +17,17 @@ pub bisect-failed : (test : ℕ → Bool) (k from : ℕ) → test (from + 2 ^ k 
 unfolding bisect
 bisect-failed test k from h = rw (bisect, h)
 
+-- the answer has k bits from `from` on, whatever the test
+pub bisect-below : (test : ℕ → Bool) (k from : ℕ) → bisect test k from < from + 2 ^ k
+unfolding bisect
+bisect-below test zero from = omega arith
+bisect-below test (suc k) from = halved (test (from + 2 ^ k - 1)) refl (bisect-below test k from) (bisect-below test k (from + 2 ^ k))
+  where
+    halved : (b : Bool) → test (from + 2 ^ k - 1) ≡ b → bisect test k from < from + 2 ^ k → bisect test k (from + 2 ^ k) < from + 2 ^ k + 2 ^ k
+        → bisect test (suc k) from < from + 2 ^ suc k
+    halved true h lower upper = rw (bisect-passed test k from h) (omega (arith, two-pow-succ k))
+    halved false h lower upper = rw (bisect-failed test k from h) (omega (arith, two-pow-succ k))
+
 -- what fails at d fails below it
 fails-below : {test : ℕ → Bool} → Growing test → (d e : ℕ) → test d ≡ false → test e ≡ true → d < e
 fails-below grows d e f t = elim (decLt d e) [

@@ -4,9 +4,10 @@ use mathlib.Core.Path.{_≡_, ap₂}
 use mathlib.Core.List.{List}
 use native.Mathlib.Nat.{mul-le-mul, add-comm}
 use native.Mathlib.Omega.{arith}
-use Rattle.lengths.specs.Distance.{Gaps}
+use Rattle.lengths.specs.asks.Distance.{Gaps}
 use Rattle.lengths.specs.Instance.{mostCoordinate}
-use Rattle.lengths.specs.Measure.{xOf, yOf, gapOf, squares, Located}
+use Rattle.lengths.specs.Measure.{xOf, yOf, gapOf, squares}
+use Rattle.lengths.specs.asks.Measure.{Located}
 
 pub gap-up : {a b : ℕ} → a < b → b - a ≡ gapOf a b
 unfolding gapOf

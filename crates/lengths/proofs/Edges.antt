@@ -12,7 +12,8 @@ use lib.ListN.{length, getD, length-append, List·getD-append}
 use lib.Seq.{getD-append-add}
 use borrow.Author.Tests.{lt-ltb, le-ltb}
 use Rattle.lengths.specs.Instance.{fewEdges, fewPoints, mostEdges, mostPoints}
-use Rattle.lengths.specs.Edge.{edge, IsEdge, IsEdgeUp, Before, Placed, edgeCount, row, rows, edges, tri, placeUp, place}
+use Rattle.lengths.specs.Edge.{edge, IsEdge, Before, edgeCount, row, rows, edges, tri, placeUp, place}
+use Rattle.lengths.specs.asks.Edge.{IsEdgeUp, Placed, Cursor, Follows}
 
 -- 2 tri k = k (k - 1), without subtraction
 pub tri-square : (k : ℕ) → 2 * tri k + k ≡ k * k
@@ -181,7 +182,7 @@ place-injective {n} {a} {b} {c} {d} e f h =
     down {x} {y} i = place-down n x y (omega (arith, i .up))
 
 -- the edge after ab in 01's order: to the next point of its row, or, where b is n, the first of the next row
-pub next-in-row : {n a b i : ℕ} → IsEdgeUp n a b → placeUp n a b ≡ i → b < n → IsEdgeUp n a (b + 1) × (placeUp n a (b + 1) ≡ i + 1)
+next-in-row : {n a b i : ℕ} → IsEdgeUp n a b → placeUp n a b ≡ i → b < n → IsEdgeUp n a (b + 1) × (placeUp n a (b + 1) ≡ i + 1)
 next-in-row {n} {a} {b} {i} e h g =
     let f : IsEdgeUp n a (b + 1) = record { low = e .low; up = omega (arith, e); high = omega arith } in
     (f, omega (arith, placeUp-sum e, placeUp-sum f, e))
@@ -195,13 +196,33 @@ row-below {n} {a} {b} {i} e h g k = elim (decLt (a + 1) n) [
       absurd (omega (arith, placeUp-sum e, tri-row n a (omega (arith, e)), ap tri m, tri-suc 0, tri-square 0, edgeCount-tri n, e))
 ]
 
-pub next-row : {n a b i : ℕ} → IsEdgeUp n a b → placeUp n a b ≡ i → n ≤ b → i + 1 < edgeCount n
-    → IsEdgeUp n (a + 1) (a + 1 + 1) × (placeUp n (a + 1) (a + 1 + 1) ≡ i + 1)
+next-row : {n a b i : ℕ} → IsEdgeUp n a b → placeUp n a b ≡ i → n ≤ b → i + 1 < edgeCount n
+    → IsEdgeUp n (a + 1) (a + 2) × (placeUp n (a + 1) (a + 2) ≡ i + 1)
 next-row {n} {a} {b} {i} e h g k =
     let t : n + 1 - (a + 1) ≡ n - a = omega (arith, e) in
     let below : a + 1 < n = row-below e h g k in
-    let f : IsEdgeUp n (a + 1) (a + 1 + 1) = record { low = omega arith; up = omega arith; high = omega arith } in
+    let f : IsEdgeUp n (a + 1) (a + 2) = record { low = omega arith; up = omega arith; high = omega arith } in
     (f, omega (arith, placeUp-sum e, placeUp-sum f, tri-row n a (omega (arith, e)), ap tri t, e))
+
+-- two points have an edge
+pub tri-some : (n : ℕ) → 2 ≤ n → 1 ≤ tri n
+unfolding tri
+tri-some zero h = absurd (omega arith)
+tri-some (suc k) h = omega arith
+
+-- a cursor over the edges begins at 1-2, and goes on to the edge that follows
+pub cursor-start : {n : ℕ} → 2 ≤ n → Cursor n 0 1 2
+unfolding placeUp
+cursor-start {n} h = record { here = λ _. (record { low = omega arith; up = omega arith; high = h }, start) }
+  where
+    start : placeUp n 1 2 ≡ 0
+    start = let e : n + 1 - 1 ≡ n = omega arith in omega (arith, ap tri e)
+
+pub follows-along : {n a b : ℕ} → IsEdgeUp n a b → b < n → Follows n a b a (b + 1)
+follows-along e g = record { next = λ at h. record { here = λ _. next-in-row e h g } }
+
+pub follows-down : {n a b : ℕ} → IsEdgeUp n a b → n ≤ b → Follows n a b (a + 1) (a + 2)
+follows-down {n} {a} e g = record { next = λ at h. record { here = λ k. next-row e h g k } }
 
 -- the list of edges
 

@@ -6,7 +6,8 @@ use mathlib.Core.Bool.{Bool, true, false, not, true≢false}
 use native.Mathlib.Omega.{arith}
 use mir.Val.{boolByte}
 use Rattle.lengths.specs.declared.distance.Rule.{Rule}
-use Rattle.lengths.specs.Distance.{Growing, Least, passes, stepFrom, Close, Distance}
+use Rattle.lengths.specs.Distance.{Growing, Least, passes}
+use Rattle.lengths.specs.asks.Distance.{stepFrom, Close, Distance}
 use Rattle.lengths.proofs.Bisect.{least-after, least-unique}
 use Rattle.lengths.proofs.Distances.{passes-grow, distance-least}
 use Rattle.lengths.specs.Instance.{mostSquares}

@@ -15,31 +15,31 @@ use Rattle.lists.specs.Test.{allAtMost, AtMost}
 use Rattle.lists.proofs.Bools.{and-left, and-right}
 
 -- the loop of the test, at number i: `within` and the numbers that are left say what the test of all says
-pub record Looked (limit : ℕ) (xs : List ℕ) (within : Bool) (i : ℕ) : Type 0 where
+pub record Limiting (limit : ℕ) (xs : List ℕ) (within : Bool) (i : ℕ) : Type 0 where
   pub inside : i ≤ length xs
   pub same : (within && allAtMost limit (drop i xs)) ≡ allAtMost limit xs
 
-module _ {limit : ℕ} {xs : List ℕ} {within : Bool} {i : ℕ} (at : Looked limit xs within i) where
+module _ {limit : ℕ} {xs : List ℕ} {within : Bool} {i : ℕ} (at : Limiting limit xs within i) where
   -- one turn, by the way that its branch went: A, a number above the limit decides; B, any other changes nothing
-  pub look-on : {next : Bool} {A B : Type 0} → i < length xs → (A → limit < getD xs i 0) → (B → getD xs i 0 ≤ limit)
-      → (A × (next ≡ false)) ⊎ (B × (next ≡ within)) → Looked limit xs next (i + 1)
+  pub limiting-on : {next : Bool} {v : ℕ} {A B : Type 0} → i < length xs → v ≡ getD xs i 0 → (A → limit < v) → (B → v ≤ limit)
+      → (A × (next ≡ false)) ⊎ (B × (next ≡ within)) → Limiting limit xs next (i + 1)
   unfolding allAtMost
-  look-on h above below (inl (a, e)) = record {
+  limiting-on h is above below (inl (a, e)) = record {
     inside = omega arith;
-    same = rw e (rw (drop-cons xs i 0 h, lt-leb (getD xs i 0) limit (above a), and-false) at (at .same));
+    same = rw e (rw (drop-cons xs i 0 h, lt-leb (getD xs i 0) limit (omega (arith, is, above a)), and-false) at (at .same));
   }
-  look-on h above below (inr (b, e)) = record {
+  limiting-on h is above below (inr (b, e)) = record {
     inside = omega arith;
-    same = rw (e, add-one) (rw (drop-cons xs i 0 h, le-leb (getD xs i 0) limit (below b)) at (at .same));
+    same = rw (e, add-one) (rw (drop-cons xs i 0 h, le-leb (getD xs i 0) limit (omega (arith, is, below b))) at (at .same));
   }
 
   -- where no number is left, `within` is the answer
-  pub look-done : length xs ≤ i → within ≡ allAtMost limit xs
+  pub limiting-done : length xs ≤ i → within ≡ allAtMost limit xs
   unfolding allAtMost
-  look-done h = rw (drop-of-length-le xs h, and-true) at (at .same)
+  limiting-done h = rw (drop-of-length-le xs h, and-true) at (at .same)
 
-pub look-start : (limit : ℕ) (xs : List ℕ) → Looked limit xs true 0
-look-start limit xs = record { inside = omega arith; same = refl }
+pub limiting-start : (limit : ℕ) (xs : List ℕ) → Limiting limit xs true 0
+limiting-start limit xs = record { inside = omega arith; same = refl }
 
 -- the test says that each number is within the limit
 pub limit-each : (limit : ℕ) (xs : List ℕ) → allAtMost limit xs ≡ true → AtMost limit xs

@@ -8,9 +8,10 @@ use native.Mathlib.Decide.{decLt}
 use native.Mathlib.Omega.{arith}
 use lib.ListN.{length, getD, set, length-set}
 use lib.Seq.{getD-set-same, getD-set-other}
-use Rattle.lengths.specs.Edge.{IsEdge, IsEdgeUp, Placed, tri, placeUp}
+use Rattle.lengths.specs.Edge.{IsEdge, tri, placeUp}
+use Rattle.lengths.specs.asks.Edge.{IsEdgeUp, Placed}
 use Rattle.lengths.specs.Table.{lengthOf}
-use Rattle.lengths.specs.Rows.{RowAt, RowFillable, RowPart, RowFilled, RowsFillable, RowsFilled}
+use Rattle.lengths.specs.asks.Rows.{RowAt, RowFillable, RowPart, RowFilled, RowsFillable, RowsFilled}
 use Rattle.lengths.proofs.Edges.{edgeCount-tri, tri-row, placeUp-sum, placeUp-below, place-along}
 use Rattle.lengths.proofs.Tables.{length-self, length-up, length-symmetric}
 
@@ -81,12 +82,12 @@ module _ {n at v from x : ℕ} {table rows r : List ℕ} (f : RowFillable n tabl
   pub below-room : at + x < length r
   below-room = omega (arith, b .part .size, f .room, f .point)
 
-  pub below-more : Below n table rows at v (set r (at + x) (getD table (from - 1) 0)) (from + (n - x - 1)) (x + 1)
-  below-more =
+  pub below-more : {d : ℕ} → d ≡ getD table (from - 1) 0 → Below n table rows at v (set r (at + x) d) (from + (n - x - 1)) (x + 1)
+  below-more is =
       let t : n + 1 - (x + 1) ≡ n - x = omega arith in
       let i : from - 1 ≡ placeUp n x v = omega (arith, below-place) in
       record {
-        part = part-more (b .part) (b .low) below-room (ap (λ (j : ℕ). getD table j 0) i ∙ sym (length-up n table x v h) ∙ length-symmetric n table x v);
+        part = part-more (b .part) (b .low) below-room (is ∙ ap (λ (j : ℕ). getD table j 0) i ∙ sym (length-up n table x v h) ∙ length-symmetric n table x v);
         low = omega arith;
         high = omega arith;
         here = omega (arith, b .here, ap tri t, tri-row n x (omega (arith, f .point)), f .point);
@@ -135,14 +136,14 @@ module _ {n at v i first : ℕ} {table rows r : List ℕ} (f : RowFillable n tab
   pub above-room : at + v + 1 + i < length r
   above-room = omega (arith, b .part .size, f .room, f .point)
 
-  pub above-more : Above n table rows at v (set r (at + v + 1 + i) (getD table (first + i) 0)) (i + 1)
-  above-more =
+  pub above-more : {d : ℕ} → d ≡ getD table (first + i) 0 → Above n table rows at v (set r (at + v + 1 + i) d) (i + 1)
+  above-more {d} is =
       let s : at + v + 1 + i ≡ at + (v + 1 + i) = omega arith in
       let t : v + 1 + (i + 1) ≡ v + 1 + i + 1 = omega arith in
-      let is : getD table (first + i) 0 ≡ lengthOf n table v (v + 1 + i) =
-      ap (λ (j : ℕ). getD table j 0) above-place ∙ sym (length-up n table v (v + 1 + i) (omega arith)) in
+      let here : d ≡ lengthOf n table v (v + 1 + i) =
+      is ∙ ap (λ (j : ℕ). getD table j 0) above-place ∙ sym (length-up n table v (v + 1 + i) (omega arith)) in
       record {
-        part = rw (s, t) (part-more (b .part) (omega arith) (omega (arith, above-room)) is);
+        part = rw (s, t) (part-more (b .part) (omega arith) (omega (arith, above-room)) here);
         high = omega arith;
       }
 

@@ -6,7 +6,8 @@ use native.Mathlib.Nat.{two-pow-succ}
 use native.Mathlib.Omega.{arith}
 use lib.Pow.{pow-pos}
 use Rattle.lengths.specs.declared.distance.Rule.{Rule}
-use Rattle.lengths.specs.Distance.{passes, bisect, distanceBy, Distance}
+use Rattle.lengths.specs.Distance.{passes, bisect, distanceBy}
+use Rattle.lengths.specs.asks.Distance.{Distance}
 use Rattle.lengths.proofs.Bisect.{bisect-passed, bisect-failed}
 
 -- `bits` bits are left, the answer is one of the `width` numbers from `least` on, and the search from here gives it

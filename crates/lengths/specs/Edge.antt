@@ -52,17 +52,6 @@ pub record IsEdge (n a b : ℕ) : Type 0 where
   pub second : Point n b
   pub apart : a ≡ b → ⊥
 
--- ab is an edge, and a its lower point
-pub record IsEdgeUp (n a b : ℕ) : Type 0 where
-  pub low : 1 ≤ a
-  pub up : a < b
-  pub high : b ≤ n
-
 -- 01's order of two edges ab and cd, each with its lower point first: by the lower point, then by the higher
 abbrev pub Before : ℕ → ℕ → ℕ → ℕ → Type 0
 Before a b c d = (a < c) ⊎ ((a ≡ c) × (b < d))
-
--- what `place` answers: the place of ab, which lies in a table of n points
-pub record Placed (n a b r : ℕ) : Type 0 where
-  pub at : r ≡ place n a b
-  pub inside : r < edgeCount n

@@ -1,6 +1,6 @@
+pub mod asks
 pub mod Distance
 pub mod Edge
 pub mod Instance
 pub mod Measure
-pub mod Rows
 pub mod Table

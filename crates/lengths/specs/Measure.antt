@@ -1,14 +1,15 @@
 -- The operation "measure" (01, "Each operation and its refusals"): coordinates into a table.
-use Prim.Native.Nat.{ℕ, _+_, _-_, _*_, _≤_}
+use Prim.Native.Nat.{ℕ, _+_, _-_, _*_}
 use mathlib.Core.Path.{_≡_}
 use mathlib.Core.Bool.{Bool, true, false}
 use mathlib.Core.List.{List, map}
 use lib.Dec.{eqb}
 use lib.ListN.{length, getD}
+use Rattle.endian.specs.Bytes.{bytes32, whole32}
 use Rattle.lengths.specs.Distance.{distanceBy, ruleOf}
 use Rattle.lengths.specs.Edge.{Edge, edge, edges, edgeCount}
-use Rattle.lengths.specs.Instance.{inRange, mostCoordinate, mostPoints}
-use Rattle.lists.specs.Test.{allAtMost, AtMost, unless}
+use Rattle.lengths.specs.Instance.{inRange, mostCoordinate}
+use Rattle.lists.specs.Test.{allAtMost, unless}
 use Rattle.lengths.specs.declared.distance.Rule.{Rule}
 use Rattle.lengths.specs.declared.distance.NamedRule.{NamedRule}
 use Rattle.lengths.specs.declared.distance.NamedRule.the-variants.{Known, Unknown}
@@ -53,32 +54,16 @@ measured n rule cs size =
     (unless (allAtMost mostCoordinate cs) (Refused 4 0)
     Done))))
 
--- the table that is left: filled where nothing is refused, else as it was
+-- the table's bytes that are left: those of the lengths where nothing is refused, else as they were
 abbrev pub leftBy : Measured → NamedRule → ℕ → List ℕ → List ℕ → List ℕ
 leftBy (Refused number rec) named n cs table = table
-leftBy Done (Known rule) n cs table = measuredTable rule cs n
+leftBy Done (Known rule) n cs table = bytes32 (measuredTable rule cs n)
 leftBy Done Unknown n cs table = table
 
 unfoldable pub tableAfter : ℕ → ℕ → List ℕ → List ℕ → List ℕ
-tableAfter n rule cs table = leftBy (measured n rule cs (length table)) (ruleOf rule) n cs table
+tableAfter n rule cs table = leftBy (measured n rule cs (length (whole32 table))) (ruleOf rule) n cs table
 
--- a and b are points whose coordinates are there
-pub record Located (cs : List ℕ) (a b : ℕ) : Type 0 where
-  pub low-a : 1 ≤ a
-  pub high-a : 2 * a ≤ length cs
-  pub low-b : 1 ≤ b
-  pub high-b : 2 * b ≤ length cs
-  pub small : AtMost mostCoordinate cs
-
--- what `fill` is given: at least two points, their coordinates, and a table of their edges
-pub record Fillable (n : ℕ) (cs table : List ℕ) : Type 0 where
-  pub some : 2 ≤ n
-  pub few : n ≤ mostPoints
-  pub located : length cs ≡ 2 * n
-  pub small : AtMost mostCoordinate cs
-  pub whole : length table ≡ edgeCount n
-
--- what `measure` ensures: its answer, and the table that it leaves
+-- what `measure` ensures of the coordinates that its bytes are: its answer, and the table's bytes that it leaves
 pub record MeasuredAs (n rule : ℕ) (cs table : List ℕ) (answer : Measured) (left : List ℕ) : Type 0 where
-  pub answered : answer ≡ measured n rule cs (length table)
+  pub answered : answer ≡ measured n rule cs (length (whole32 table))
   pub table-left : left ≡ tableAfter n rule cs table

@@ -1,27 +1,16 @@
 -- The length between two points by a table (01, "Points, lengths, marks").
-use Prim.Native.Nat.{ℕ, _^_, _≤_, _<_}
+use Prim.Native.Nat.{ℕ, _≤_}
 use mathlib.Core.Path.{_≡_}
 use mathlib.Core.Bool.{true, false}
 use mathlib.Core.List.{List}
 use lib.Dec.{eqb}
 use lib.ListN.{length, getD}
-use Rattle.lengths.specs.Edge.{Point, edgeCount, place}
+use Rattle.lengths.specs.Edge.{edgeCount, place}
 use Rattle.lengths.specs.Instance.{mostLength, mostPoints}
 
 -- the length between a and b: what stands at the place of ab, and 0 from a point to itself
 unfoldable pub lengthOf : ℕ → List ℕ → ℕ → ℕ → ℕ
 lengthOf n table a b = elim (eqb a b) [ true ↦ 0 | false ↦ getD table (place n a b) 0 ]
-
--- a and b are points, and the table is one of n points
-pub record Spans (n : ℕ) (table : List ℕ) (a b : ℕ) : Type 0 where
-  pub first : Point n a
-  pub second : Point n b
-  pub whole : length table ≡ edgeCount n
-
--- what `length_between` answers: the length, of 32 bits, so that no sum of a few of them wraps
-pub record LengthIs (n : ℕ) (table : List ℕ) (a b r : ℕ) : Type 0 where
-  pub at : r ≡ lengthOf n table a b
-  pub bits : r < 2 ^ 32
 
 -- a table of an instance's size, no length above its limit (01, "Points, lengths, marks")
 pub record Lengths (n : ℕ) (table : List ℕ) : Type 0 where

@@ -4,7 +4,8 @@ ghost use mathlib.Core.Path.{_≡_};
 ghost use mathlib.Core.Bool.{true};
 ghost use Prim.Native.Nat.{_≤_, _<_, max};
 ghost use Rattle.lengths.specs.Instance.{mostSquares};
-ghost use Rattle.lengths.specs.Distance.{passes, Measurable, Distance, ruleOf, stepFrom, Close, Gaps};
+ghost use Rattle.lengths.specs.Distance.{passes, ruleOf};
+ghost use Rattle.lengths.specs.asks.Distance.{Measurable, Distance, stepFrom, Close, Gaps};
 
 // The rules of 01, under TSPLIB's names.
 pub enum Rule {

@@ -1,7 +1,9 @@
 // The edges of an instance and their places in a table or a set of marks.
 ghost use mathlib.Core.Path.{_≡_};
-ghost use Prim.Native.Nat.{min};
-ghost use Rattle.lengths.specs.Edge.{edgeCount, IsEdge, IsEdgeUp, Placed, placeUp};
+ghost use Prim.Native.Nat.{min, _≤_};
+ghost use Rattle.lengths.specs.Edge.{edgeCount, IsEdge, placeUp};
+ghost use Rattle.lengths.specs.asks.Edge.{Follows, IsEdgeUp, Placed};
+ghost use Rattle.lengths.specs.Instance.{mostPoints};
 
 // How many edges n points have.
 pub fn count(n: u16) -> usize
@@ -42,4 +44,27 @@ fn place_up(n: u16, a: u16, b: u16) -> usize
     let low = a as usize;
     let high = b as usize;
     (low - 1) * (2 * points - low) / 2 + (high - low - 1)
+}
+
+// The edge that a walk over the edges comes to next, by its lower and its higher point.
+pub struct NextEdge {
+    pub low: usize,
+    pub high: usize,
+}
+
+// The edge behind ab in 01's order: to the next point of the row of a, or the first of the next row.
+pub fn following(n: usize, a: usize, b: usize) -> NextEdge
+    requires { ⌜ (n ≤ mostPoints) × IsEdgeUp n a b ⌝ }
+    ensures { λ r. ⌜ Follows n a b (r .low) (r .high) ⌝ }
+{
+    if b < n {
+        return NextEdge {
+            low: a,
+            high: b + 1,
+        };
+    }
+    NextEdge {
+        low: a + 1,
+        high: a + 2,
+    }
 }

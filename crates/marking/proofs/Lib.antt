@@ -1,5 +1,4 @@
 pub mod ListingAnswers
-pub mod ListingCopy
 pub mod MarkingSheets
 pub mod TestWays
 pub mod Tested

@@ -6,26 +6,32 @@ use mathlib.Core.List.{List, _++_}
 use native.Mathlib.Omega.{arith}
 use lib.Dec.{leb}
 use lib.ListN.{length, take, drop}
+use lib.Seq.{length-take-le}
 use borrow.Author.Tests.{le-leb, lt-leb}
-use Rattle.lengths.specs.Edge.{edgeCount}
+use Rattle.endian.specs.Bytes.{bytes16}
+use Rattle.endian.specs.asks.Bytes.{EncodeAsked}
+use Rattle.lengths.specs.Edge.{Edge, edgeCount}
 use Rattle.lists.specs.Test.{unless}
-use Rattle.marks.specs.Mark.{openIn, Marked}
+use Rattle.marks.specs.Mark.{openIn}
+use Rattle.marks.specs.asks.Mark.{MarkAsked}
 use Rattle.argument.specs.Record.{splits, fits}
 use Rattle.argument.proofs.Tests.{Fits, fits-means}
 use Rattle.lengths.specs.Instance.{fewEdges, fewPoints, mostEdges}
-use Rattle.enumeration.specs.Find.{pairsAt, Found, FindAsked}
-use Rattle.marking.specs.Listing.{askTested, listTests, listTested, listed, listLeft, ListedInto, ListedAs}
+use Rattle.enumeration.specs.Find.{pairsAt}
+use Rattle.enumeration.specs.asks.Find.{Found, FindAsked}
+use Rattle.marking.specs.Listing.{listTested, listed, listLeft, placesOf, ListedAs}
+use Rattle.marking.specs.asks.Listing.{askTested, listTests, ListedInto}
 use Rattle.marking.specs.Tests.{tested}
 use Rattle.marking.specs.declared.listing.Listed.{Listed}
 use Rattle.marking.specs.declared.listing.Listed.the-variants.{Pairs, Refused}
 use Rattle.marking.specs.declared.tests.Tested.{Tested}
 use Rattle.marking.specs.declared.tests.Tested.the-variants as tests
 use Rattle.lengths.proofs.Edges.{edges-few, edges-fewer}
-use Rattle.marking.proofs.Tested.{Passed, passed}
+use Rattle.marking.proofs.Tested.{InstancePassed, passed}
 
 -- tests 1, 2, 5, 6 and 11 are passed
 pub record Fitted (n : ℕ) (table marks : List ℕ) (m a b c : ℕ) : Type 0 where
-  pub passed : Passed n table marks m
+  pub passed : InstancePassed n table marks m
   pub fit : fits m a b (splits c 0) ≡ true
 
 -- and test 12
@@ -37,7 +43,7 @@ module _ {n : ℕ} {table marks : List ℕ} {m a b c : ℕ} where
   fitting : Fitted n table marks m a b c → Fits m a b (splits c 0)
   fitting f = fits-means m a b (splits c 0) (f .fit)
 
-  pub markable : Fitted n table marks m a b c → Marked m marks a b
+  pub markable : Fitted n table marks m a b c → MarkAsked m marks a b
   markable f =
       let p = fitting f in
       record { is-edge = record { first = p .point-a; second = p .point-b; apart = p .apart }; whole = f .passed .marked }
@@ -76,7 +82,7 @@ module _ (n : ℕ) (table marks : List ℕ) (a b c : ℕ) where
   tests-shared h = rw (listTests, h)
 
   module _ {m : ℕ} where
-    pub tests-points : Passed n table marks m → fits m a b (splits c 0) ≡ false → tests.Refused 11 ≡ listTests n table marks a b c
+    pub tests-points : InstancePassed n table marks m → fits m a b (splits c 0) ≡ false → tests.Refused 11 ≡ listTests n table marks a b c
     unfolding listTests
     tests-points p e = rw (listTests, p .answer, e)
 
@@ -124,18 +130,18 @@ module _ (n : ℕ) (table marks : List ℕ) (a b c : ℕ) where
           }
 
 module _ {n : ℕ} {table marks : List ℕ} {a b c : ℕ} {list : List ℕ} where
-  refused : {k : ℕ} → listed n table marks a b c (length list) ≡ Refused k 0 → ListedAs n table marks a b c list (Refused k 0) list
+  refused : {k : ℕ} → listed n table marks a b c (placesOf list) ≡ Refused k 0 → ListedAs n table marks a b c list (Refused k 0) list
   refused h = record { answered = sym h; list-left = rw h }
 
   -- a refusal of the tests is the answer
   pub refused-tests : {k : ℕ} → listTests n table marks a b c ≡ tests.Refused k → ListedAs n table marks a b c list (Refused k 0) list
-  refused-tests h = refused (tests-refused n table marks a b c (length list) h)
+  refused-tests h = refused (tests-refused n table marks a b c (placesOf list) h)
 
   module _ {m : ℕ} where
     -- what `list_into` answers is the answer
     pub listed-as : {answer : Listed} {left : List ℕ} → Listable n table marks m a b c → ListedInto m table marks a b c list answer left → ListedAs n table marks a b c list answer left
     listed-as {answer} {left} f r =
-        let e : answer ≡ listed n table marks a b c (length list) = r .answered ∙ sym (reached f (length list)) in
+        let e : answer ≡ listed n table marks a b c (placesOf list) = r .answered ∙ sym (reached f (placesOf list)) in
         record {
           answered = e;
           list-left =
@@ -144,16 +150,29 @@ module _ {n : ℕ} {table marks : List ℕ} {a b c : ℕ} {list : List ℕ} wher
               ∙ ap (λ (x : Listed). listLeft x n table marks a b c list) e;
         }
 
+-- the pairs found, two numbers each
+module _ {pairs : List Edge} {count : ℕ} {found : List ℕ} (r : Found pairs count found) where
+  pub found-length : 2 * count ≡ length (take (2 * count) found)
+  found-length = sym (length-take-le (2 * count) found (r .room))
+
+  pub encodable : {list : List ℕ} → 2 * count ≤ placesOf list → EncodeAsked 2 (take (2 * count) found) list
+  encodable {list} h = record { room = omega (arith, found-length) }
+
 -- the ways out of `list_into`
 module _ {n : ℕ} {table marks : List ℕ} {a b c : ℕ} {list : List ℕ} {count : ℕ} {found : List ℕ} (r : Found (pairsAt n table marks a b c) count found) where
-  pub into-refused : length list < 2 * count → ListedInto n table marks a b c list (Refused 18 0) list
+  pub into-refused : placesOf list < 2 * count → ListedInto n table marks a b c list (Refused 18 0) list
   into-refused h = record {
-    answered = sym (rw (lt-leb (2 * length (pairsAt n table marks a b c)) (length list) (omega (arith, r .counted))));
+    answered = sym (rw (lt-leb (2 * length (pairsAt n table marks a b c)) (placesOf list) (omega (arith, r .counted))));
     list-left = refl;
   }
 
-  pub into-pairs : {left : List ℕ} → 2 * count ≤ length list → left ≡ take (2 * count) found ++ drop (2 * count) list → ListedInto n table marks a b c list (Pairs count) left
+  pub into-pairs : {left : List ℕ} → 2 * count ≤ placesOf list → left ≡ bytes16 (take (2 * count) found) ++ drop (2 * length (take (2 * count) found)) list
+      → ListedInto n table marks a b c list (Pairs count) left
   into-pairs h w = record {
-    answered = sym (rw (le-leb (2 * length (pairsAt n table marks a b c)) (length list) (omega (arith, r .counted))) (ap Pairs (sym (r .counted))));
-    list-left = w ∙ ap (λ (xs : List ℕ). xs ++ drop (2 * count) list) (r .front);
+    answered = sym (rw (le-leb (2 * length (pairsAt n table marks a b c)) (placesOf list) (omega (arith, r .counted))) (ap Pairs (sym (r .counted))));
+    list-left =
+        let all : 2 * length (take (2 * count) found) ≡ 4 * count = omega (arith, found-length r) in
+        w
+        ∙ ap (λ (k : ℕ). bytes16 (take (2 * count) found) ++ drop k list) all
+        ∙ ap (λ (xs : List ℕ). bytes16 xs ++ drop (4 * count) list) (r .front);
   }

@@ -11,18 +11,19 @@ use Rattle.lists.specs.Test.{unless}
 use Rattle.argument.specs.Record.{records}
 use Rattle.argument.specs.Sheet.{Result, sheet}
 use Rattle.sheets.proofs.Records.{sheet-records, sheet-admitted, sheet-refused}
-use Rattle.sheets.specs.Lines.{RowsAsked}
-use Rattle.sheets.specs.Results.{resultOf}
+use Rattle.sheets.specs.asks.Line.{RowsAsked}
+use Rattle.sheets.specs.Verdict.{resultOf}
 use Rattle.sheets.specs.Rules.{markingOf}
-use Rattle.sheets.specs.Sheets.{wholeSheet, sheetAdmission}
-use Rattle.sheets.specs.Walks.{Admitted}
+use Rattle.sheets.specs.Sheet.{wholeSheet}
+use Rattle.sheets.specs.asks.Sheet.{sheetAdmission}
+use Rattle.sheets.specs.asks.Walk.{Admitted}
 use Rattle.sheets.specs.declared.sheet.Sheet as declared
 use Rattle.sheets.specs.declared.sheet.SheetAdmission.{SheetAdmission}
 use Rattle.sheets.specs.declared.sheet.SheetAdmission.the-variants as admitting
 use Rattle.sheets.specs.declared.verdict.Verdict.{Verdict}
 use Rattle.sheets.specs.declared.verdict.Verdict.the-variants as verdict
 use Rattle.marking.proofs.Tested.{passed}
-use Rattle.marking.specs.Marking.{turnedDown, markTested, markSheet}
+use Rattle.marking.specs.Mark.{turnedDown, markTested, markSheet}
 use Rattle.marking.specs.Tests.{tested}
 use Rattle.marking.specs.declared.tests.Tested.{Tested}
 use Rattle.marking.specs.declared.tests.Tested.the-variants.{Points, Refused}

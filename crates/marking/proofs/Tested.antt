@@ -19,7 +19,7 @@ use Rattle.marking.specs.declared.tests.Tested.{Tested}
 use Rattle.marking.specs.declared.tests.Tested.the-variants.{Points, Refused}
 
 -- the tests pass an instance of n points, and answer n
-pub record Passed (n : ℕ) (table marks : List ℕ) (m : ℕ) : Type 0 where
+pub record InstancePassed (n : ℕ) (table marks : List ℕ) (m : ℕ) : Type 0 where
   pub answer : tested n table marks ≡ Points m
   pub range : inRange n ≡ true
   pub same : m ≡ n
@@ -45,7 +45,7 @@ pub range-admits : (n : ℕ) → inRange n ≡ true → Admits n (record { point
 unfolding admission
 range-admits n h = admitted (rw (admission, h))
 
-pub passed : {n : ℕ} {table marks : List ℕ} {m : ℕ} → tested n table marks ≡ Points m → Passed n table marks m
+pub passed : {n : ℕ} {table marks : List ℕ} {m : ℕ} → tested n table marks ≡ Points m → InstancePassed n table marks m
 unfolding tested
 passed {n} {table} {marks} {m} h =
     let p1 = unless-passed (inRange n) 1 _ m h in

@@ -14,10 +14,11 @@ use Rattle.rules.specs.PairTest.{every}
 use Rattle.lengths.proofs.Tables.{length-small}
 use Rattle.tours.specs.Tour.{total, tourLength}
 use Rattle.marking.specs.Tests.{tested}
-use Rattle.marking.specs.TourCheck.{isTour, TourAsked, tourChecked, CheckedAs}
+use Rattle.marking.specs.Tour.{isTour, tourChecked, CheckedAs}
+use Rattle.marking.specs.asks.Tour.{TourAsked}
 use Rattle.marking.specs.declared.tests.Tested.the-variants as tests
 use Rattle.marking.specs.declared.tour.Checked.the-variants.{Tour, Refused}
-use Rattle.marking.proofs.Tested.{Passed}
+use Rattle.marking.proofs.Tested.{InstancePassed}
 use Rattle.marking.proofs.TourLoops.{tour-size}
 
 -- a sum of lengths, none above m
@@ -38,7 +39,7 @@ length-closed (a ∷ vs) = length-path a vs a
 
 -- the tests pass, and the numbers are a tour
 pub record Toured (n : ℕ) (table marks : List ℕ) (m : ℕ) (t : List ℕ) : Type 0 where
-  pub passed : Passed n table marks m
+  pub passed : InstancePassed n table marks m
   pub tour : isTour m t ≡ true
 
 module _ {n : ℕ} {table marks t : List ℕ} where
@@ -47,7 +48,7 @@ module _ {n : ℕ} {table marks t : List ℕ} where
   refused-tests h = record { answered = rw (tourChecked, h); countable = tt }
 
   module _ {m : ℕ} where
-    pub refused-tour : Passed n table marks m → isTour m t ≡ false → CheckedAs n table marks t (Refused 17 0)
+    pub refused-tour : InstancePassed n table marks m → isTour m t ≡ false → CheckedAs n table marks t (Refused 17 0)
     unfolding tourChecked
     refused-tour p e = record { answered = rw (tourChecked, p .answer, e); countable = tt }
 

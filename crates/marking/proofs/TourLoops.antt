@@ -9,13 +9,15 @@ use native.Mathlib.Omega.{arith}
 use lib.ListN.{length, getD, drop, drop-of-length-le}
 use lib.Seq.{drop-cons}
 use Rattle.lengths.specs.Edge.{Edge, edge, Point}
-use Rattle.lengths.specs.Table.{lengthOf, Spans, LengthIs}
+use Rattle.lengths.specs.Table.{lengthOf}
+use Rattle.lengths.specs.asks.Table.{Spans, LengthIs}
 use Rattle.sets.specs.EdgeSet.{pathEdges, closedEdges}
-use Rattle.marks.specs.Mark.{openIn, Marked}
+use Rattle.marks.specs.Mark.{openIn}
+use Rattle.marks.specs.asks.Mark.{MarkAsked}
 use Rattle.rules.specs.PairTest.{every}
 use Rattle.tours.specs.Tour.{Tour, total, tourLength}
 use Rattle.tours.proofs.Count.{tour-once, tour-length}
-use Rattle.marking.specs.TourCheck.{TourAsked}
+use Rattle.marking.specs.asks.Tour.{TourAsked}
 use Rattle.marking.proofs.TourCounts.{count-at, once-apart}
 use Rattle.marking.proofs.TourExact.{is-tour}
 
@@ -25,21 +27,21 @@ use Rattle.marking.proofs.TourExact.{is-tour}
 unfoldable pub left : List ℕ → ℕ → ℕ → List Edge
 left t a i = pathEdges a (drop i t) (getD t 0 0)
 
-left-start : (t : List ℕ) → 1 ≤ length t → left t (getD t 0 0) 1 ≡ closedEdges t
+left-start : (t : List ℕ) {v : ℕ} → 1 ≤ length t → v ≡ getD t 0 0 → left t v 1 ≡ closedEdges t
 unfolding left closedEdges
-left-start [] h = absurd (omega arith)
-left-start (a ∷ vs) h = refl
+left-start [] h is = absurd (omega arith)
+left-start (a ∷ vs) h is = ap (λ (w : ℕ). pathEdges w vs a) is
 
-left-on : (t : List ℕ) (a i : ℕ) → i < length t → left t a i ≡ edge a (getD t i 0) ∷ left t (getD t i 0) (i + 1)
+left-on : (t : List ℕ) (a i : ℕ) {v : ℕ} → i < length t → v ≡ getD t i 0 → left t a i ≡ edge a v ∷ left t v (i + 1)
 unfolding left pathEdges
-left-on t a i h = rw (left, add-one, drop-cons t i 0 h)
+left-on t a i h is = rw (left, add-one, drop-cons t i 0 h, is)
 
-left-end : (t : List ℕ) (a i : ℕ) → length t ≤ i → left t a i ≡ edge a (getD t 0 0) ∷ []
+left-end : (t : List ℕ) (a i : ℕ) {v : ℕ} → length t ≤ i → v ≡ getD t 0 0 → left t a i ≡ edge a v ∷ []
 unfolding left pathEdges
-left-end t a i h = rw (left, drop-of-length-le t h)
+left-end t a i h is = rw (left, drop-of-length-le t h, is)
 
 -- a is the point before place i
-pub record Around (t : List ℕ) (a i : ℕ) : Type 0 where
+pub record Preceding (t : List ℕ) (a i : ℕ) : Type 0 where
   pub low : 1 ≤ i
   pub high : i ≤ length t
   pub here : a ≡ getD t (i - 1) 0
@@ -57,39 +59,39 @@ module _ {n : ℕ} {places t : List ℕ} (g : TourAsked n places t) where
   at-point : (i : ℕ) → i < length t → Point n (getD t i 0)
   at-point i h = tour .only (getD t i 0) (count-at t i h)
 
-  around-start : Around t (getD t 0 0) 1
-  around-start = record { low = omega arith; high = first-there; here = refl }
+  preceding-start : {v : ℕ} → v ≡ getD t 0 0 → Preceding t v 1
+  preceding-start is = record { low = omega arith; high = first-there; here = is }
 
-  module _ {a i : ℕ} (r : Around t a i) where
-    around-point : Point n a
-    around-point = rw (r .here) (at-point (i - 1) (omega (arith, r)))
+  module _ {a i : ℕ} (r : Preceding t a i) where
+    preceding-point : Point n a
+    preceding-point = rw (r .here) (at-point (i - 1) (omega (arith, r)))
 
-    around-on : i < length t → Around t (getD t i 0) (i + 1)
-    around-on h = record { low = omega arith; high = omega arith; here = ap (λ (j : ℕ). getD t j 0) (let e : i ≡ i + 1 - 1 = omega arith in e) }
+    preceding-on : {v : ℕ} → i < length t → v ≡ getD t i 0 → Preceding t v (i + 1)
+    preceding-on h is = record { low = omega arith; high = omega arith; here = is ∙ ap (λ (j : ℕ). getD t j 0) (let e : i ≡ i + 1 - 1 = omega arith in e) }
 
-    pub spans-on : i < length t → Spans n places a (getD t i 0)
-    spans-on h = record { first = around-point; second = at-point i h; whole = g .whole }
+    pub spans-on : {v : ℕ} → i < length t → v ≡ getD t i 0 → Spans n places a v
+    spans-on h is = record { first = preceding-point; second = rw is (at-point i h); whole = g .whole }
 
-    pub spans-end : Spans n places a (getD t 0 0)
-    spans-end = record { first = around-point; second = at-point 0 first-there; whole = g .whole }
+    pub spans-end : {v : ℕ} → v ≡ getD t 0 0 → Spans n places a v
+    spans-end is = record { first = preceding-point; second = rw is (at-point 0 first-there); whole = g .whole }
 
-    pub marked-on : i < length t → Marked n places a (getD t i 0)
-    marked-on h = record {
+    pub marked-on : {v : ℕ} → i < length t → v ≡ getD t i 0 → MarkAsked n places a v
+    marked-on h is = record {
       is-edge = record {
-        first = around-point;
-        second = at-point i h;
-        apart = λ e. once-apart t (tour-once tour) (i - 1) i (omega (arith, r .low)) h (sym (r .here) ∙ e);
+        first = preceding-point;
+        second = rw is (at-point i h);
+        apart = λ e. once-apart t (tour-once tour) (i - 1) i (omega (arith, r .low)) h (sym (r .here) ∙ e ∙ is);
       };
       whole = g .whole;
     }
 
-    pub marked-end : length t ≤ i → Marked n places a (getD t 0 0)
-    marked-end h = record {
+    pub marked-end : {v : ℕ} → length t ≤ i → v ≡ getD t 0 0 → MarkAsked n places a v
+    marked-end h is = record {
       is-edge = record {
-        first = around-point;
-        second = at-point 0 first-there;
+        first = preceding-point;
+        second = rw is (at-point 0 first-there);
         apart = λ e.
-            once-apart t (tour-once tour) 0 (i - 1) (omega (arith, r, tour-size, g .some)) (omega (arith, r, first-there)) (sym e ∙ r .here);
+            once-apart t (tour-once tour) 0 (i - 1) (omega (arith, r, tour-size, g .some)) (omega (arith, r, first-there)) (sym is ∙ sym e ∙ r .here);
       };
       whole = g .whole;
     }
@@ -97,16 +99,16 @@ module _ {n : ℕ} {places t : List ℕ} (g : TourAsked n places t) where
 -- the loop of `length_of`
 
 pub record Summing (n : ℕ) (table t : List ℕ) (sum a i : ℕ) : Type 0 where
-  pub around : Around t a i
+  pub preceding : Preceding t a i
   pub small : sum ≤ 2 ^ 32 * i
   pub summed : sum + total (lengthOf n table) (left t a i) ≡ tourLength (lengthOf n table) t
 
-pub summing-start : {n : ℕ} {table t : List ℕ} → TourAsked n table t → Summing n table t 0 (getD t 0 0) 1
+pub summing-start : {n : ℕ} {table t : List ℕ} {v : ℕ} → TourAsked n table t → v ≡ getD t 0 0 → Summing n table t 0 v 1
 unfolding tourLength
-summing-start {n} {table} {t} g = record {
-  around = around-start g;
+summing-start {n} {table} {t} g is = record {
+  preceding = preceding-start g is;
   small = omega arith;
-  summed = omega (arith, ap (total (lengthOf n table)) (left-start t (first-there g)));
+  summed = omega (arith, ap (total (lengthOf n table)) (left-start t (first-there g) is));
 }
 
 module _ {n : ℕ} {table t : List ℕ} {sum a i d : ℕ} (g : TourAsked n table t) (s : Summing n table t sum a i) where
@@ -114,28 +116,28 @@ module _ {n : ℕ} {table t : List ℕ} {sum a i d : ℕ} (g : TourAsked n table
   sum-fits h b = omega (arith, s .small, tour-size g, g .few)
 
   pub last-fits : d < 2 ^ 32 → sum + d < 2 ^ 64
-  last-fits b = omega (arith, s .small, s .around .high, tour-size g, g .few)
+  last-fits b = omega (arith, s .small, s .preceding .high, tour-size g, g .few)
 
-  pub summing-on : i < length t → LengthIs n table a (getD t i 0) d → Summing n table t (sum + d) (getD t i 0) (i + 1)
+  pub summing-on : {v : ℕ} → i < length t → v ≡ getD t i 0 → LengthIs n table a v d → Summing n table t (sum + d) v (i + 1)
   unfolding total
-  summing-on h is = record {
-    around = around-on g (s .around) h;
+  summing-on h e is = record {
+    preceding = preceding-on g (s .preceding) h e;
     small = omega (arith, s .small, is .bits);
-    summed = omega (arith, s .summed, is .at, ap (total (lengthOf n table)) (left-on t a i h));
+    summed = omega (arith, s .summed, is .at, ap (total (lengthOf n table)) (left-on t a i h e));
   }
 
-  pub all-summed : length t ≤ i → LengthIs n table a (getD t 0 0) d → sum + d ≡ tourLength (lengthOf n table) t
+  pub all-summed : {v : ℕ} → length t ≤ i → v ≡ getD t 0 0 → LengthIs n table a v d → sum + d ≡ tourLength (lengthOf n table) t
   unfolding total
-  all-summed h is = omega (arith, s .summed, is .at, ap (total (lengthOf n table)) (left-end t a i h))
+  all-summed h e is = omega (arith, s .summed, is .at, ap (total (lengthOf n table)) (left-end t a i h e))
 
 -- the loop of `all_open`
 
-pub record Opening (n : ℕ) (marks t : List ℕ) (a i : ℕ) : Type 0 where
-  pub around : Around t a i
+pub record CheckingOpen (n : ℕ) (marks t : List ℕ) (a i : ℕ) : Type 0 where
+  pub preceding : Preceding t a i
   pub opened : every (openIn n marks) (left t a i) ≡ every (openIn n marks) (closedEdges t)
 
-pub opening-start : {n : ℕ} {marks t : List ℕ} → TourAsked n marks t → Opening n marks t (getD t 0 0) 1
-opening-start {n} {marks} {t} g = record { around = around-start g; opened = ap (every (openIn n marks)) (left-start t (first-there g)) }
+pub checking-start : {n : ℕ} {marks t : List ℕ} {v : ℕ} → TourAsked n marks t → v ≡ getD t 0 0 → CheckingOpen n marks t v 1
+checking-start {n} {marks} {t} g is = record { preceding = preceding-start g is; opened = ap (every (openIn n marks)) (left-start t (first-there g) is) }
 
 -- a test that failed, and one that passed, before the rest
 and-false : (s t : Bool) → s ≡ false → (s && t) ≡ false
@@ -148,20 +150,21 @@ last-and : (s : Bool) → (s && true) ≡ s
 last-and true = refl
 last-and false = refl
 
-module _ {n : ℕ} {marks t : List ℕ} {a i : ℕ} (g : TourAsked n marks t) (o : Opening n marks t a i) where
-  edge-on : i < length t → every (openIn n marks) (left t a i) ≡ (openIn n marks a (getD t i 0) && every (openIn n marks) (left t (getD t i 0) (i + 1)))
+module _ {n : ℕ} {marks t : List ℕ} {a i : ℕ} (g : TourAsked n marks t) (o : CheckingOpen n marks t a i) where
+  module _ {v : ℕ} (h : i < length t) (to : v ≡ getD t i 0) where
+    edge-on : every (openIn n marks) (left t a i) ≡ (openIn n marks a v && every (openIn n marks) (left t v (i + 1)))
+    unfolding every
+    edge-on = ap (every (openIn n marks)) (left-on t a i h to)
+
+    pub checking-on : {b : Bool} → b ≡ openIn n marks a v → b ≡ true → CheckingOpen n marks t v (i + 1)
+    checking-on is e = record {
+      preceding = preceding-on g (o .preceding) h to;
+      opened = sym (and-true (openIn n marks a v) _ (sym is ∙ e)) ∙ sym edge-on ∙ o .opened;
+    }
+
+    pub struck-on : {b : Bool} → b ≡ openIn n marks a v → b ≡ false → false ≡ every (openIn n marks) (closedEdges t)
+    struck-on is e = sym (and-false (openIn n marks a v) _ (sym is ∙ e)) ∙ sym edge-on ∙ o .opened
+
+  pub all-opened : {b : Bool} {v : ℕ} → length t ≤ i → v ≡ getD t 0 0 → b ≡ openIn n marks a v → b ≡ every (openIn n marks) (closedEdges t)
   unfolding every
-  edge-on h = ap (every (openIn n marks)) (left-on t a i h)
-
-  pub opening-on : {b : Bool} → i < length t → b ≡ openIn n marks a (getD t i 0) → b ≡ true → Opening n marks t (getD t i 0) (i + 1)
-  opening-on h is e = record {
-    around = around-on g (o .around) h;
-    opened = sym (and-true (openIn n marks a (getD t i 0)) _ (sym is ∙ e)) ∙ sym (edge-on h) ∙ o .opened;
-  }
-
-  pub struck-on : {b : Bool} → i < length t → b ≡ openIn n marks a (getD t i 0) → b ≡ false → false ≡ every (openIn n marks) (closedEdges t)
-  struck-on h is e = sym (and-false (openIn n marks a (getD t i 0)) _ (sym is ∙ e)) ∙ sym (edge-on h) ∙ o .opened
-
-  pub all-opened : {b : Bool} → length t ≤ i → b ≡ openIn n marks a (getD t 0 0) → b ≡ every (openIn n marks) (closedEdges t)
-  unfolding every
-  all-opened h is = is ∙ sym (last-and (openIn n marks a (getD t 0 0))) ∙ ap (every (openIn n marks)) (sym (left-end t a i h)) ∙ o .opened
+  all-opened {v = v} h to is = is ∙ sym (last-and (openIn n marks a v)) ∙ ap (every (openIn n marks)) (sym (left-end t a i h to)) ∙ o .opened

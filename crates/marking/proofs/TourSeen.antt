@@ -1,7 +1,7 @@
 -- The loop of `each_once`: a flag is up exactly where the point stands among the numbers read, and these are points with none twice.
 -- Each way out shows that the numbers are a tour, or that they cannot be one. Assumes nothing.
 use Prim.Native.Nat.{ℕ, suc, _+_, _≤_, _<_}
-use mathlib.Core.Path.{_≡_, refl, sym, _∙_, ap}
+use mathlib.Core.Path.{_≡_, refl, sym, _∙_, ap, subst}
 use mathlib.Core.Bool.{Bool, true, false, true≢false}
 use mathlib.Core.List.{List}
 use native.Mathlib.Decide.{ℕ-discrete}
@@ -19,7 +19,7 @@ use Rattle.lengths.specs.Instance.{mostPoints, pointPlaces}
 use Rattle.tours.specs.Tour.{Tour}
 use Rattle.tours.proofs.Bit.{same, same-true, same-false, same-self}
 use Rattle.tours.proofs.Count.{tour-once, tour-length, points-all}
-use Rattle.marking.specs.TourCheck.{isTour}
+use Rattle.marking.specs.Tour.{isTour}
 use Rattle.marking.proofs.TourCounts.{count-take, count-front, count-at}
 use Rattle.marking.proofs.TourExact.{is-tour, tour-is}
 
@@ -55,57 +55,60 @@ seeing-start e = record {
 }
 
 module _ {n : ℕ} {t : List ℕ} {seen : List Bool} {i : ℕ} (s : Seeing n t seen i) where
-  module _ (few : n ≤ mostPoints) (h : i < length t) where
-    pub not-point : isPoint n (getD t i 0) ≡ false → false ≡ isTour n t
-    not-point p = no-tour n t (λ T. true≢false (sym (point-is (T .only (getD t i 0) (count-at t i h))) ∙ p))
+  module _ {w : ℕ} (few : n ≤ mostPoints) (h : i < length t) (is : w ≡ getD t i 0) where
+    -- one number more is counted
+    count-taken : (v : ℕ) → count v (take (suc i) t) ≡ count v (take i t) + same w v
+    count-taken v = count-take v t i h ∙ ap (λ (u : ℕ). count v (take i t) + same u v) (sym is)
 
-    module _ (p : isPoint n (getD t i 0) ≡ true) where
-      pub flag-inside : getD t i 0 < pointPlaces
-      flag-inside = omega (arith, is-point n (getD t i 0) p .high)
+    pub not-point : isPoint n w ≡ false → false ≡ isTour n t
+    not-point p = no-tour n t (λ T. true≢false (sym (point-is (T .only w (subst (λ (u : ℕ). 1 ≤ count u t) (sym is) (count-at t i h)))) ∙ p))
 
-      pub seen-twice : getD seen (getD t i 0) false ≡ true → false ≡ isTour n t
+    module _ (p : isPoint n w ≡ true) where
+      pub flag-inside : w < pointPlaces
+      flag-inside = omega (arith, is-point n w p .high)
+
+      pub seen-twice : getD seen w false ≡ true → false ≡ isTour n t
       seen-twice f = no-tour n t
           (λ T.
           omega (
             arith,
-            ltb-true 0 (count (getD t i 0) (take i t)) (sym (s .flags (getD t i 0) flag-inside) ∙ f),
-            tour-once T (getD t i 0),
-            count-front (getD t i 0) t (suc i),
-            count-take (getD t i 0) t i h,
-            same-self (getD t i 0),
+            ltb-true 0 (count w (take i t)) (sym (s .flags w flag-inside) ∙ f),
+            tour-once T w,
+            count-front w t (suc i),
+            count-taken w,
+            same-self w,
           ))
 
-      -- one number more is counted
-      further : (v : ℕ) → count v (take (i + 1) t) ≡ count v (take i t) + same (getD t i 0) v
-      further v = ap (λ (j : ℕ). count v (take j t)) (add-one i) ∙ count-take v t i h
+      further : (v : ℕ) → count v (take (i + 1) t) ≡ count v (take i t) + same w v
+      further v = ap (λ (j : ℕ). count v (take j t)) (add-one i) ∙ count-taken v
 
-      pub seeing-on : getD seen (getD t i 0) false ≡ false → Seeing n t (set seen (getD t i 0) true) (i + 1)
+      pub seeing-on : getD seen w false ≡ false → Seeing n t (set seen w true) (i + 1)
       seeing-on f = record {
         whole = s .whole;
         inside = omega arith;
-        size = length-set seen (getD t i 0) true ∙ s .size;
-        points = λ v g. elim (ℕ-discrete (getD t i 0) v) [
-          | yes e ↦ rw e at (is-point n (getD t i 0) p)
-          | no d ↦ s .points v (omega (arith, further v, same-false (getD t i 0) v d))
+        size = length-set seen w true ∙ s .size;
+        points = λ v g. elim (ℕ-discrete w v) [
+          | yes e ↦ rw e at (is-point n w p)
+          | no d ↦ s .points v (omega (arith, further v, same-false w v d))
         ];
-        once = λ v. elim (ℕ-discrete (getD t i 0) v) [
-          | yes e ↦ omega (arith, further v, same-true (getD t i 0) v e, fresh, ap (λ (u : ℕ). count u (take i t)) e)
-          | no d ↦ omega (arith, further v, same-false (getD t i 0) v d, s .once v)
+        once = λ v. elim (ℕ-discrete w v) [
+          | yes e ↦ omega (arith, further v, same-true w v e, fresh, ap (λ (u : ℕ). count u (take i t)) e)
+          | no d ↦ omega (arith, further v, same-false w v d, s .once v)
         ];
-        flags = λ v g. elim (ℕ-discrete (getD t i 0) v) [
+        flags = λ v g. elim (ℕ-discrete w v) [
           | yes e ↦
-              ap (λ (u : ℕ). getD (set seen (getD t i 0) true) u false) (sym e)
-              ∙ getD-set-same seen (getD t i 0) true false (omega (arith, s .size, flag-inside))
-              ∙ sym (lt-ltb 0 (count v (take (i + 1) t)) (omega (arith, further v, same-true (getD t i 0) v e)))
+              ap (λ (u : ℕ). getD (set seen w true) u false) (sym e)
+              ∙ getD-set-same seen w true false (omega (arith, s .size, flag-inside))
+              ∙ sym (lt-ltb 0 (count v (take (i + 1) t)) (omega (arith, further v, same-true w v e)))
           | no d ↦
-              getD-set-other seen (getD t i 0) v true false (λ e. d (sym e))
+              getD-set-other seen w v true false (λ e. d (sym e))
               ∙ s .flags v g
-              ∙ ap (ltb 0) (let e : count v (take i t) ≡ count v (take (i + 1) t) = omega (arith, further v, same-false (getD t i 0) v d) in e)
+              ∙ ap (ltb 0) (let e : count v (take i t) ≡ count v (take (i + 1) t) = omega (arith, further v, same-false w v d) in e)
         ];
       }
         where
-          fresh : count (getD t i 0) (take i t) ≤ 0
-          fresh = ltb-false 0 (count (getD t i 0) (take i t)) (sym (s .flags (getD t i 0) flag-inside) ∙ f)
+          fresh : count w (take i t) ≤ 0
+          fresh = ltb-false 0 (count w (take i t)) (sym (s .flags w flag-inside) ∙ f)
 
   pub all-seen : length t ≤ i → true ≡ isTour n t
   all-seen h =

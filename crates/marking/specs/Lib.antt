@@ -1,4 +1,5 @@
+pub mod asks
 pub mod Listing
-pub mod Marking
+pub mod Mark
 pub mod Tests
-pub mod TourCheck
+pub mod Tour

@@ -1,6 +1,7 @@
 // The operation "list pairs": the feasible pairs of K = {ab} at c.
 use crate::tests::Tested;
 use crate::tests::test_instance;
+use endian::bytes::encode16;
 use enumeration::find::find_pairs;
 use lengths::instance::Instance;
 use lengths::refusal;
@@ -8,10 +9,10 @@ use marks::mark::is_open;
 use sheets::sheet::Closing;
 use sheets::walk::points_fit;
 ghost use mathlib.Core.Path.{_≡_};
-ghost use mathlib.Core.List.{_++_};
-ghost use lib.ListN.{take, drop};
-ghost use Rattle.enumeration.specs.Find.{FindAsked};
-ghost use Rattle.marking.specs.Listing.{CopyAsked, listTests, ListedInto, ListedAs};
+ghost use Rattle.endian.specs.Bytes.{whole32};
+ghost use Rattle.enumeration.specs.asks.Find.{FindAsked};
+ghost use Rattle.marking.specs.Listing.{ListedAs};
+ghost use Rattle.marking.specs.asks.Listing.{listTests, ListedInto};
 
 // The answer of "list pairs": how many pairs there are, or the number of the refusal and its record, always 0.
 pub enum Listed {
@@ -19,47 +20,35 @@ pub enum Listed {
     Refused { refusal: u8, record: u16 },
 }
 
-// Copies the first numbers of `found` to the list.
-fn copy(found: &[u16], size: usize, list: &mut [u16])
-    requires { ⌜ CopyAsked (now found) size (now list) ⌝ }
-    ensures { λ _. ⌜ now (list .exit) ≡ take size (now (found .entry)) ++ drop size (now (list .entry)) ⌝ }
-{
-    let mut i = 0;
-    while i < size {
-        list[i] = found[i];
-        i += 1;
-    }
-}
-
 // Lists the feasible pairs of K = {ab} at c by way of `found`, which has room for all: test 18 comes before the list is written.
 fn list_into(
     n: u16,
-    table: &[u32],
+    table: &[u8],
     marks: &[u8],
     a: u16,
     b: u16,
     c: u16,
     found: &mut [u16],
-    list: &mut [u16],
+    list: &mut [u8],
 ) -> Listed
-    requires { ⌜ FindAsked n (now table) (now marks) a b c (now found) ⌝ }
-    ensures { λ r. ⌜ ListedInto n (now (table .entry)) (now (marks .entry)) a b c (now (list .entry)) r (now (list .exit)) ⌝ }
+    requires { ⌜ FindAsked n (whole32 (now table)) (now marks) a b c (now found) ⌝ }
+    ensures { λ r. ⌜ ListedInto n (whole32 (now (table .entry))) (now (marks .entry)) a b c (now (list .entry)) r (now (list .exit)) ⌝ }
 {
     let count = find_pairs(n, table, marks, a, b, c, found);
     let size = 2 * count as usize;
-    if list.len() < size {
+    if list.len() / 2 < size {
         return Listed::Refused {
             refusal: refusal::LIST,
             record: refusal::NO_RECORD,
         };
     }
-    copy(found, size, list);
+    encode16(&found[..size], list);
     Listed::Pairs(count)
 }
 
 // Tests 1, 2, 5, 6, 11 and 12: the number of points, or the number of the first refusal.
-pub fn test_listing(n: u32, table: &[u32], marks: &[u8], a: u16, b: u16, c: u16) -> Tested
-    ensures { λ r. ⌜ r ≡ listTests n (now (table .entry)) (now (marks .entry)) a b c ⌝ }
+fn test_listing(n: u32, table: &[u8], marks: &[u8], a: u16, b: u16, c: u16) -> Tested
+    ensures { λ r. ⌜ r ≡ listTests n (whole32 (now (table .entry))) (now (marks .entry)) a b c ⌝ }
 {
     let tested = test_instance(n, table, marks);
     let points = match tested {
@@ -76,17 +65,18 @@ pub fn test_listing(n: u32, table: &[u32], marks: &[u8], a: u16, b: u16, c: u16)
     Tested::Points(points)
 }
 
-// Lists the feasible pairs of K = {ab} at the split point c. A small instance takes a small array, which is cleared sooner.
+// Lists the feasible pairs of K = {ab} at the split point c, 16 bits a point: the list's places are its whole entries. A small instance takes a
+// small array, which is cleared sooner.
 pub fn list_pairs(
     n: u32,
-    table: &[u32],
+    table: &[u8],
     marks: &[u8],
     a: u16,
     b: u16,
     c: u16,
-    list: &mut [u16],
+    list: &mut [u8],
 ) -> Listed
-    ensures { λ r. ⌜ ListedAs n (now (table .entry)) (now (marks .entry)) a b c (now (list .entry)) r (now (list .exit)) ⌝ }
+    ensures { λ r. ⌜ ListedAs n (whole32 (now (table .entry))) (now (marks .entry)) a b c (now (list .entry)) r (now (list .exit)) ⌝ }
 {
     let tested = test_listing(n, table, marks, a, b, c);
     let points = match tested {

@@ -1,6 +1,7 @@
 // The operation "mark a sheet".
 use crate::tests::Tested;
 use crate::tests::test_instance;
+use endian::bytes::count16;
 use lengths::instance::Instance;
 use lengths::refusal;
 use lengths::rows::fill_rows;
@@ -9,14 +10,13 @@ use sheets::sheet::Sheet;
 use sheets::sheet::SheetAdmission;
 use sheets::verdict::Verdict;
 ghost use mathlib.Core.Path.{_≡_};
-ghost use Prim.Native.Nat.{_≤_};
-ghost use Rattle.lengths.specs.Instance.{fewPoints};
+ghost use Rattle.endian.specs.Bytes.{whole16, whole32};
 ghost use Rattle.argument.specs.Sheet as lines;
-ghost use Rattle.sheets.specs.Lines.{RowsAsked};
-ghost use Rattle.sheets.specs.Results.{resultOf};
+ghost use Rattle.sheets.specs.asks.Line.{RowsAsked};
+ghost use Rattle.sheets.specs.Verdict.{resultOf};
 ghost use Rattle.sheets.specs.Rules.{markingOf};
-ghost use Rattle.sheets.specs.Walks.{Admitted};
-ghost use Rattle.marking.specs.Marking.{markSheet};
+ghost use Rattle.sheets.specs.asks.Walk.{Admitted};
+ghost use Rattle.marking.specs.Mark.{markSheet};
 
 // The numbers in the rows of few points: a place for each point and one for 0, in the row of each point and of 0.
 const FEW_ROWS: usize = Instance::FEW_PLACES * Instance::FEW_PLACES;
@@ -27,46 +27,30 @@ const MOST_ROWS: usize = Instance::PLACES * Instance::PLACES;
 // Writes the rows of lengths, and marks the lines by them.
 fn mark_by_rows(
     n: u16,
-    table: &[u32],
+    table: &[u8],
     rows: &mut [u32],
     marks: &mut [u8],
-    sheet: &[u16],
+    sheet: &[u8],
     count: u16,
 ) -> Verdict
-    requires { ⌜ RowsAsked n (now table) (now rows) (now marks) (now sheet) count ⌝ }
-    ensures { λ r. ⌜ resultOf r (now (marks .exit)) ≡ lines.sheet (markingOf n (now (table .entry))) (now (sheet .entry)) (now (marks .entry)) ⌝ }
+    requires { ⌜ RowsAsked n (whole32 (now table)) (now rows) (now marks) (whole16 (now sheet)) count ⌝ }
+    ensures { λ r. ⌜ resultOf r (now (marks .exit)) ≡ lines.sheet (markingOf n (whole32 (now (table .entry)))) (whole16 (now (sheet .entry))) (now (marks .entry)) ⌝ }
 {
     fill_rows(n, table, rows);
     mark_lines(n, table, rows, marks, sheet, count)
 }
 
-// Marks the lines where there are few points.
-fn mark_few(n: u16, table: &[u32], marks: &mut [u8], sheet: &[u16], count: u16) -> Verdict
-    requires { ⌜ (Admitted n (now table) (now marks) (now sheet) count) × (n ≤ fewPoints) ⌝ }
-    ensures { λ r. ⌜ resultOf r (now (marks .exit)) ≡ lines.sheet (markingOf n (now (table .entry))) (now (sheet .entry)) (now (marks .entry)) ⌝ }
-{
-    let mut rows = [0u32; FEW_ROWS];
-    mark_by_rows(n, table, &mut rows, marks, sheet, count)
-}
-
-// Marks the lines, however many points there are.
-fn mark_many(n: u16, table: &[u32], marks: &mut [u8], sheet: &[u16], count: u16) -> Verdict
-    requires { ⌜ Admitted n (now table) (now marks) (now sheet) count ⌝ }
-    ensures { λ r. ⌜ resultOf r (now (marks .exit)) ≡ lines.sheet (markingOf n (now (table .entry))) (now (sheet .entry)) (now (marks .entry)) ⌝ }
-{
-    let mut rows = [0u32; MOST_ROWS];
-    mark_by_rows(n, table, &mut rows, marks, sheet, count)
-}
-
-// Marks the lines of a sheet that passed the tests, and has so many records.
-fn mark_admitted(n: u16, table: &[u32], marks: &mut [u8], sheet: &[u16], count: u16) -> Verdict
-    requires { ⌜ Admitted n (now table) (now marks) (now sheet) count ⌝ }
-    ensures { λ r. ⌜ resultOf r (now (marks .exit)) ≡ lines.sheet (markingOf n (now (table .entry))) (now (sheet .entry)) (now (marks .entry)) ⌝ }
+// Marks the lines of a sheet that passed the tests, and has so many records. Few points take a small array, which is cleared sooner.
+fn mark_admitted(n: u16, table: &[u8], marks: &mut [u8], sheet: &[u8], count: u16) -> Verdict
+    requires { ⌜ Admitted n (whole32 (now table)) (now marks) (whole16 (now sheet)) count ⌝ }
+    ensures { λ r. ⌜ resultOf r (now (marks .exit)) ≡ lines.sheet (markingOf n (whole32 (now (table .entry)))) (whole16 (now (sheet .entry))) (now (marks .entry)) ⌝ }
 {
     if n <= Instance::FEW_POINTS {
-        return mark_few(n, table, marks, sheet, count);
+        let mut rows = [0u32; FEW_ROWS];
+        return mark_by_rows(n, table, &mut rows, marks, sheet, count);
     }
-    mark_many(n, table, marks, sheet, count)
+    let mut rows = [0u32; MOST_ROWS];
+    mark_by_rows(n, table, &mut rows, marks, sheet, count)
 }
 
 // The answer where a test of the call fails: no record is at fault, and no line was accepted.
@@ -81,14 +65,15 @@ fn turned_down(number: u8) -> Verdict
 }
 
 // Marks a sheet: tests 1, 2, 5, 6 and 7, then its lines.
-pub fn mark_sheet(n: u32, table: &[u32], marks: &mut [u8], sheet: &[u16]) -> Verdict
-    ensures { λ r. ⌜ resultOf r (now (marks .exit)) ≡ markSheet n (now (table .entry)) (now (marks .entry)) (now (sheet .entry)) ⌝ }
+pub fn mark_sheet(n: u32, table: &[u8], marks: &mut [u8], sheet: &[u8]) -> Verdict
+    ensures { λ r. ⌜ resultOf r (now (marks .exit)) ≡ markSheet n (whole32 (now (table .entry))) (now (marks .entry)) (whole16 (now (sheet .entry))) ⌝ }
 {
     let points = match test_instance(n, table, marks) {
         Tested::Points(points) => points,
         Tested::Refused(number) => return turned_down(number),
     };
-    match Sheet::admit(sheet.len()) {
+    let numbers = count16(sheet);
+    match Sheet::admit(numbers) {
         SheetAdmission::Refused => turned_down(refusal::SHEET),
         SheetAdmission::Admitted(admitted) => mark_admitted(
             points,

@@ -1,4 +1,5 @@
 // The tests that the operations share: 1, 2, 5 and 6, in 01's order.
+use endian::bytes::count32;
 use lengths::edge;
 use lengths::instance::Admission;
 use lengths::instance::Instance;
@@ -6,6 +7,7 @@ use lengths::limit::all_at_most;
 use lengths::refusal;
 use marks::mark::marks_within;
 ghost use mathlib.Core.Path.{_≡_};
+ghost use Rattle.endian.specs.Bytes.{whole32};
 ghost use Rattle.marking.specs.Tests.{tested};
 
 // What the tests answer: the number of points, or the number of the first refusal.
@@ -15,15 +17,15 @@ pub enum Tested {
 }
 
 // Tests 1, 2, 5 and 6: the number of points, the table's size and its entries, the marks' size and their bytes.
-pub fn test_instance(n: u32, table: &[u32], marks: &[u8]) -> Tested
-    ensures { λ r. ⌜ r ≡ tested n (now (table .entry)) (now (marks .entry)) ⌝ }
+pub fn test_instance(n: u32, table: &[u8], marks: &[u8]) -> Tested
+    ensures { λ r. ⌜ r ≡ tested n (whole32 (now (table .entry))) (now (marks .entry)) ⌝ }
 {
     let Admission::Admitted(instance) = Instance::admit(n) else {
         return Tested::Refused(refusal::POINTS);
     };
     let points = instance.points;
     let edges = edge::count(points);
-    if table.len() != edges {
+    if count32(table) != edges {
         return Tested::Refused(refusal::SIZE);
     }
     if !all_at_most(table, Instance::MOST_LENGTH) {

@@ -1,6 +1,8 @@
 // The operation "check a tour".
 use crate::tests::Tested;
 use crate::tests::test_instance;
+use endian::bytes::count16;
+use endian::bytes::number16;
 use lengths::instance::Instance;
 use lengths::refusal;
 use lengths::table::length_between;
@@ -8,13 +10,15 @@ use marks::mark::is_open;
 use sheets::walk::is_point;
 ghost use mathlib.Core.Path.{_≡_};
 ghost use Prim.Native.Nat.{_≤_};
+ghost use Rattle.endian.specs.Bytes.{whole16, whole32};
 ghost use Rattle.lengths.specs.Instance.{mostPoints};
 ghost use Rattle.lengths.specs.Table.{lengthOf};
 ghost use Rattle.sets.specs.EdgeSet.{closedEdges};
 ghost use Rattle.marks.specs.Mark.{openIn};
 ghost use Rattle.rules.specs.PairTest.{every};
 ghost use Rattle.tours.specs.Tour.{tourLength};
-ghost use Rattle.marking.specs.TourCheck.{isTour, TourAsked, CheckedAs};
+ghost use Rattle.marking.specs.Tour.{isTour, CheckedAs};
+ghost use Rattle.marking.specs.asks.Tour.{TourAsked};
 
 // The answer of "check a tour": its length and whether all its edges are open, or the number of the refusal and its record, always 0.
 pub enum Checked {
@@ -23,17 +27,18 @@ pub enum Checked {
 }
 
 // Is each point from 1 to n among the numbers exactly once?
-fn each_once(n: u16, tour: &[u16]) -> bool
+fn each_once(n: u16, tour: &[u8]) -> bool
     requires { ⌜ n ≤ mostPoints ⌝ }
-    ensures { λ r. ⌜ r ≡ isTour n (now (tour .entry)) ⌝ }
+    ensures { λ r. ⌜ r ≡ isTour n (whole16 (now (tour .entry))) ⌝ }
 {
-    if tour.len() != n as usize {
+    let count = count16(tour);
+    if count != n as usize {
         return false;
     }
     let mut seen = [false; Instance::PLACES];
     let mut i = 0;
-    while i < tour.len() {
-        let v = tour[i];
+    while i < count {
+        let v = number16(tour, i);
         if !is_point(n, v) {
             return false;
         }
@@ -47,16 +52,17 @@ fn each_once(n: u16, tour: &[u16]) -> bool
 }
 
 // The sum over the tour's edges, last to first included.
-fn length_of(n: u16, table: &[u32], tour: &[u16]) -> u64
-    requires { ⌜ TourAsked n (now table) (now tour) ⌝ }
-    ensures { λ r. ⌜ r ≡ tourLength (lengthOf n (now (table .entry))) (now (tour .entry)) ⌝ }
+fn length_of(n: u16, table: &[u8], tour: &[u8]) -> u64
+    requires { ⌜ TourAsked n (whole32 (now table)) (whole16 (now tour)) ⌝ }
+    ensures { λ r. ⌜ r ≡ tourLength (lengthOf n (whole32 (now (table .entry)))) (whole16 (now (tour .entry))) ⌝ }
 {
-    let first = tour[0];
+    let count = n as usize;
+    let first = number16(tour, 0);
     let mut sum: u64 = 0;
     let mut from = first;
     let mut i = 1;
-    while i < tour.len() {
-        let to = tour[i];
+    while i < count {
+        let to = number16(tour, i);
         sum += length_between(n, table, from, to);
         from = to;
         i += 1;
@@ -65,15 +71,16 @@ fn length_of(n: u16, table: &[u32], tour: &[u16]) -> u64
 }
 
 // Is every edge of the tour open, last to first included?
-fn all_open(n: u16, marks: &[u8], tour: &[u16]) -> bool
-    requires { ⌜ TourAsked n (now marks) (now tour) ⌝ }
-    ensures { λ r. ⌜ r ≡ every (openIn n (now (marks .entry))) (closedEdges (now (tour .entry))) ⌝ }
+fn all_open(n: u16, marks: &[u8], tour: &[u8]) -> bool
+    requires { ⌜ TourAsked n (now marks) (whole16 (now tour)) ⌝ }
+    ensures { λ r. ⌜ r ≡ every (openIn n (now (marks .entry))) (closedEdges (whole16 (now (tour .entry)))) ⌝ }
 {
-    let first = tour[0];
+    let count = n as usize;
+    let first = number16(tour, 0);
     let mut from = first;
     let mut i = 1;
-    while i < tour.len() {
-        let to = tour[i];
+    while i < count {
+        let to = number16(tour, i);
         if !is_open(n, marks, from, to) {
             return false;
         }
@@ -84,8 +91,8 @@ fn all_open(n: u16, marks: &[u8], tour: &[u16]) -> bool
 }
 
 // Checks that the numbers are a tour of the n points, and answers its length and whether all its edges are open.
-pub fn check_tour(n: u32, table: &[u32], marks: &[u8], tour: &[u16]) -> Checked
-    ensures { λ r. ⌜ CheckedAs n (now (table .entry)) (now (marks .entry)) (now (tour .entry)) r ⌝ }
+pub fn check_tour(n: u32, table: &[u8], marks: &[u8], tour: &[u8]) -> Checked
+    ensures { λ r. ⌜ CheckedAs n (whole32 (now (table .entry))) (now (marks .entry)) (whole16 (now (tour .entry))) r ⌝ }
 {
     let tested = test_instance(n, table, marks);
     let points = match tested {

@@ -10,13 +10,13 @@ use lib.Seq.{drop-length}
 use borrow.Author.Fill.{fill-none, fill-more}
 use borrow.Author.Tests.{eq-eqb, ne-eqb}
 use Rattle.lengths.specs.Edge.{edgeCount, place, IsEdge}
-use Rattle.lengths.specs.Instance.{admission}
+use Rattle.lengths.specs.Instance.{admission, inRange}
 use Rattle.lengths.specs.declared.instance.Admission.the-variants.{OutOfRange}
 use Rattle.lengths.specs.declared.instance.Instance.{Instance}
 use Rattle.lengths.proofs.Edges.{place-below}
 use Rattle.lengths.proofs.Instances.{Admits, out-of-range}
 use Rattle.marks.specs.Mark.{openIn}
-use Rattle.marks.specs.Fresh.{freshAnswer, freshMarks, FreshAs}
+use Rattle.marks.specs.Fresh.{freshAnswer, freshLeft, freshMarks, FreshAs}
 use Rattle.marks.specs.declared.fresh.Fresh.the-variants.{Done, Refused}
 
 -- the loop: the first i marks are 1, the others as they were
@@ -62,6 +62,11 @@ module _ {n : ℕ} {marks : List ℕ} where
         let size : length marks ≡ edgeCount n = h ∙ ap edgeCount (a .points) in
         let answer : freshAnswer n (length marks) ≡ Done = rw (freshAnswer, a .range, eq-eqb (length marks) (edgeCount n) size) in
         record { answered = sym answer; marks-left = rw (answer, freshMarks) (l ∙ ap (λ (k : ℕ). replicate k 1) size) }
+
+-- what *fresh marks* leaves in a buffer of the right size
+pub fresh-left : (n : ℕ) (marks : List ℕ) → inRange n ≡ true → length marks ≡ edgeCount n → freshLeft (freshAnswer n (length marks)) n marks ≡ freshMarks n
+unfolding freshAnswer
+fresh-left n marks range size = rw (freshAnswer, range, eq-eqb (length marks) (edgeCount n) size)
 
 -- fresh marks are a 1 for each edge
 pub fresh-size : (n : ℕ) → length (freshMarks n) ≡ edgeCount n

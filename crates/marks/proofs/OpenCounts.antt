@@ -8,7 +8,7 @@ use native.Mathlib.Omega.{arith}
 use lib.ListN.{length, drop, getD, drop-of-length-le}
 use lib.Seq.{drop-cons}
 use Rattle.lists.specs.Count.{count}
-use Rattle.marks.specs.Counting.{OpenIs}
+use Rattle.marks.specs.asks.Counting.{OpenIs}
 use Rattle.marks.specs.Mark.{openAt}
 
 pub record Counting (marks : List ℕ) (opens i : ℕ) : Type 0 where

@@ -1,3 +1,3 @@
-pub mod Counting
+pub mod asks
 pub mod Fresh
 pub mod Mark

@@ -1,11 +1,10 @@
 -- Marks (01, "Points, lengths, marks"): one byte an edge, 1 open and 0 struck.
 use Prim.Native.Nat.{ℕ}
-use mathlib.Core.Path.{_≡_}
 use mathlib.Core.Bool.{Bool}
 use mathlib.Core.List.{List}
 use lib.Dec.{eqb}
-use lib.ListN.{length, getD, set}
-use Rattle.lengths.specs.Edge.{IsEdge, edgeCount, place}
+use lib.ListN.{getD, set}
+use Rattle.lengths.specs.Edge.{place}
 
 -- "1 open, 0 struck"
 abbrev pub openMark : ℕ
@@ -25,8 +24,3 @@ openIn n marks a b = openAt marks (place n a b)
 -- the marks with the edge ab struck
 unfoldable pub strikeIn : ℕ → List ℕ → ℕ → ℕ → List ℕ
 strikeIn n marks a b = set marks (place n a b) struckMark
-
--- ab is an edge, and the marks are those of n points
-pub record Marked (n : ℕ) (marks : List ℕ) (a b : ℕ) : Type 0 where
-  pub is-edge : IsEdge n a b
-  pub whole : length marks ≡ edgeCount n

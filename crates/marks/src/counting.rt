@@ -3,7 +3,7 @@ use crate::mark::open_at;
 ghost use Prim.Native.Nat.{_≤_};
 ghost use lib.ListN.{length};
 ghost use Rattle.lengths.specs.Instance.{mostEdges};
-ghost use Rattle.marks.specs.Counting.{OpenIs};
+ghost use Rattle.marks.specs.asks.Counting.{OpenIs};
 
 // How many edges are open.
 pub fn open_edges(marks: &[u8]) -> u16

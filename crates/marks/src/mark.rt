@@ -4,7 +4,8 @@ ghost use Prim.Native.Nat.{_<_};
 ghost use mathlib.Core.Path.{_≡_};
 ghost use lib.ListN.{length};
 ghost use Rattle.lists.specs.Test.{allAtMost};
-ghost use Rattle.marks.specs.Mark.{Marked, openMark, openAt, openIn, strikeIn};
+ghost use Rattle.marks.specs.Mark.{openMark, openAt, openIn, strikeIn};
+ghost use Rattle.marks.specs.asks.Mark.{MarkAsked};
 
 // An edge that is struck.
 pub const STRUCK: u8 = 0;
@@ -22,7 +23,7 @@ pub fn open_at(marks: &[u8], at: usize) -> bool
 
 // Is the edge ab open?
 pub fn is_open(n: u16, marks: &[u8], a: u16, b: u16) -> bool
-    requires { ⌜ Marked n (now marks) a b ⌝ }
+    requires { ⌜ MarkAsked n (now marks) a b ⌝ }
     ensures { λ r. ⌜ r ≡ openIn n (now (marks .entry)) a b ⌝ }
 {
     open_at(marks, edge::place(n, a, b))
@@ -30,7 +31,7 @@ pub fn is_open(n: u16, marks: &[u8], a: u16, b: u16) -> bool
 
 // Marks the edge ab struck. Nothing else in the program writes a mark that is not fresh.
 pub fn strike(n: u16, marks: &mut [u8], a: u16, b: u16)
-    requires { ⌜ Marked n (now marks) a b ⌝ }
+    requires { ⌜ MarkAsked n (now marks) a b ⌝ }
     ensures { λ _. ⌜ now (marks .exit) ≡ strikeIn n (now (marks .entry)) a b ⌝ }
 {
     let at = edge::place(n, a, b);

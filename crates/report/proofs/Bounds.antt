@@ -11,17 +11,18 @@ use Rattle.lengths.proofs.Edges.{edges-few, length-edges}
 use Rattle.lengths.specs.Instance.{mostEdges, mostPoints, pointPlaces}
 use Rattle.lists.specs.Count.{count}
 use Rattle.text.specs.Words.{Room, Wrote}
-use Rattle.text.specs.Decimal.{field}
+use Rattle.text.specs.Decimal.{fieldText}
 use Rattle.text.proofs.Writing.{length-three}
 use Rattle.text.proofs.Decimals.{field-length}
 use Rattle.report.specs.Lines.{pointsWord, edgesWord, struckWord, space, verdictWord, recordWord, openWord, lineEnd}
-use Rattle.report.specs.Lines.{pointsLine, struckLine, markLine, markLines, struckLines, verdictLine, allLines, Large, LinesAsked, StrikesAsked}
+use Rattle.report.specs.Lines.{pointsLine, struckLine, markLine, markLines, struckLines, verdictLine, allLines}
+use Rattle.report.specs.asks.Lines.{Large, LinesAsked, StrikesAsked}
 
 struck-length : (a b : ℕ) → a ≤ mostPoints → b ≤ mostPoints → length (struckLine a b) ≤ 15
 unfolding struckLine
 struck-length a b h g = omega (
   arith,
-  length-three (field struckWord a) (field space b) lineEnd,
+  length-three (fieldText struckWord a) (fieldText space b) lineEnd,
   field-length 2 struckWord a (omega arith),
   field-length 2 space b (omega arith),
 )
@@ -69,7 +70,7 @@ points-length : (n : ℕ) → n ≤ mostPoints → length (pointsLine n) ≤ 23
 unfolding pointsLine
 points-length n h = omega (
   arith,
-  length-three (field pointsWord n) (field edgesWord (edgeCount n)) lineEnd,
+  length-three (fieldText pointsWord n) (fieldText edgesWord (edgeCount n)) lineEnd,
   field-length 2 pointsWord n (omega arith),
   field-length 4 edgesWord (edgeCount n) (omega (arith, edges-few _ h)),
 )
@@ -78,8 +79,8 @@ verdict-length : (number rec opens : ℕ) → number < 2 ^ 8 → rec < 2 ^ 16 �
 unfolding verdictLine
 verdict-length number rec opens h g k = omega (
   arith,
-  length-append (field verdictWord number ++ field recordWord rec ++ field openWord opens) lineEnd,
-  length-three (field verdictWord number) (field recordWord rec) (field openWord opens),
+  length-append (fieldText verdictWord number ++ fieldText recordWord rec ++ fieldText openWord opens) lineEnd,
+  length-three (fieldText verdictWord number) (fieldText recordWord rec) (fieldText openWord opens),
   field-length 4 verdictWord number (omega arith),
   field-length 4 recordWord rec (omega arith),
   field-length 4 openWord opens (omega arith),

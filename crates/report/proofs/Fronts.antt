@@ -8,36 +8,31 @@ use mathlib.Core.Bool.{Bool, true, false}
 use mathlib.Core.List.{List}
 use native.Mathlib.Decide.{decLe}
 use native.Mathlib.Omega.{arith}
-use lib.ListN.{length, take}
-use lib.Seq.{take-all, length-take-le, getD-take}
+use lib.ListN.{length, getD, take}
+use lib.Seq.{take-all, take-take, length-take-le}
 use borrow.Author.Tests.{le-leb, lt-leb}
+use Rattle.endian.specs.Bytes.{whole32}
 use Rattle.lengths.specs.Instance.{inRange}
 use Rattle.lengths.proofs.Instances.{in-range}
-use Rattle.report.specs.Input.{number32, pointsIn, headerOf, headerBytes, mostBytes, pointBytes}
-use Rattle.report.specs.Output.{textFor, outputOf}
+use Rattle.report.specs.Header.{numberIn, pointsIn, headerOf, headerBytes, mostBytes, pointBytes}
+use Rattle.report.specs.Report.{textFor, outputOf}
 use Rattle.report.specs.declared.header.Header.{Header}
 use Rattle.report.specs.declared.header.Header.the-variants.{Refused}
 
 points-front : (file : List ℕ) (k : ℕ) → headerBytes ≤ k → pointsIn (take k file) ≡ pointsIn file
-unfolding pointsIn number32
-points-front file k h = omega (
-  arith,
-  getD-take k file 4 0 (omega arith),
-  getD-take k file 5 0 (omega arith),
-  getD-take k file 6 0 (omega arith),
-  getD-take k file 7 0 (omega arith),
-)
+unfolding numberIn
+points-front file k h = ap (λ (l : List ℕ). getD (whole32 l) 1 0) (take-take headerBytes k file h)
 
 -- a file that is too long gets 1 or 7 by its n alone
-abbrev refusalOf : Bool → ℕ
-refusalOf true = 7
-refusalOf false = 1
+abbrev longRefusal : Bool → ℕ
+longRefusal true = 7
+longRefusal false = 1
 
-header-of-long : (file : List ℕ) → mostBytes < length file → headerOf file ≡ Refused (refusalOf (inRange (pointsIn file)))
+header-of-long : (file : List ℕ) → mostBytes < length file → headerOf file ≡ Refused (longRefusal (inRange (pointsIn file)))
 unfolding headerOf
 header-of-long file h = go (inRange (pointsIn file)) refl
   where
-    go : (b : Bool) → inRange (pointsIn file) ≡ b → headerOf file ≡ Refused (refusalOf (inRange (pointsIn file)))
+    go : (b : Bool) → inRange (pointsIn file) ≡ b → headerOf file ≡ Refused (longRefusal (inRange (pointsIn file)))
     go true e = rw (
       headerOf,
       le-leb headerBytes (length file) (omega arith),
@@ -52,10 +47,10 @@ unfolding outputOf
 output-front file k h = elim (decLe (length file) k) [
   | yes whole ↦ ap outputOf (take-all k file whole)
   | no cut ↦
-      let number = refusalOf (inRange (pointsIn file)) in
+      let number = longRefusal (inRange (pointsIn file)) in
       let front : headerOf (take k file) ≡ Refused number =
       header-of-long (take k file) (omega (arith, length-take-le k file (omega arith)))
-      ∙ ap (λ (n : ℕ). Refused (refusalOf (inRange n))) (points-front file k (omega arith)) in
+      ∙ ap (λ (n : ℕ). Refused (longRefusal (inRange n))) (points-front file k (omega arith)) in
       let long : headerOf file ≡ Refused number = header-of-long file (omega arith) in
       ap (λ (g : Header). textFor g (take k file)) front ∙ sym (ap (λ (g : Header). textFor g file) long)
 ]

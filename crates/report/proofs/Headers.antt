@@ -5,25 +5,33 @@ use mathlib.Core.Bool.{Bool, true, false}
 use mathlib.Core.List.{List}
 use native.Mathlib.Omega.{arith}
 use lib.Dec.{leb}
-use lib.ListN.{length}
+use lib.ListN.{length, take}
+use lib.Seq.{length-take-le}
 use borrow.Author.Tests.{le-leb, lt-leb, leb-true}
+use Rattle.endian.specs.Bytes.{whole32}
+use Rattle.endian.proofs.Reading.{whole-count32}
 use Rattle.lengths.specs.Instance.{inRange, admission}
 use Rattle.lists.specs.Test.{unless}
 use Rattle.lengths.specs.declared.instance.Instance.{Instance}
 use Rattle.lengths.specs.declared.instance.Admission.the-variants.{OutOfRange}
 use Rattle.lengths.proofs.Instances.{Admits, out-of-range}
-use Rattle.report.specs.Input.{number32, ruleIn, pointsIn, headerOf, headerBytes, mostBytes, pointBytes}
-use Rattle.report.specs.Output.{InstanceAsked}
-use Rattle.report.specs.Lines.{Large}
+use Rattle.report.specs.Header.{ruleIn, pointsIn, headerOf, headerBytes, mostBytes, pointBytes}
+use Rattle.report.specs.asks.Report.{InstanceAsked}
+use Rattle.report.specs.asks.Lines.{Large}
 use Rattle.report.specs.declared.header.Header.the-variants.{Read, Refused}
+
+-- the first eight bytes are two numbers
+pub header-two : (file : List ℕ) → headerBytes ≤ length file → length (whole32 (take headerBytes file)) ≡ 2
+header-two file h =
+    let size = length-take-le headerBytes file h in
+    omega (arith, size, whole-count32 (take headerBytes file) (omega (arith, size)))
 
 pub header-short : (file : List ℕ) → length file < headerBytes → Refused 7 ≡ headerOf file
 unfolding headerOf
 header-short file h = rw (headerOf, lt-leb headerBytes (length file) h)
 
-module _ (file : List ℕ) {p : ℕ} (e : p ≡ number32 file 4) (long : headerBytes ≤ length file) where
+module _ (file : List ℕ) {p : ℕ} (e : p ≡ pointsIn file) (long : headerBytes ≤ length file) where
   points-are : pointsIn file ≡ p
-  unfolding pointsIn
   points-are = sym e
 
   pub header-points : admission p ≡ OutOfRange → Refused 1 ≡ headerOf file
@@ -39,8 +47,8 @@ module _ (file : List ℕ) {p : ℕ} (e : p ≡ number32 file 4) (long : headerB
     unfolding headerOf
     header-long h g = rw (headerOf, le-leb headerBytes (length file) long, points-are, a .range, le-leb (headerBytes + pointBytes * p) (length file) (omega (arith, a .points)), lt-leb (length file) mostBytes g)
 
-    pub header-read : {r : ℕ} → headerBytes + pointBytes * i .points ≤ length file → length file ≤ mostBytes → r ≡ number32 file 0 → Read r (i .points) ≡ headerOf file
-    unfolding headerOf ruleIn
+    pub header-read : {r : ℕ} → headerBytes + pointBytes * i .points ≤ length file → length file ≤ mostBytes → r ≡ ruleIn file → Read r (i .points) ≡ headerOf file
+    unfolding headerOf
     header-read {r} h g q =
         ap (Read r) (a .points)
         ∙ ap (λ (x : ℕ). Read x p) q

@@ -7,14 +7,17 @@ use lib.ListN.{length, take, length-take, take-append-drop}
 use lib.Seq.{length-take-le}
 use Rattle.lengths.specs.Edge.{edgeCount}
 use Rattle.lengths.proofs.Instances.{in-range}
-use Rattle.lengths.specs.Instance.{mostEdges, mostPoints}
-use Rattle.sheets.specs.Results.{resultOf}
+use Rattle.lengths.specs.Instance.{mostEdges}
+use Rattle.endian.proofs.Reading.{whole-count32}
+use Rattle.sheets.specs.Verdict.{resultOf}
 use Rattle.sheets.specs.declared.verdict.Verdict.{Verdict}
 use Rattle.sheets.specs.declared.verdict.Verdict.the-variants.{Accepted, Refused}
 use Rattle.text.specs.Words.{Wrote}
-use Rattle.report.specs.Lines.{allLines, LinesAsked}
-use Rattle.report.specs.Input.{headerOf}
-use Rattle.report.specs.Output.{markedText, textFor, outputOf, MarkingAsked, InstanceAsked, Places, Reported}
+use Rattle.report.specs.Lines.{allLines}
+use Rattle.report.specs.asks.Lines.{LinesAsked}
+use Rattle.report.specs.Header.{headerOf}
+use Rattle.report.specs.Report.{markedText, textFor, outputOf, Reported}
+use Rattle.report.specs.asks.Report.{MarkingAsked, InstanceAsked, Places}
 use Rattle.report.specs.declared.header.Header.{Header}
 use Rattle.lengths.proofs.Edges.{edges-few}
 
@@ -30,7 +33,7 @@ unfolding markedText
 wrote-refusal n marks e w = rw e w
 
 -- what the lines ask of an instance whose records were marked
-pub lines-asked : {n : ℕ} {table marks left out : List ℕ} → MarkingAsked n table marks out → length left ≡ length marks → LinesAsked n left out
+pub lines-asked : {n : ℕ} {marks left out : List ℕ} → MarkingAsked n marks out → length left ≡ length marks → LinesAsked n left out
 lines-asked {n} p h = record {
   some = omega (arith, in-range n (p .range));
   few = in-range n (p .range) .1;
@@ -38,24 +41,26 @@ lines-asked {n} p h = record {
   large = p .large;
 }
 
-pub marking-asked : {n : ℕ} {file out cs table marks left : List ℕ} → InstanceAsked n file out → Places n cs table marks → length left ≡ length table → MarkingAsked n left marks out
-marking-asked p q h = record { range = p .range; measured = h ∙ q .measured; marked = q .marked; large = p .large }
+pub marking-asked : {n : ℕ} {file out table marks : List ℕ} → InstanceAsked n file out → Places n table marks → MarkingAsked n marks out
+marking-asked p q = record { range = p .range; marked = q .marked; large = p .large }
 
--- an instance's coordinates, lengths and marks have their places
-pub numbers-few : {n : ℕ} {file out : List ℕ} → InstanceAsked n file out → 2 * n ≤ 2 * mostPoints
-numbers-few {n} p = omega (arith, in-range n (p .range))
+-- an instance's lengths and marks have their places
 
 pub count-few : {n e : ℕ} {file out : List ℕ} → InstanceAsked n file out → e ≡ edgeCount n → e ≤ mostEdges
 count-few {n} p h = omega (arith, edges-few n (in-range n (p .range) .1))
 
+pub table-few : {n e : ℕ} {file out : List ℕ} → InstanceAsked n file out → e ≡ edgeCount n → 4 * e ≤ 4 * mostEdges
+table-few p h = omega (arith, count-few p h)
+
 pub part-length : (k : ℕ) (l : List ℕ) → k ≤ length l → k ≡ length (take k l)
 part-length k l h = sym (length-take-le k l h)
 
-pub places : {n e : ℕ} {file out : List ℕ} (cs table marks : List ℕ) → InstanceAsked n file out → e ≡ edgeCount n → length cs ≡ 2 * mostPoints → length table ≡ mostEdges → length marks ≡ mostEdges
-    → Places n (take (2 * n) cs) (take e table) (take e marks)
-places {n} {e} cs table marks p h a b c = record {
-  located = length-take-le (2 * n) cs (omega (arith, numbers-few p));
-  measured = length-take-le e table (omega (arith, count-few p h)) ∙ h;
+pub places : {n e : ℕ} {file out : List ℕ} (table marks : List ℕ) → InstanceAsked n file out → e ≡ edgeCount n → length table ≡ 4 * mostEdges → length marks ≡ mostEdges
+    → Places n (take (4 * e) table) (take e marks)
+places {n} {e} table marks p h b c = record {
+  measured =
+      let size : length (take (4 * e) table) ≡ 4 * e = length-take-le (4 * e) table (omega (arith, count-few p h)) in
+      omega (arith, size, whole-count32 (take (4 * e) table) (omega (arith, size)), h);
   marked = length-take-le e marks (omega (arith, count-few p h)) ∙ h;
 }
 

@@ -1,6 +1,6 @@
 -- The loop of `put_strikes`: what is written and the lines that are left make the whole, and the edge at the place is at hand.
 -- Assumes nothing.
-use Prim.Native.Nat.{ℕ, suc, _+_, _-_, _≤_, _<_}
+use Prim.Native.Nat.{ℕ, suc, _+_, _≤_, _<_}
 use mathlib.Core.Path.{_≡_, refl, sym, _∙_, ap}
 use mathlib.Core.List.{List, [], _∷_, _++_, append-assoc, append-nil}
 use native.Mathlib.Numerals.{add-one}
@@ -8,11 +8,12 @@ use native.Mathlib.Omega.{arith}
 use lib.ListN.{length, take, drop, getD, length-append, drop-of-length-le}
 use lib.Seq.{drop-cons, length-take-le}
 use borrow.Author.Tests.{eq-eqb, ne-eqb}
-use Rattle.lengths.specs.Edge.{Edge, edge, edges, edgeCount, tri, placeUp, IsEdgeUp}
-use Rattle.lengths.proofs.Edges.{length-edges, edges-at, next-in-row, next-row}
-use Rattle.lengths.specs.Instance.{mostPoints}
+use Rattle.lengths.specs.Edge.{Edge, edge, edges, placeUp}
+use Rattle.lengths.specs.asks.Edge.{Cursor, Follows, IsEdgeUp}
+use Rattle.lengths.proofs.Edges.{cursor-start, length-edges, edges-at}
 use Rattle.text.specs.Words.{Room, Wrote}
-use Rattle.report.specs.Lines.{struckLine, markLine, markLines, struckLines, StrikesAsked}
+use Rattle.report.specs.Lines.{struckLine, markLine, markLines, struckLines}
+use Rattle.report.specs.asks.Lines.{StrikesAsked}
 use Rattle.text.proofs.Writing.{wrote-none, rest-on}
 
 -- the line of a mark
@@ -34,29 +35,26 @@ pub open-wrote : {out : List ℕ} {at mark : ℕ} (a b : ℕ) → (mark ≡ 0 �
 open-wrote {out} {at} a b h = rw (open-line a b h) (wrote-none out at)
 
 pub record Striking (n : ℕ) (marks out₀ : List ℕ) (at : ℕ) (out : List ℕ) (a b i next : ℕ) : Type 0 where
-  pub here : i < edgeCount n → IsEdgeUp n a b × (placeUp n a b ≡ i)
+  pub cursor : Cursor n i a b
   pub kept : length out ≡ length out₀
   pub within : next ≤ length out
   pub rest : drop next out ≡ drop next out₀
   pub whole : take next out ++ markLines (drop i (edges n)) (drop i marks) ≡ take at out₀ ++ struckLines n marks
 
 pub first-edge : {n at : ℕ} {marks out : List ℕ} → StrikesAsked n marks out at → Striking n marks out at out 1 2 0 at
-unfolding placeUp struckLines
+unfolding struckLines
 first-edge {n} {at} {marks} {out} p = record {
-  here = λ _. (record { low = omega arith; up = omega arith; high = p .some }, start);
+  cursor = cursor-start (p .some);
   kept = refl;
   within = omega (arith, p .room .room);
   rest = refl;
   whole = refl;
 }
-  where
-    start : placeUp n 1 2 ≡ 0
-    start = let e : n + 1 - 1 ≡ n = omega arith in omega (arith, ap tri e)
 
 -- the length of what is written and what is left
-total : {n at : ℕ} {marks out₀ out : List ℕ} {a b i next : ℕ} → StrikesAsked n marks out₀ at → Striking n marks out₀ at out a b i next
+lengths-together : {n at : ℕ} {marks out₀ out : List ℕ} {a b i next : ℕ} → StrikesAsked n marks out₀ at → Striking n marks out₀ at out a b i next
     → next + length (markLines (drop i (edges n)) (drop i marks)) ≡ at + length (struckLines n marks)
-total {n} {at} {marks} {out₀} {out} {i = i} {next = next} p s = omega (
+lengths-together {n} {at} {marks} {out₀} {out} {i = i} {next = next} p s = omega (
   arith,
   ap length (s .whole),
   length-append (take next out) (markLines (drop i (edges n)) (drop i marks)),
@@ -67,8 +65,8 @@ total {n} {at} {marks} {out₀} {out} {i = i} {next = next} p s = omega (
 
 module _ {n at : ℕ} {marks out₀ out : List ℕ} {a b i next : ℕ} (p : StrikesAsked n marks out₀ at) (s : Striking n marks out₀ at out a b i next)
     (h : i < length marks) where
-  at-edge : IsEdgeUp n a b × (placeUp n a b ≡ i)
-  at-edge = s .here (omega (arith, p .marked))
+  pub at-edge : IsEdgeUp n a b × (placeUp n a b ≡ i)
+  at-edge = s .cursor .here (omega (arith, p .marked))
 
   edges-here : drop i (edges n) ≡ edge a b ∷ drop (i + 1) (edges n)
   edges-here =
@@ -87,16 +85,13 @@ module _ {n at : ℕ} {marks out₀ out : List ℕ} {a b i next : ℕ} (p : Stri
   mark-room = record {
     room = omega (
       arith,
-      total p s,
+      lengths-together p s,
       ap length lines-here,
       length-append (markLine (getD marks i 0) a b) (markLines (drop (i + 1) (edges n)) (drop (i + 1) marks)),
       p .room .room,
       s .kept,
     );
   }
-
-  pub row-small : (a + 1 ≤ mostPoints) × (b ≤ mostPoints)
-  row-small = (omega (arith, p .few, at-edge .0), omega (arith, p .few, at-edge .0))
 
   module _ {r : ℕ} {left : List ℕ} (w : Wrote out next (markLine (getD marks i 0) a b) r left) where
     text-on : take r left ++ markLines (drop (i + 1) (edges n)) (drop (i + 1) marks) ≡ take at out₀ ++ struckLines n marks
@@ -106,18 +101,9 @@ module _ {n at : ℕ} {marks out₀ out : List ℕ} {a b i next : ℕ} (p : Stri
         ∙ ap (λ (l : List ℕ). take next out ++ l) (sym lines-here)
         ∙ s .whole
 
-    pub along : b < n → Striking n marks out₀ at left a (b + 1) (i + 1) r
-    along g = record {
-      here = λ _. next-in-row (at-edge .0) (at-edge .1) g;
-      kept = w .kept ∙ s .kept;
-      within = omega (arith, w .next, w .kept, mark-room .room);
-      rest = rest-on out₀ (s .rest) w;
-      whole = text-on;
-    }
-
-    pub down : n ≤ b → Striking n marks out₀ at left (a + 1) (a + 1 + 1) (i + 1) r
-    down g = record {
-      here = λ k. next-row (at-edge .0) (at-edge .1) g k;
+    pub striking-on : {low high : ℕ} → Follows n a b low high → Striking n marks out₀ at left low high (i + 1) r
+    striking-on f = record {
+      cursor = f .next i (at-edge .1);
       kept = w .kept ∙ s .kept;
       within = omega (arith, w .next, w .kept, mark-room .room);
       rest = rest-on out₀ (s .rest) w;
@@ -131,7 +117,7 @@ all-struck {n} {at} {marks} {out₀} {out} {i = i} {next = next} p s h =
     let over : markLines (drop i (edges n)) (drop i marks) ≡ [] =
     ap (λ (es : List Edge). markLines es (drop i marks)) (drop-of-length-le (edges n) {i = i} (omega (arith, p .marked, length-edges n (omega (arith, p .some))))) in
     record {
-      next = omega (arith, total p s, ap length over);
+      next = omega (arith, lengths-together p s, ap length over);
       front = sym (append-nil (take next out)) ∙ ap (λ (l : List ℕ). take next out ++ l) (sym over) ∙ s .whole;
       rest = s .rest;
       kept = s .kept;

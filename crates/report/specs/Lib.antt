@@ -1,3 +1,4 @@
-pub mod Input
+pub mod asks
+pub mod Header
 pub mod Lines
-pub mod Output
+pub mod Report

@@ -1,15 +1,12 @@
 -- The program's lines (01, "Layers and program"), and their words in ASCII.
-use Prim.Native.Nat.{ℕ, _≤_}
-use mathlib.Core.Path.{_≡_}
+use Prim.Native.Nat.{ℕ}
 use mathlib.Core.Bool.{true, false}
 use mathlib.Core.List.{List, [], _∷_, _++_}
 use lib.Dec.{eqb}
-use lib.ListN.{length}
 use Rattle.lengths.specs.Edge.{Edge, edge, edges, edgeCount}
-use Rattle.lengths.specs.Instance.{mostPoints}
 use Rattle.lists.specs.Count.{count}
-use Rattle.text.specs.Words.{Room}
-use Rattle.text.specs.Decimal.{field}
+use Rattle.marks.specs.Mark.{struckMark}
+use Rattle.text.specs.Decimal.{fieldText}
 
 -- `points `, ` edges `, `struck `, a space, `verdict `, ` record `, ` open ` and the end of a line
 abbrev pub pointsWord : List ℕ
@@ -38,15 +35,15 @@ lineEnd = 10 ∷ []
 
 -- "Line one: n and the edge count"
 unfoldable pub pointsLine : ℕ → List ℕ
-pointsLine n = field pointsWord n ++ field edgesWord (edgeCount n) ++ lineEnd
+pointsLine n = fieldText pointsWord n ++ fieldText edgesWord (edgeCount n) ++ lineEnd
 
 -- a strike, "lower point first"
 unfoldable pub struckLine : ℕ → ℕ → List ℕ
-struckLine a b = field struckWord a ++ field space b ++ lineEnd
+struckLine a b = fieldText struckWord a ++ fieldText space b ++ lineEnd
 
 -- the line of an edge with this mark: none if it is open
 unfoldable pub markLine : ℕ → ℕ → ℕ → List ℕ
-markLine mark a b = elim (eqb mark 0) [ true ↦ struckLine a b | false ↦ [] ]
+markLine mark a b = elim (eqb mark struckMark) [ true ↦ struckLine a b | false ↦ [] ]
 
 -- the lines of edges with their marks
 unfoldable pub markLines : List Edge → List ℕ → List ℕ
@@ -60,7 +57,7 @@ struckLines n marks = markLines (edges n) marks
 
 -- "Last: refusal number or 0, its record or 0, edges open"
 unfoldable pub verdictLine : ℕ → ℕ → ℕ → List ℕ
-verdictLine number rec opens = field verdictWord number ++ field recordWord rec ++ field openWord opens ++ lineEnd
+verdictLine number rec opens = fieldText verdictWord number ++ fieldText recordWord rec ++ fieldText openWord opens ++ lineEnd
 
 -- "only the last line appears, with open 0"
 unfoldable pub lastLine : ℕ → List ℕ
@@ -69,24 +66,3 @@ lastLine number = verdictLine number 0 0
 -- "all lines appear"; an edge is open if its mark is 1
 unfoldable pub allLines : ℕ → ℕ → ℕ → List ℕ → List ℕ
 allLines n number rec marks = pointsLine n ++ struckLines n marks ++ verdictLine number rec (count 1 marks)
-
--- the room that every text of the program fits: `mostEdges` lines of at most 15 bytes, and two more
-abbrev pub textRoom : ℕ
-textRoom = 262144
-
-abbrev pub Large : List ℕ → Type 0
-Large out = textRoom ≤ length out
-
--- what the lines of the strikes ask: a mark for each edge, and room
-pub record StrikesAsked (n : ℕ) (marks out : List ℕ) (at : ℕ) : Type 0 where
-  pub some : 2 ≤ n
-  pub few : n ≤ mostPoints
-  pub marked : length marks ≡ edgeCount n
-  pub room : Room out at (struckLines n marks)
-
--- what all lines ask
-pub record LinesAsked (n : ℕ) (marks out : List ℕ) : Type 0 where
-  pub some : 2 ≤ n
-  pub few : n ≤ mostPoints
-  pub marked : length marks ≡ edgeCount n
-  pub large : Large out

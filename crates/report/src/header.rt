@@ -1,12 +1,12 @@
 // The header of the program's input, and the tests of the file.
+use endian::bytes::number32;
 use lengths::instance::Admission;
 use lengths::instance::Instance;
 use lengths::refusal;
 use sheets::sheet::Sheet;
 ghost use mathlib.Core.Path.{_≡_};
-ghost use Rattle.endian.specs.Bytes.{ByteIs};
-ghost use Rattle.report.specs.Input.{Four, headerOf};
-ghost use Rattle.report.specs.Input.{number32 as Input·number32};
+ghost use Rattle.report.specs.Header.{headerOf, numberIn};
+ghost use Rattle.report.specs.asks.Header.{NumberAsked};
 
 // What the file's tests answer: the rule's number and the number of points, or the number of the refusal.
 pub enum Header {
@@ -14,21 +14,12 @@ pub enum Header {
     Refused(u8),
 }
 
-fn byte(b: u8) -> u32
-    ensures { λ r. ⌜ ByteIs b r ⌝ }
+// The rule, number 0, or n, number 1.
+fn number_in(file: &[u8], i: usize) -> u32
+    requires { ⌜ NumberAsked (now file) i ⌝ }
+    ensures { λ r. ⌜ r ≡ numberIn (now (file .entry)) i ⌝ }
 {
-    b as u32
-}
-
-// The little-endian number whose four bytes begin at a place.
-fn number32(file: &[u8], at: usize) -> u32
-    requires { ⌜ Four (now file) at ⌝ }
-    ensures { λ r. ⌜ r ≡ Input·number32 (now (file .entry)) at ⌝ }
-{
-    byte(file[at])
-        + 256 * byte(file[at + 1])
-        + 65_536 * byte(file[at + 2])
-        + 16_777_216 * byte(file[at + 3])
+    number32(&file[..Header::BYTES], i)
 }
 
 impl Header {
@@ -50,7 +41,7 @@ impl Header {
         if file.len() < Header::BYTES {
             return Header::Refused(refusal::SHEET);
         }
-        let Admission::Admitted(instance) = Instance::admit(number32(file, 4)) else {
+        let Admission::Admitted(instance) = Instance::admit(number_in(file, 1)) else {
             return Header::Refused(refusal::POINTS);
         };
         let points = instance.points;
@@ -61,7 +52,7 @@ impl Header {
             return Header::Refused(refusal::SHEET);
         }
         Header::Read {
-            rule: number32(file, 0),
+            rule: number_in(file, 0),
             points: points,
         }
     }

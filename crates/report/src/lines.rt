@@ -8,7 +8,8 @@ use text::words::put_word;
 ghost use Prim.Native.Nat.{_≤_};
 ghost use Rattle.lengths.specs.Instance.{mostPoints};
 ghost use Rattle.text.specs.Words.{Room, Wrote};
-ghost use Rattle.report.specs.Lines.{pointsLine, struckLine, markLine, struckLines, verdictLine, lastLine, allLines, Large, StrikesAsked, LinesAsked};
+ghost use Rattle.report.specs.Lines.{pointsLine, struckLine, markLine, struckLines, verdictLine, lastLine, allLines};
+ghost use Rattle.report.specs.asks.Lines.{Large, StrikesAsked, LinesAsked};
 
 // Line one: n and the edge count.
 fn put_points(n: u16, out: &mut [u8], at: usize) -> usize
@@ -22,17 +23,17 @@ fn put_points(n: u16, out: &mut [u8], at: usize) -> usize
 }
 
 // The line of a strike, whose lower point is a.
-fn put_struck(a: u16, b: u16, out: &mut [u8], at: usize) -> usize
+fn put_struck(a: u32, b: u32, out: &mut [u8], at: usize) -> usize
     requires { ⌜ Room (now out) at (struckLine a b) ⌝ }
     ensures { λ r. ⌜ Wrote (now (out .entry)) at (struckLine a b) r (now (out .exit)) ⌝ }
 {
-    let mut next = put_field(b"struck ", a as u32, out, at);
-    next = put_field(b" ", b as u32, out, next);
+    let mut next = put_field(b"struck ", a, out, at);
+    next = put_field(b" ", b, out, next);
     put_word(b"\n", out, next)
 }
 
 // The line of the edge ab with this mark: none if it is open.
-fn put_mark(mark: u8, a: u16, b: u16, out: &mut [u8], at: usize) -> usize
+fn put_mark(mark: u8, a: u32, b: u32, out: &mut [u8], at: usize) -> usize
     requires { ⌜ Room (now out) at (markLine mark a b) ⌝ }
     ensures { λ r. ⌜ Wrote (now (out .entry)) at (markLine mark a b) r (now (out .exit)) ⌝ }
 {
@@ -47,19 +48,17 @@ fn put_strikes(n: u16, marks: &[u8], out: &mut [u8], at: usize) -> usize
     requires { ⌜ StrikesAsked n (now marks) (now out) at ⌝ }
     ensures { λ r. ⌜ Wrote (now (out .entry)) at (struckLines n (now (marks .entry))) r (now (out .exit)) ⌝ }
 {
-    let mut a: u16 = 1;
-    let mut b: u16 = 2;
+    let points = n as usize;
+    let mut a: usize = 1;
+    let mut b: usize = 2;
     let mut i = 0;
     let mut next = at;
     while i < marks.len() {
-        next = put_mark(marks[i], a, b, out, next);
+        next = put_mark(marks[i], a as u32, b as u32, out, next);
+        let following = edge::following(points, a, b);
+        a = following.low;
+        b = following.high;
         i += 1;
-        if b < n {
-            b += 1;
-        } else {
-            a += 1;
-            b = a + 1;
-        }
     }
     next
 }

@@ -2,8 +2,6 @@
 use crate::header::Header;
 use crate::lines::put_all;
 use crate::lines::put_refusal;
-use endian::bytes::decode16;
-use endian::bytes::decode32;
 use lengths::edge;
 use lengths::instance::Instance;
 use lengths::measure::Measured;
@@ -11,19 +9,16 @@ use lengths::measure::measure;
 use lengths::refusal;
 use marking::mark::mark_sheet;
 use marks::fresh::fresh_marks;
-use sheets::sheet::Sheet;
 use sheets::verdict::Verdict;
-ghost use Rattle.sheets.specs.Results.{resultOf};
-ghost use Rattle.endian.specs.Bytes.{whole16};
+ghost use Rattle.sheets.specs.Verdict.{resultOf};
+ghost use Rattle.endian.specs.Bytes.{whole16, whole32};
 ghost use Rattle.marks.specs.Fresh.{freshMarks};
-ghost use Rattle.marking.specs.Marking.{markSheet};
+ghost use Rattle.marking.specs.Mark.{markSheet};
 ghost use Rattle.text.specs.Words.{Wrote};
-ghost use Rattle.report.specs.Input.{coordinatesIn, recordsIn};
-ghost use Rattle.report.specs.Lines.{LinesAsked};
-ghost use Rattle.report.specs.Output.{markedText, measuredText, MarkingAsked, InstanceAsked, Places, Reported};
-
-// Room for the coordinates of most points.
-const COORDINATES: usize = 2 * Instance::MOST_POINTS as usize;
+ghost use Rattle.report.specs.Header.{coordinatesIn, recordsIn};
+ghost use Rattle.report.specs.asks.Lines.{LinesAsked};
+ghost use Rattle.report.specs.Report.{markedText, measuredText, Reported};
+ghost use Rattle.report.specs.asks.Report.{MarkingAsked, InstanceAsked, Places};
 
 // Room for every text: MOST_EDGES lines of at most 15 bytes, and two more.
 pub const TEXT: usize = 262_144;
@@ -44,14 +39,12 @@ fn put_marked(n: u16, verdict: Verdict, marks: &[u8], out: &mut [u8]) -> usize
 }
 
 // The text of the records: marks them from fresh marks on, and writes all lines.
-fn mark_records(n: u16, table: &[u32], records: &[u8], marks: &mut [u8], out: &mut [u8]) -> usize
-    requires { ⌜ MarkingAsked n (now table) (now marks) (now out) ⌝ }
-    ensures { λ r. ⌜ Wrote (now (out .entry)) 0 (markedText n (markSheet n (now (table .entry)) (freshMarks n) (whole16 (now (records .entry))))) r (now (out .exit)) ⌝ }
+fn mark_records(n: u16, table: &[u8], records: &[u8], marks: &mut [u8], out: &mut [u8]) -> usize
+    requires { ⌜ MarkingAsked n (now marks) (now out) ⌝ }
+    ensures { λ r. ⌜ Wrote (now (out .entry)) 0 (markedText n (markSheet n (whole32 (now (table .entry))) (freshMarks n) (whole16 (now (records .entry))))) r (now (out .exit)) ⌝ }
 {
     fresh_marks(n as u32, marks);
-    let mut sheet = [0u16; Sheet::MOST_NUMBERS];
-    let size = decode16(records, &mut sheet);
-    let verdict = mark_sheet(n as u32, table, marks, &sheet[..size]);
+    let verdict = mark_sheet(n as u32, table, marks, records);
     put_marked(n, verdict, marks, out)
 }
 
@@ -60,42 +53,31 @@ fn measure_file(
     rule: u32,
     n: u16,
     file: &[u8],
-    coordinates: &mut [u32],
-    table: &mut [u32],
+    table: &mut [u8],
     marks: &mut [u8],
     out: &mut [u8],
 ) -> usize
     requires { ⌜ InstanceAsked n (now file) (now out) ⌝ }
-    requires { ⌜ Places n (now coordinates) (now table) (now marks) ⌝ }
+    requires { ⌜ Places n (now table) (now marks) ⌝ }
     ensures { λ r. ⌜ Wrote (now (out .entry)) 0 (measuredText rule n (coordinatesIn n (now (file .entry))) (recordsIn n (now (file .entry)))) r (now (out .exit)) ⌝ }
 {
     let body = Header::BYTES + Header::POINT_BYTES * (n as usize);
-    decode32(&file[Header::BYTES..body], coordinates);
-    match measure(n as u32, rule, coordinates, table) {
+    match measure(n as u32, rule, &file[Header::BYTES..body], table) {
         Measured::Refused { refusal, record: _ } => put_refusal(refusal, out),
         Measured::Done => mark_records(n, table, &file[body..], marks, out),
     }
 }
 
-// The same, with places for its coordinates, lengths and marks.
+// The same, with places for its lengths and marks.
 fn report_instance(rule: u32, n: u16, file: &[u8], out: &mut [u8]) -> usize
     requires { ⌜ InstanceAsked n (now file) (now out) ⌝ }
     ensures { λ r. ⌜ Wrote (now (out .entry)) 0 (measuredText rule n (coordinatesIn n (now (file .entry))) (recordsIn n (now (file .entry)))) r (now (out .exit)) ⌝ }
 {
-    let mut coordinates = [0u32; COORDINATES];
-    let mut table = [0u32; Instance::MOST_EDGES];
+    let mut table = [0u8; 4 * Instance::MOST_EDGES];
     let mut marks = [0u8; Instance::MOST_EDGES];
-    let numbers = 2 * (n as usize);
     let edges = edge::count(n);
-    measure_file(
-        rule,
-        n,
-        file,
-        &mut coordinates[..numbers],
-        &mut table[..edges],
-        &mut marks[..edges],
-        out,
-    )
+    let bytes = 4 * edges;
+    measure_file(rule, n, file, &mut table[..bytes], &mut marks[..edges], out)
 }
 
 // Writes the text for the bytes of an input, and answers how long it is.

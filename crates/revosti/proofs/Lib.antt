@@ -2,5 +2,4 @@ pub mod FreshAnswers
 pub mod ListAnswers
 pub mod MarkAnswers
 pub mod MeasureAnswers
-pub mod Tables
 pub mod TourAnswers

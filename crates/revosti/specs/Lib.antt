@@ -1,6 +1,6 @@
+pub mod asks
 pub mod Fresh
 pub mod Listing
 pub mod Mark
 pub mod Measure
-pub mod Room
 pub mod Tour

@@ -1,16 +1,11 @@
 -- "Mark a sheet" for C: bytes in, one 64-bit number out, and the marks that are left.
-use Prim.Native.Nat.{ℕ, _+_, _*_, _/_, _≤_, min}
+use Prim.Native.Nat.{ℕ, _+_, _*_}
 use mathlib.Core.Path.{_≡_}
 use mathlib.Core.List.{List}
-use lib.ListN.{length}
-use Rattle.lengths.specs.Instance.{fewEdges, mostEdges}
 use Rattle.argument.specs.Verdict.{Verdict, accepted, refused}
 use Rattle.argument.specs.Sheet.{Result}
-use Rattle.sheets.specs.Results.{resultOf}
-use Rattle.sheets.specs.Sheets.{fewRecords, mostNumbers, recordSize}
-use Rattle.sheets.specs.declared.verdict.Verdict as declared
 use Rattle.endian.specs.Bytes.{whole16, whole32}
-use Rattle.marking.specs.Marking.{markSheet}
+use Rattle.marking.specs.Mark.{markSheet}
 
 -- the refusal number or 0, plus 256 times the record
 abbrev pub verdictNumber : Verdict (Unit {0}) → ℕ
@@ -21,10 +16,6 @@ verdictNumber (refused number rec) = number + 256 * rec
 unfoldable pub resultNumber : Result (List ℕ) → ℕ
 resultNumber r = verdictNumber (r .verdict) + 16777216 * r .lines
 
--- the declared answer's number, whatever marks are left
-pub record MarkNumber (v : declared.Verdict) (r : ℕ) : Type 0 where
-  pub number : (left : List ℕ) → r ≡ resultNumber (resultOf v left)
-
 -- what marking answers and leaves over bytes
 abbrev pub markInC : ℕ → List ℕ → List ℕ → List ℕ → Result (List ℕ)
 markInC n table marks s = markSheet n (whole32 table) marks (whole16 s)
@@ -33,13 +24,3 @@ markInC n table marks s = markSheet n (whole32 table) marks (whole16 s)
 pub record MarkedInC (n : ℕ) (table marks s : List ℕ) (r : ℕ) (left : List ℕ) : Type 0 where
   pub answered : r ≡ resultNumber (markInC n table marks s)
   pub marks-left : left ≡ markInC n table marks s .marks
-
--- the arrays that a call decodes into have room for all numbers, or for as many as a call that passes its tests has
-pub record MarkRoom (table s lengths numbers : List ℕ) : Type 0 where
-  pub edges : min (length table / 4) mostEdges ≤ length lengths
-  pub places : min (length s / 2) mostNumbers ≤ length numbers
-
--- the bytes of a table of few points, and of a sheet of few records
-pub record SmallSheet (table s : List ℕ) : Type 0 where
-  pub edges : length table ≤ 4 * fewEdges
-  pub places : length s ≤ 2 * (fewRecords * recordSize)

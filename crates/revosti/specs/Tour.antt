@@ -3,7 +3,7 @@ use Prim.Native.Nat.{ℕ, _+_, _*_}
 use mathlib.Core.Bool.{Bool, true, false}
 use mathlib.Core.List.{List}
 use Rattle.endian.specs.Bytes.{whole16, whole32}
-use Rattle.marking.specs.TourCheck.{tourChecked}
+use Rattle.marking.specs.Tour.{tourChecked}
 use Rattle.marking.specs.declared.tour.Checked.{Checked}
 use Rattle.marking.specs.declared.tour.Checked.the-variants as checked
 

@@ -1,4 +1,4 @@
-// The functions for C, one to a file: buffers cross as little-endian bytes, answers as one 64-bit number.
+// The functions for C, one to a file: each is its operation over the same bytes, with the answer as one 64-bit number.
 pub mod fresh;
 pub mod listing;
 pub mod mark;

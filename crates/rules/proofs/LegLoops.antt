@@ -8,20 +8,21 @@ use native.Mathlib.Decide.{decLt, ℕ-discrete}
 use lib.Dec.{eqb}
 use lib.ListN.{length, getD, set, replicate, length-set, length-replicate, getD-replicate, List·getD-eq-default}
 use lib.Seq.{getD-set-same, getD-set-other}
-use Rattle.lengths.specs.Edge.{Point, IsEdgeUp, Placed, tri, place, placeUp}
+use Rattle.lengths.specs.Edge.{Point, tri, place, placeUp}
+use Rattle.lengths.specs.asks.Edge.{IsEdgeUp, Placed}
 use Rattle.lengths.proofs.Edges.{tri-row, placeUp-sum, placeUp-below, edgeCount-tri, edges-fit, place-up, place-down, place-along}
 use Rattle.lengths.specs.Instance.{mostLength, mostPoints, pointPlaces}
-use Rattle.rules.specs.Legs.{legOf, narrowedBy, LegList, rowOf, OpenAsked, OpenFrom, OpenBelow, OpenLegs, NarrowAsked, Narrowed, far}
+use Rattle.rules.specs.asks.Legs.{legOf, narrowedBy, LegList, rowOf, OpenAsked, OpenFrom, OpenBelow, OpenLegs, NarrowAsked, Narrowed, far}
 use Rattle.marks.specs.Mark.{openAt, openIn}
-use Rattle.rules.proofs.LegsAndBound.{legOf-self, legOf-open, legOf-shut, narrowed-near}
+use Rattle.rules.proofs.LegsAndBound.{legOf-self, legOf-open, legOf-shut, narrowed-at-most-far}
 
 -- lists of legs
 
 pub far-legs : LegList (replicate pointPlaces far)
-far-legs = record { size = length-replicate {A = ℕ} pointPlaces far; near = near }
+far-legs = record { size = length-replicate {A = ℕ} pointPlaces far; at-most-far = at-most-far }
   where
-    near : (x : ℕ) → getD (replicate pointPlaces far) x 0 ≤ far
-    near x = elim (decLt x pointPlaces) [
+    at-most-far : (x : ℕ) → getD (replicate pointPlaces far) x 0 ≤ far
+    at-most-far x = elim (decLt x pointPlaces) [
       | yes h ↦ omega (arith, getD-replicate {A = ℕ} pointPlaces x far 0 h)
       | no h ↦ omega (arith, List·getD-eq-default {A = ℕ} (replicate pointPlaces far) 0 {n = x} (omega (arith, length-replicate {A = ℕ} pointPlaces far)))
     ]
@@ -32,12 +33,12 @@ module _ {legs : List ℕ} (s : LegList legs) (x m : ℕ) (inside : x ≤ mostPo
   stored-here = getD-set-same legs x m 0 (omega (arith, s .size))
 
   stored-list : m ≤ far → LegList (set legs x m)
-  stored-list near = record { size = length-set legs x m ∙ s .size; near = below }
+  stored-list at-most-far = record { size = length-set legs x m ∙ s .size; at-most-far = below }
     where
       below : (i : ℕ) → getD (set legs x m) i 0 ≤ far
       below i = elim (ℕ-discrete i x) [
         | yes q ↦ omega (arith, ap (λ (j : ℕ). getD (set legs x m) j 0) q, stored-here)
-        | no q ↦ omega (arith, getD-set-other legs x i m 0 q, s .near i)
+        | no q ↦ omega (arith, getD-set-other legs x i m 0 q, s .at-most-far i)
       ]
 
   stored-below : {f : ℕ → ℕ} → ((i : ℕ) → 1 ≤ i → i < x → getD legs i 0 ≡ f i) → m ≡ f x → (i : ℕ) → 1 ≤ i → i < x + 1 → getD (set legs x m) i 0 ≡ f i
@@ -87,7 +88,7 @@ open-end s = record { list = s .list; each = λ x p. s .done x (p .low) (omega (
 open-on : {n : ℕ} {marks rows : List ℕ} {c at : ℕ} {legs : List ℕ} {x spot m : ℕ} {b : Bool} → OpenAsked n marks rows c at → OpenBelow n marks rows c at legs x → Point n x → (x ≡ c → ⊥)
     → spot ≡ place n c x → b ≡ openAt marks spot → m ≡ cond b (getD rows (at + x) 0) far → OpenBelow n marks rows c at (set legs x m) (x + 1)
 open-on {n} {marks} {rows} {c} {at} {legs} {x} {spot} {m} {b} a s p away e o is = record {
-  list = stored-list (s .list) x m inside near;
+  list = stored-list (s .list) x m inside at-most-far;
   done = stored-below (s .list) x m inside (s .done) leg;
   rest = λ i g k. getD-set-other legs x i m 0 (λ r. omega arith) ∙ s .rest i (omega arith) k;
 }
@@ -98,8 +99,8 @@ open-on {n} {marks} {rows} {c} {at} {legs} {x} {spot} {m} {b} a s p away e o is 
     leg : m ≡ legOf (rowOf rows at) (openIn n marks) [] c x
     leg = is ∙ ap (λ (t : Bool). cond t (getD rows (at + x) 0) far) (o ∙ ap (openAt marks) e) ∙ away-leg rows n marks c at x away
 
-    near : m ≤ far
-    near = rw is (choice b (a .row .small x p))
+    at-most-far : m ≤ far
+    at-most-far = rw is (choice b (a .row .small x p))
 
 -- the points below c: `next` is one more than the place of the edge xc
 pub record OpeningBelow (n : ℕ) (marks rows : List ℕ) (c at : ℕ) (legs : List ℕ) (next x : ℕ) : Type 0 where
@@ -215,7 +216,7 @@ module _ {n : ℕ} {rows legs₀ : List ℕ} {ps qs pq cp cq : ℕ} {legs : List
   here = record { low = s .low; high = h }
 
   pub narrowing-both : getD legs x 0 + pq ≤ 12000000
-  narrowing-both = omega (arith, s .list .near x, a .short .first)
+  narrowing-both = omega (arith, s .list .at-most-far x, a .short .first)
 
   pub narrowing-one : cp + getD rows (qs + x) 0 ≤ 4000000
   narrowing-one = omega (arith, a .row-q .small x here, a .short .second)
@@ -230,7 +231,7 @@ module _ {n : ℕ} {rows legs₀ : List ℕ} {ps qs pq cp cq : ℕ} {legs : List
       record {
         low = omega arith;
         within = omega arith;
-        list = stored-list (s .list) x m inside (rw e (narrowed-near (getD legs x 0) (getD legs x 0 + pq) (cp + getD rows (qs + x) 0) (cq + getD rows (ps + x) 0) (s .list .near x)));
+        list = stored-list (s .list) x m inside (rw e (narrowed-at-most-far (getD legs x 0) (getD legs x 0 + pq) (cp + getD rows (qs + x) 0) (cq + getD rows (ps + x) 0) (s .list .at-most-far x)));
         done =
             stored-below
             (s .list)

@@ -9,8 +9,8 @@ use borrow.Author.Tests.{eq-eqb, ne-eqb, le-leb, lt-leb, leb-true, leb-false, lt
 use Rattle.lengths.specs.Edge.{Edge, edge}
 use Rattle.lengths.specs.Instance.{mostLength}
 use Rattle.rules.specs.PairTest.{every, compatible?, leg?, stays?, unmoved?}
-use Rattle.rules.specs.Legs.{legOf, narrowed, narrowedBy, far}
-use Rattle.rules.specs.Bound.{tightened, tightenedBy, boundOf, loose}
+use Rattle.rules.specs.asks.Legs.{legOf, narrowed, narrowedBy, far}
+use Rattle.rules.specs.asks.Bound.{tightened, tightenedBy, boundOf, loose}
 
 -- legs
 
@@ -77,9 +77,9 @@ module _ (m both one other : ℕ) where
   unfolding narrowedBy
   narrowed-neither h g = rw (narrowedBy, lt-leb both (max one other) (omega arith))
 
-  pub narrowed-near : m ≤ far → narrowedBy m both one other ≤ far
+  pub narrowed-at-most-far : m ≤ far → narrowedBy m both one other ≤ far
   unfolding narrowedBy
-  narrowed-near h = go (leb both (max one other))
+  narrowed-at-most-far h = go (leb both (max one other))
     where
       go : (t : Bool) → cond t m far ≤ far
       go true = h

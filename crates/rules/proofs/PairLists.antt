@@ -7,10 +7,12 @@ use mathlib.Core.Logic.{_⊎_, inl, inr, ⊎-elim, _↔_}
 use mathlib.Core.List.{List, [], _∷_, _++_, List·Memᴰ, List·Memᴰ·head, List·Memᴰ·tail, List·Memᴰ·cases-cons, List·Memᴰ·not-nil}
 use native.Mathlib.Omega.{arith}
 use lib.ListN.{length, getD}
-use Rattle.lengths.specs.Edge.{Edge, edge, IsEdgeUp, Before, row, rows, edges, placeUp}
+use Rattle.lengths.specs.Edge.{Edge, edge, Before, row, rows, edges, placeUp}
+use Rattle.lengths.specs.asks.Edge.{IsEdgeUp}
 use Rattle.lengths.proofs.Edges.{edges-at, placeUp-below, length-edges, edgeCount-tri}
 use Rattle.rules.specs.PairTest.{feasible?}
-use Rattle.rules.specs.Pairs.{keep, feasiblePairs, pairsAfter, feasibleAfter}
+use Rattle.rules.specs.Pairs.{keep, feasiblePairs}
+use Rattle.rules.specs.asks.Pairs.{pairsAfter, feasibleAfter}
 use Rattle.sets.specs.Rising.{Among, Rising}
 use Rattle.sets.proofs.Rising.{edge-first, edge-second}
 
@@ -42,35 +44,35 @@ pairsAfter-end n a b h g =
     ap₂ (λ (i j : ℕ). row a (suc b) i ++ rows (suc a) j) e f
 
 -- a list of pairs of 1 to n in which each pair is followed by the pairs after it
-abbrev pub Chain : ℕ → List Edge → Type 0
-Chain n [] = Unit {0}
-Chain n (edge a b ∷ es) = IsEdgeUp n a b × (es ≡ pairsAfter n a b) × Chain n es
+abbrev pub PairsInOrder : ℕ → List Edge → Type 0
+PairsInOrder n [] = Unit {0}
+PairsInOrder n (edge a b ∷ es) = IsEdgeUp n a b × (es ≡ pairsAfter n a b) × PairsInOrder n es
 
-chain-row : (n a b j : ℕ) → 1 ≤ a → a < b → b + j ≡ suc n → Chain n (rows (suc a) (n - suc a)) → Chain n (row a b j ++ rows (suc a) (n - suc a))
+order-row : (n a b j : ℕ) → 1 ≤ a → a < b → b + j ≡ suc n → PairsInOrder n (rows (suc a) (n - suc a)) → PairsInOrder n (row a b j ++ rows (suc a) (n - suc a))
 unfolding row pairsAfter
-chain-row n a b zero h1 h2 e r = r
-chain-row n a b (suc j) h1 h2 e r =
+order-row n a b zero h1 h2 e r = r
+order-row n a b (suc j) h1 h2 e r =
     let f : j ≡ n - b = omega arith in (
       record { low = h1; up = h2; high = omega arith },
       ap (λ (k : ℕ). row a (suc b) k ++ rows (suc a) (n - suc a)) f,
-      chain-row n a (suc b) j h1 (omega arith) (omega arith) r,
+      order-row n a (suc b) j h1 (omega arith) (omega arith) r,
     )
 
-chain-rows : (n k a : ℕ) → 1 ≤ a → n - a ≡ k → Chain n (rows a k)
+order-rows : (n k a : ℕ) → 1 ≤ a → n - a ≡ k → PairsInOrder n (rows a k)
 unfolding rows
-chain-rows n zero a h e = tt
-chain-rows n (suc k) a h e =
+order-rows n zero a h e = tt
+order-rows n (suc k) a h e =
     let f : n - suc a ≡ k = omega arith in
-    let r : Chain n (rows (suc a) (n - suc a)) = subst (λ (i : ℕ). Chain n (rows (suc a) i)) (sym f) (chain-rows n k (suc a) (omega arith) f) in
-    subst (λ (i : ℕ). Chain n (row a (suc a) (suc k) ++ rows (suc a) i)) f (chain-row n a (suc a) (suc k) h (omega arith) (omega arith) r)
+    let r : PairsInOrder n (rows (suc a) (n - suc a)) = subst (λ (i : ℕ). PairsInOrder n (rows (suc a) i)) (sym f) (order-rows n k (suc a) (omega arith) f) in
+    subst (λ (i : ℕ). PairsInOrder n (row a (suc a) (suc k) ++ rows (suc a) i)) f (order-row n a (suc a) (suc k) h (omega arith) (omega arith) r)
 
-pub chain-after : (n x y : ℕ) → 1 ≤ x → x ≤ y → y ≤ n → Chain n (pairsAfter n x y)
+pub order-after : (n x y : ℕ) → 1 ≤ x → x ≤ y → y ≤ n → PairsInOrder n (pairsAfter n x y)
 unfolding pairsAfter
-chain-after n x y h1 h2 h3 = chain-row n x (suc y) (n - y) h1 (omega arith) (omega arith) (chain-rows n (n - suc x) (suc x) (omega arith) refl)
+order-after n x y h1 h2 h3 = order-row n x (suc y) (n - y) h1 (omega arith) (omega arith) (order-rows n (n - suc x) (suc x) (omega arith) refl)
 
-pub chain-edges : (n : ℕ) → Chain n (edges n)
+pub order-edges : (n : ℕ) → PairsInOrder n (edges n)
 unfolding edges
-chain-edges n = chain-rows n (n - 1) 1 (omega arith) refl
+order-edges n = order-rows n (n - 1) 1 (omega arith) refl
 
 -- what a test keeps
 
@@ -100,7 +102,7 @@ pub record Head (n : ℕ) (t : ℕ → ℕ → Bool) (a b : ℕ) (rest : List Ed
 cons-absurd : {e : Edge} {es : List Edge} → [] ≡ e ∷ es → ⊥
 cons-absurd h = let z : _≡_ {A = ℕ} 0 1 = cc in omega arith
 
-pub keep-head : (n : ℕ) (t : ℕ → ℕ → Bool) (es : List Edge) (a b : ℕ) (rest : List Edge) → Chain n es → keep t es ≡ edge a b ∷ rest → Head n t a b rest
+pub keep-head : (n : ℕ) (t : ℕ → ℕ → Bool) (es : List Edge) (a b : ℕ) (rest : List Edge) → PairsInOrder n es → keep t es ≡ edge a b ∷ rest → Head n t a b rest
 unfolding keep
 keep-head n t [] a b rest ch h = absurd (cons-absurd h)
 keep-head n t (edge p q ∷ es) a b rest ch h = go (t p q) refl (keep-head n t es a b rest (ch .2))
@@ -196,14 +198,14 @@ pub edges-rising : (n : ℕ) → Rising (edges n)
 unfolding edges
 edges-rising n = rows-rising 1 (n - 1)
 
-chain-in : (n : ℕ) (es : List Edge) (a b : ℕ) → Chain n es → Among es a b → IsEdgeUp n a b
-chain-in n [] a b ch m = absurd (List·Memᴰ·not-nil m)
-chain-in n (edge p q ∷ es) a b ch m = ⊎-elim
+order-in : (n : ℕ) (es : List Edge) (a b : ℕ) → PairsInOrder n es → Among es a b → IsEdgeUp n a b
+order-in n [] a b ch m = absurd (List·Memᴰ·not-nil m)
+order-in n (edge p q ∷ es) a b ch m = ⊎-elim
     (λ h.
     let ea = edge-first h in
     let eb = edge-second h in
     record { low = omega (arith, ch .0 .low); up = omega (arith, ch .0 .up); high = omega (arith, ch .0 .high) })
-    (λ h. chain-in n es a b (ch .2) h)
+    (λ h. order-in n es a b (ch .2) h)
     (List·Memᴰ·cases-cons m)
 
 at-in : (es : List Edge) (i : ℕ) (d : Edge) → i < length es → List·Memᴰ (getD es i d) es
@@ -214,7 +216,7 @@ at-in (e ∷ es) (suc i) d h = List·Memᴰ·tail (at-in es i d (omega arith))
 -- the edges are the pairs x < y of 1 to n
 pub in-edges : (n a b : ℕ) → Among (edges n) a b ↔ IsEdgeUp n a b
 in-edges n a b = (
-  chain-in n (edges n) a b (chain-edges n),
+  order-in n (edges n) a b (order-edges n),
   λ e.
       let i : placeUp n a b < length (edges n) = omega (arith, length-edges n (omega (arith, e)), edgeCount-tri n, placeUp-below e) in
       subst (λ (f : Edge). List·Memᴰ f (edges n)) (edges-at e) (at-in (edges n) (placeUp n a b) (edge 0 0) i),
@@ -233,7 +235,7 @@ module _ (n : ℕ) (l : ℕ → ℕ → ℕ) (open? : ℕ → ℕ → Bool) (K :
       → IsEdgeUp n a b × (feasible? n l open? K c a b ≡ true) × (rest ≡ feasibleAfter n l open? K c a b)
   unfolding feasibleAfter
   feasibleAfter-next {x} {y} {a} {b} {rest} h1 h2 h3 e =
-      let r = keep-head n (feasible? n l open? K c) (pairsAfter n x y) a b rest (chain-after n x y h1 h2 h3) e in
+      let r = keep-head n (feasible? n l open? K c) (pairsAfter n x y) a b rest (order-after n x y h1 h2 h3) e in
       (r .is-edge, r .passed, r .left)
 
   -- a pair is in the list exactly when it is a pair x < y of 1 to n and feasible

@@ -8,7 +8,8 @@ use mathlib.Core.List.{List, [], _∷_}
 use native.Mathlib.Omega.{arith}
 use lib.Dec.{eqb, ltb}
 use borrow.Author.Tests.{ne-eqb, eqb-true, eqb-false, le-leb, leb-true, ltb-true, ltb-false}
-use Rattle.lengths.specs.Edge.{Edge, edge, IsEdgeUp}
+use Rattle.lengths.specs.Edge.{Edge, edge}
+use Rattle.lengths.specs.asks.Edge.{IsEdgeUp}
 use Rattle.lists.proofs.Bools.{and-both, and-true}
 use Rattle.sets.specs.EdgeSet.{Has, AtMostTwo, NoShortCycle, withPair}
 use Rattle.rules.specs.Pair.{Compatible, MoveSaves, FeasiblePair}

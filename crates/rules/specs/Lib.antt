@@ -1,5 +1,4 @@
-pub mod Bound
-pub mod Legs
+pub mod asks
 pub mod Pair
-pub mod PairTest
 pub mod Pairs
+pub mod PairTest

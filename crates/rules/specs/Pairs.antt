@@ -1,8 +1,8 @@
 -- The feasible pairs at a split point, rising by x and then by y.
-use Prim.Native.Nat.{ℕ, suc, _-_}
+use Prim.Native.Nat.{ℕ}
 use mathlib.Core.Bool.{Bool, true, false}
-use mathlib.Core.List.{List, [], _∷_, _++_}
-use Rattle.lengths.specs.Edge.{Edge, edge, row, rows, edges}
+use mathlib.Core.List.{List, [], _∷_}
+use Rattle.lengths.specs.Edge.{Edge, edge, edges}
 use Rattle.rules.specs.PairTest.{feasible?}
 
 -- the edges that pass the test, in their order
@@ -13,11 +13,3 @@ keep test (edge x y ∷ es) = elim (test x y) [ true ↦ edge x y ∷ keep test 
 -- the feasible pairs of K at c: pairs x < y rise as 01's edges do
 unfoldable pub feasiblePairs : ℕ → (ℕ → ℕ → ℕ) → (ℕ → ℕ → Bool) → List Edge → ℕ → List Edge
 feasiblePairs n l open? K c = keep (feasible? n l open? K c) (edges n)
-
--- the pairs after xy: those of x with a higher second point, then the rows above x; after 1-1 all pairs come
-unfoldable pub pairsAfter : ℕ → ℕ → ℕ → List Edge
-pairsAfter n x y = row x (suc y) (n - y) ++ rows (suc x) (n - suc x)
-
--- the feasible pairs after xy
-unfoldable pub feasibleAfter : ℕ → (ℕ → ℕ → ℕ) → (ℕ → ℕ → Bool) → List Edge → ℕ → ℕ → ℕ → List Edge
-feasibleAfter n l open? K c x y = keep (feasible? n l open? K c) (pairsAfter n x y)

@@ -1,7 +1,7 @@
 // How much a pair at a split point may cost (condition 5).
 use lengths::instance::Instance;
 ghost use mathlib.Core.Path.{_≡_};
-ghost use Rattle.rules.specs.Bound.{tightenedBy, Short};
+ghost use Rattle.rules.specs.asks.Bound.{tightenedBy, Short};
 
 // The bound where no edge of K asks for less: two legs that are not FAR always meet it.
 pub const LOOSE: u32 = 3 * Instance::MOST_LENGTH;

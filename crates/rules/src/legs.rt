@@ -5,7 +5,7 @@ use marks::mark::open_at;
 ghost use Prim.Native.Nat.{_+_};
 ghost use mathlib.Core.Path.{_≡_};
 ghost use mathlib.Core.Bool.{cond};
-ghost use Rattle.rules.specs.Legs.{far, narrowedBy, OpenFrom, OpenBelow, OpenLegs, NarrowAsked, Narrowed};
+ghost use Rattle.rules.specs.asks.Legs.{far, narrowedBy, OpenFrom, OpenBelow, OpenLegs, NarrowAsked, Narrowed};
 
 // More than any pair may cost: the leg of a point that conditions 1 and 4 rule out.
 pub const FAR: u32 = 5 * Instance::MOST_LENGTH;

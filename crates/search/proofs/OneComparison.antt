@@ -13,8 +13,8 @@ use Rattle.lengths.specs.Instance.{mostLength}
 use Rattle.rules.specs.PairTest.{leg?, unmoved?, feasible?}
 use Rattle.sets.specs.Shape.{shape?}
 use Rattle.lengths.specs.Table.{Lengths}
-use Rattle.search.specs.Split.{Prepared}
-use Rattle.search.specs.NextPair.{passes?}
+use Rattle.search.specs.asks.Split.{Prepared}
+use Rattle.search.specs.asks.Pairs.{passes?}
 use Rattle.rules.proofs.LegsAndBound.{legs-bound}
 use Rattle.lengths.proofs.Tables.{length-small}
 

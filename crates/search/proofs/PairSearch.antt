@@ -1,32 +1,33 @@
--- The search over the rows: the first point of a row that fits is its first feasible pair, and rows of points that are not near have no
+-- The search over the rows: the first point of a row that fits is its first feasible pair, and rows of points that are no candidates have no
 -- feasible pair, so that the first feasible pair after xy is found row by row. One record for the loop, and one lemma for each way on and
 -- out. Assumes nothing.
 use Prim.Native.Nat.{ℕ, zero, suc, _+_, _-_, _≤_, _<_}
 use mathlib.Core.Path.{_≡_, refl, sym, _∙_, ap, ap₂}
 use mathlib.Core.Bool.{Bool, true, false, not, _&&_}
-use mathlib.Core.List.{List, [], _∷_, _++_}
+use mathlib.Core.List.{List, _∷_, _++_}
 use native.Mathlib.Omega.{arith}
 use native.Mathlib.Numerals.{add-one}
 use lib.ListN.{getD}
-use Rattle.lengths.specs.Edge.{Edge, edge, Point, IsEdgeUp, row, rows}
+use Rattle.lengths.specs.Edge.{Edge, edge, Point, row, rows}
 use Rattle.lengths.specs.Instance.{mostPoints}
 use Rattle.lengths.specs.Table.{lengthOf}
 use Rattle.rules.specs.PairTest.{feasible?}
-use Rattle.sets.specs.Near.{neighbours, within?, beyond}
-use Rattle.search.specs.Nearby.{near?}
+use Rattle.sets.specs.Neighbours.{neighboursOf, within?, beyond}
+use Rattle.search.specs.asks.Candidates.{candidate?}
 use Rattle.lists.specs.FirstFrom.{firstFrom}
 use Rattle.sets.specs.Shape.{shuts?, shape?}
-use Rattle.rules.specs.Pairs.{keep, pairsAfter, feasibleAfter}
+use Rattle.rules.specs.Pairs.{keep}
+use Rattle.rules.specs.asks.Pairs.{pairsAfter, feasibleAfter}
 use Rattle.lengths.specs.Table.{Lengths}
-use Rattle.search.specs.Split.{Bounded, Prepared}
-use Rattle.sets.specs.Stored.{edgeList}
-use Rattle.search.specs.NextPair.{passes?, allowed?, fits?, firstOf, Searchable, Next}
+use Rattle.search.specs.asks.Split.{Bounded, Prepared}
+use Rattle.sets.specs.asks.Stored.{edgeList}
+use Rattle.search.specs.asks.Pairs.{passes?, allowed?, fits?, firstOf, Searchable, NextPairOf}
 use Rattle.sets.specs.declared.edge_set.EdgeSet.{EdgeSet}
-use Rattle.sets.specs.declared.near.Near.{Near}
+use Rattle.sets.specs.declared.neighbours.Neighbours.{Neighbours}
 use Rattle.search.specs.declared.pairs.NextPair.the-variants.{Pair, End}
 use Rattle.lists.proofs.FirstFrom.{firstFrom-yes, firstFrom-no, firstFrom-low, firstFrom-found}
-use Rattle.search.proofs.KeptRows.{keep-skip}
-use Rattle.rules.proofs.PairLists.{pairsAfter-end, keep-yes, keep-no, keep-append, rows-after, feasibleAfter-next}
+use Rattle.search.proofs.KeptRows.{keep-none, keep-skip}
+use Rattle.rules.proofs.PairLists.{pairsAfter-end, keep-yes, keep-append, rows-after}
 use Rattle.search.proofs.RowSearch.{far-row-fails}
 use Rattle.search.proofs.OneComparison.{feasible-passes}
 
@@ -36,28 +37,21 @@ regroup true false s = refl
 regroup false false s = refl
 
 -- a pair is feasible exactly when it fits
-feasible-fits : {n : ℕ} {table : List ℕ} {open? : ℕ → ℕ → Bool} {K : List Edge} {c : ℕ} {legs : List ℕ} {bound : ℕ} {centre : Near}
-    → Lengths n table → Prepared n (lengthOf n table) open? K c legs bound → centre ≡ neighbours K c → (x y : ℕ) → Point n x → Point n y
+feasible-fits : {n : ℕ} {table : List ℕ} {open? : ℕ → ℕ → Bool} {K : List Edge} {c : ℕ} {legs : List ℕ} {bound : ℕ} {centre : Neighbours}
+    → Lengths n table → Prepared n (lengthOf n table) open? K c legs bound → centre ≡ neighboursOf K c → (x y : ℕ) → Point n x → Point n y
     → feasible? n (lengthOf n table) open? K c x y ≡ fits? n table legs bound centre K c x y
 unfolding fits? allowed? shape?
 feasible-fits {n} {table} {open?} {K} {c} {legs} {bound} {centre} h p own x y px py =
     feasible-passes h p x y px py
-    ∙ regroup (passes? n table legs bound x y) (within? (neighbours K c) x y) (not (shuts? n K x y (beyond (neighbours K x) c) (beyond (neighbours K y) c)))
+    ∙ regroup (passes? n table legs bound x y) (within? (neighboursOf K c) x y) (not (shuts? n K x y (beyond (neighboursOf K x) c) (beyond (neighboursOf K y) c)))
     ∙ rw own
 
--- rows of points that are not near
-
--- a row in which no pair passes the test
-keep-none : (t : ℕ → ℕ → Bool) (x z k : ℕ) → ((i : ℕ) → z ≤ i → i < z + k → t x i ≡ false) → keep t (row x z k) ≡ []
-unfolding row keep
-keep-none t x z zero h = refl
-keep-none t x z (suc k) h =
-    keep-no t x z (row x (suc z) k) (h z (omega arith) (omega arith)) ∙ keep-none t x (suc z) k (λ i g g′. h i (omega arith) (omega arith))
+-- rows of points that are no candidates
 
 module _ {n : ℕ} {table : List ℕ} {open? : ℕ → ℕ → Bool} {K : List Edge} {c : ℕ} {legs : List ℕ} {bound : ℕ}
     (lengths : Lengths n table) (bounded : Bounded legs bound) (p : Prepared n (lengthOf n table) open? K c legs bound) where
-  -- the row of a point that is not near has no feasible pair
-  row-empty : (w : ℕ) → 1 ≤ w → w ≤ n → near? legs w ≡ false
+  -- the row of a point that is no candidate has no feasible pair
+  row-empty : (w : ℕ) → 1 ≤ w → w ≤ n → candidate? legs w ≡ false
       → feasibleAfter n (lengthOf n table) open? K c w w ≡ feasibleAfter n (lengthOf n table) open? K c (suc w) (suc w)
   unfolding feasibleAfter pairsAfter
   row-empty w low high far =
@@ -73,41 +67,41 @@ module _ {n : ℕ} {table : List ℕ} {open? : ℕ → ℕ → Bool} {K : List E
           feasible-passes lengths p w i record { low = low; high = high } record { low = omega arith; high = omega arith }
           ∙ ap (λ (t : Bool). t && shape? n K c w i) (far-row-fails lengths bounded w i far)
 
-  -- so the search may go on at the first near point
+  -- so the search may go on at the first candidate
   rows-skip : (w k : ℕ) → 1 ≤ w → w + k ≡ n + 1
-      → feasibleAfter n (lengthOf n table) open? K c (firstFrom (near? legs) w k) (firstFrom (near? legs) w k) ≡ feasibleAfter n (lengthOf n table) open? K c w w
+      → feasibleAfter n (lengthOf n table) open? K c (firstFrom (candidate? legs) w k) (firstFrom (candidate? legs) w k) ≡ feasibleAfter n (lengthOf n table) open? K c w w
   unfolding firstFrom
   rows-skip w zero h e = refl
-  rows-skip w (suc k) h e = go (near? legs w) refl (rows-skip (suc w) k (omega arith) (omega arith))
+  rows-skip w (suc k) h e = go (candidate? legs w) refl (rows-skip (suc w) k (omega arith) (omega arith))
     where
-      go : (t : Bool) → near? legs w ≡ t
-          → feasibleAfter n (lengthOf n table) open? K c (firstFrom (near? legs) (suc w) k) (firstFrom (near? legs) (suc w) k) ≡ feasibleAfter n (lengthOf n table) open? K c (suc w) (suc w)
-          → feasibleAfter n (lengthOf n table) open? K c (firstFrom (near? legs) w (suc k)) (firstFrom (near? legs) w (suc k)) ≡ feasibleAfter n (lengthOf n table) open? K c w w
-      go true f ih = ap (λ (i : ℕ). feasibleAfter n (lengthOf n table) open? K c i i) (firstFrom-yes (near? legs) w k f)
+      go : (t : Bool) → candidate? legs w ≡ t
+          → feasibleAfter n (lengthOf n table) open? K c (firstFrom (candidate? legs) (suc w) k) (firstFrom (candidate? legs) (suc w) k) ≡ feasibleAfter n (lengthOf n table) open? K c (suc w) (suc w)
+          → feasibleAfter n (lengthOf n table) open? K c (firstFrom (candidate? legs) w (suc k)) (firstFrom (candidate? legs) w (suc k)) ≡ feasibleAfter n (lengthOf n table) open? K c w w
+      go true f ih = ap (λ (i : ℕ). feasibleAfter n (lengthOf n table) open? K c i i) (firstFrom-yes (candidate? legs) w k f)
       go false f ih =
-          ap (λ (i : ℕ). feasibleAfter n (lengthOf n table) open? K c i i) (firstFrom-no (near? legs) w k f) ∙ ih ∙ sym (row-empty w h (omega arith) f)
+          ap (λ (i : ℕ). feasibleAfter n (lengthOf n table) open? K c i i) (firstFrom-no (candidate? legs) w k f) ∙ ih ∙ sym (row-empty w h (omega arith) f)
 
 -- next_pair: ab is the last pair passed, or a = b stands before the row of a; the rows end behind n
 
-pub record Walking (n : ℕ) (table legs near rank : List ℕ) (bound c : ℕ) (centre : Near) (k : EdgeSet) (x y a b : ℕ) : Type 0 where
-  pub asked : Searchable n table legs near rank bound centre k x y
+pub record Walking (n : ℕ) (table legs candidates rank : List ℕ) (bound c : ℕ) (centre : Neighbours) (k : EdgeSet) (x y a b : ℕ) : Type 0 where
+  pub asked : Searchable n table legs candidates rank bound centre k x y
   pub low : 1 ≤ a
   pub up : a ≤ b
   pub high : a < n → b ≤ n
-  pub same : (open? : ℕ → ℕ → Bool) → Prepared n (lengthOf n table) open? (edgeList k) c legs bound → centre ≡ neighbours (edgeList k) c
+  pub same : (open? : ℕ → ℕ → Bool) → Prepared n (lengthOf n table) open? (edgeList k) c legs bound → centre ≡ neighboursOf (edgeList k) c
       → feasibleAfter n (lengthOf n table) open? (edgeList k) c a b ≡ feasibleAfter n (lengthOf n table) open? (edgeList k) c x y
 
-pub walk-start : {n : ℕ} {table legs near rank : List ℕ} {bound c : ℕ} {centre : Near} {k : EdgeSet} {x y : ℕ}
-    → Searchable n table legs near rank bound centre k x y → Walking n table legs near rank bound c centre k x y x y
+pub walk-start : {n : ℕ} {table legs candidates rank : List ℕ} {bound c : ℕ} {centre : Neighbours} {k : EdgeSet} {x y : ℕ}
+    → Searchable n table legs candidates rank bound centre k x y → Walking n table legs candidates rank bound c centre k x y x y
 walk-start s = record { asked = s; low = s .beside .row .low; up = s .beside .row .up; high = λ h. s .beside .row .high; same = λ open? p q. refl }
 
-module _ {n : ℕ} {table legs near rank : List ℕ} {bound c : ℕ} {centre : Near} {k : EdgeSet} {x y a b : ℕ}
-    (w : Walking n table legs near rank bound c centre k x y a b) (more : a < n) where
+module _ {n : ℕ} {table legs candidates rank : List ℕ} {bound c : ℕ} {centre : Neighbours} {k : EdgeSet} {x y a b : ℕ}
+    (w : Walking n table legs candidates rank bound c centre k x y a b) (more : a < n) where
   walk-within : b ≤ n
   walk-within = w .high more
 
   -- the row of a may be searched
-  pub walk-asked : Searchable n table legs near rank bound centre k a b
+  pub walk-asked : Searchable n table legs candidates rank bound centre k a b
   walk-asked =
       let r = w .asked .beside .row in
       record {
@@ -121,17 +115,17 @@ module _ {n : ℕ} {table legs near rank : List ℕ} {bound c : ℕ} {centre : N
   pub walk-rank : getD rank (a + 1) 0 ≤ mostPoints
   walk-rank = omega (arith, w .asked .beside .row .listed .inside (a + 1) (omega arith) (omega arith), w .asked .beside .row .lengths .few)
 
-  -- the next near row
-  walk-next : getD near (getD rank (a + 1) 0) 0 ≡ firstFrom (near? legs) (suc a) (n - a)
+  -- the row of the next candidate
+  walk-next : getD candidates (getD rank (a + 1) 0) 0 ≡ firstFrom (candidate? legs) (suc a) (n - a)
   walk-next =
       let e : n + 1 - (a + 1) ≡ n - a = omega arith in
-      w .asked .beside .row .listed .first (a + 1) (omega arith) (omega arith) ∙ ap₂ (firstFrom (near? legs)) (add-one a) e
+      w .asked .beside .row .listed .first (a + 1) (omega arith) (omega arith) ∙ ap₂ (firstFrom (candidate? legs)) (add-one a) e
 
-  pub walk-rises : a < getD near (getD rank (a + 1) 0) 0
-  walk-rises = omega (arith, walk-next, firstFrom-low (near? legs) (suc a) (n - a))
+  pub walk-rises : a < getD candidates (getD rank (a + 1) 0) 0
+  walk-rises = omega (arith, walk-next, firstFrom-low (candidate? legs) (suc a) (n - a))
 
   module _ (z : ℕ) (found : z ≡ firstFrom (fits? n table legs bound centre (edgeList k) c a) (suc b) (n - b)) where
-    module _ (open? : ℕ → ℕ → Bool) (p : Prepared n (lengthOf n table) open? (edgeList k) c legs bound) (q : centre ≡ neighbours (edgeList k) c) where
+    module _ (open? : ℕ → ℕ → Bool) (p : Prepared n (lengthOf n table) open? (edgeList k) c legs bound) (q : centre ≡ neighboursOf (edgeList k) c) where
       walk-feasible : (i : ℕ) → b < i → i ≤ n → feasible? n (lengthOf n table) open? (edgeList k) c a i ≡ fits? n table legs bound centre (edgeList k) c a i
       walk-feasible i h g = feasible-fits (w .asked .beside .row .lengths) p q a i record { low = w .low; high = omega arith } record { low = omega arith; high = g }
 
@@ -162,7 +156,7 @@ module _ {n : ℕ} {table legs near rank : List ℕ} {bound c : ℕ} {centre : N
           ∙ ap (λ (i : ℕ). keep (feasible? n (lengthOf n table) open? (edgeList k) c) (row a z i ++ rows (suc a) (n - suc a))) e
 
     -- the first point that fits is the next pair
-    pub walk-found : z ≤ n → Next n table legs bound c centre k x y (Pair a z)
+    pub walk-found : z ≤ n → NextPairOf n table legs bound c centre k x y (Pair a z)
     unfolding firstOf
     walk-found h = record {
       first = λ open? p q.
@@ -170,8 +164,8 @@ module _ {n : ℕ} {table legs near rank : List ℕ} {bound c : ℕ} {centre : N
           sym (ap firstOf (sym (w .same open? p q) ∙ walk-at open? p q h ∙ keep-yes t a z (pairsAfter n a z) (walk-fits open? p q h)));
     }
 
-    -- the row is done: the rows up to the next near point have no feasible pair
-    walk-done : n < z → (open? : ℕ → ℕ → Bool) (p : Prepared n (lengthOf n table) open? (edgeList k) c legs bound) (q : centre ≡ neighbours (edgeList k) c)
+    -- the row is done: the rows up to the next candidate have no feasible pair
+    walk-done : n < z → (open? : ℕ → ℕ → Bool) (p : Prepared n (lengthOf n table) open? (edgeList k) c legs bound) (q : centre ≡ neighboursOf (edgeList k) c)
         → feasibleAfter n (lengthOf n table) open? (edgeList k) c (suc a) (suc a) ≡ feasibleAfter n (lengthOf n table) open? (edgeList k) c a b
     unfolding feasibleAfter row pairsAfter
     walk-done h open? p q =
@@ -181,7 +175,7 @@ module _ {n : ℕ} {table legs near rank : List ℕ} {bound c : ℕ} {centre : N
         ∙ ap (λ (i : ℕ). keep t (row a z i ++ rows (suc a) (n - suc a))) (sym e)
         ∙ sym (walk-skip open? p q)
 
-    pub walk-row : n < z → Walking n table legs near rank bound c centre k x y (getD near (getD rank (a + 1) 0) 0) (getD near (getD rank (a + 1) 0) 0)
+    pub walk-row : n < z → Walking n table legs candidates rank bound c centre k x y (getD candidates (getD rank (a + 1) 0) 0) (getD candidates (getD rank (a + 1) 0) 0)
     walk-row h =
         let r = w .asked .beside .row in
         record {
@@ -196,39 +190,11 @@ module _ {n : ℕ} {table legs near rank : List ℕ} {bound c : ℕ} {centre : N
               ∙ w .same open? p q;
         }
 
-pub walk-end : {n : ℕ} {table legs near rank : List ℕ} {bound c : ℕ} {centre : Near} {k : EdgeSet} {x y a b : ℕ}
-    → Walking n table legs near rank bound c centre k x y a b → n ≤ a → Next n table legs bound c centre k x y End
+pub walk-end : {n : ℕ} {table legs candidates rank : List ℕ} {bound c : ℕ} {centre : Neighbours} {k : EdgeSet} {x y a b : ℕ}
+    → Walking n table legs candidates rank bound c centre k x y a b → n ≤ a → NextPairOf n table legs bound c centre k x y End
 unfolding firstOf feasibleAfter keep
-walk-end {n} {table} {legs} {near} {rank} {bound} {c} {centre} {k} {x} {y} {a} {b} w h = record {
+walk-end {n} {table} {legs} {candidates} {rank} {bound} {c} {centre} {k} {x} {y} {a} {b} w h = record {
   first = λ open? p q.
       let t = feasible? n (lengthOf n table) open? (edgeList k) c in
       sym (ap firstOf (sym (w .same open? p q) ∙ ap (keep t) (pairsAfter-end n a b h (w .up))));
 }
-
--- what `next_pair`'s answer says of the pairs that are left, for its callers
-
-first-pair : (es : List Edge) (a b : ℕ) → firstOf es ≡ Pair a b → (rest : List Edge) × (es ≡ edge a b ∷ rest)
-unfolding firstOf
-first-pair [] a b h = absurd (let z : _≡_ {A = ℕ} 0 1 = cc in omega arith)
-first-pair (edge p q ∷ es) a b h =
-    let ea : p ≡ a = cc in
-    let eb : q ≡ b = cc in
-    (es, ap₂ (λ (i j : ℕ). edge i j ∷ es) ea eb)
-
-first-end : (es : List Edge) → firstOf es ≡ End → es ≡ []
-unfolding firstOf
-first-end [] h = refl
-first-end (edge p q ∷ es) h = absurd (let z : _≡_ {A = ℕ} 0 1 = cc in omega arith)
-
-module _ (n : ℕ) (l : ℕ → ℕ → ℕ) (open? : ℕ → ℕ → Bool) (K : List Edge) (c x y : ℕ) where
-  -- a pair: it is feasible, and after it comes what is left
-  pub next-is-pair : {a b : ℕ} → 1 ≤ x → x ≤ y → y ≤ n → firstOf (feasibleAfter n l open? K c x y) ≡ Pair a b
-      → IsEdgeUp n a b × (feasible? n l open? K c a b ≡ true) × (feasibleAfter n l open? K c x y ≡ edge a b ∷ feasibleAfter n l open? K c a b)
-  next-is-pair {a} {b} h1 h2 h3 e =
-      let p = first-pair (feasibleAfter n l open? K c x y) a b e in
-      let r = feasibleAfter-next n l open? K c h1 h2 h3 (p .1) in
-      (r .0, r .1, p .1 ∙ ap (λ (es : List Edge). edge a b ∷ es) (r .2))
-
-  -- the end: no feasible pair is left
-  pub next-is-end : firstOf (feasibleAfter n l open? K c x y) ≡ End → feasibleAfter n l open? K c x y ≡ []
-  next-is-end e = first-end (feasibleAfter n l open? K c x y) e

@@ -1,4 +1,4 @@
--- The search in a row: the first point after y whose pair with x passes the comparison, found among the near points alone, and what the
+-- The search in a row: the first point after y whose pair with x passes the comparison, found among the candidates alone, and what the
 -- split point's neighbours leave of the row. Assumes nothing.
 use Prim.Native.Nat.{ℕ, suc, _+_, _-_, _^_, _≤_, _<_}
 use mathlib.Core.Path.{_≡_, refl, sym, _∙_, ap, ap₂}
@@ -11,51 +11,52 @@ use lib.Dec.{eqb, leb}
 use lib.ListN.{length, getD}
 use borrow.Author.Tests.{eq-eqb, ne-eqb, le-leb, lt-leb}
 use Rattle.lists.proofs.Bools.{and-no, and-yes}
-use Rattle.lengths.specs.Edge.{IsEdgeUp, place, placeUp}
+use Rattle.lengths.specs.Edge.{place, placeUp}
+use Rattle.lengths.specs.asks.Edge.{IsEdgeUp}
 use Rattle.lengths.specs.Table.{lengthOf}
 use Rattle.lengths.proofs.Edges.{placeUp-add, placeUp-below, edgeCount-tri, place-up, edges-fit}
 use Rattle.lengths.proofs.Tables.{length-up}
 use Rattle.lengths.specs.Instance.{mostLength, mostPoints}
-use Rattle.sets.specs.Near.{either?, within?}
-use Rattle.search.specs.Nearby.{near?}
+use Rattle.sets.specs.Neighbours.{either?, within?}
+use Rattle.search.specs.asks.Candidates.{candidate?}
 use Rattle.lists.specs.FirstFrom.{firstFrom}
-use Rattle.search.specs.NextPair.{passes?, allowed?, RowAsked}
+use Rattle.search.specs.asks.Pairs.{passes?, allowed?, RowSearchAsked}
 use Rattle.lengths.specs.Table.{Lengths}
-use Rattle.search.specs.Split.{Bounded}
-use Rattle.rules.specs.Legs.{far}
-use Rattle.sets.specs.declared.near.Near.{Near}
-use Rattle.sets.specs.declared.near.Near.the-variants.{None, One, Two, More}
+use Rattle.search.specs.asks.Split.{Bounded}
+use Rattle.rules.specs.asks.Legs.{far}
+use Rattle.sets.specs.declared.neighbours.Neighbours.{Neighbours}
+use Rattle.sets.specs.declared.neighbours.Neighbours.the-variants.{None, One, Two, More}
 use Rattle.lists.proofs.FirstFrom.{firstFrom-yes, firstFrom-no, firstFrom-low, firstFrom-high, firstFrom-found, firstFrom-none, firstFrom-at, firstFrom-same, firstFrom-skip}
 use Rattle.search.proofs.Ranks.{far-leg, rank-first}
 use Rattle.lengths.proofs.Tables.{length-small}
 
--- a pair with a point that is not near fails the comparison: its leg alone costs more than any pair may
+-- a pair with a point that is no candidate fails the comparison: its leg alone costs more than any pair may
 
 module _ {n : ℕ} {table legs : List ℕ} {bound : ℕ} (lengths : Lengths n table) (bounded : Bounded legs bound) (x y : ℕ) where
   fails : far ≤ getD legs x 0 + getD legs y 0 → passes? n table legs bound x y ≡ false
   unfolding passes?
   fails h = lt-leb (getD legs x 0 + mostLength + getD legs y 0) (lengthOf n table x y + bound) (omega (arith, length-small lengths x y, bounded .tight))
 
-  pub far-row-fails : near? legs x ≡ false → passes? n table legs bound x y ≡ false
+  pub far-row-fails : candidate? legs x ≡ false → passes? n table legs bound x y ≡ false
   far-row-fails h = fails (omega (arith, far-leg legs x h))
 
-  pub far-point-fails : near? legs y ≡ false → passes? n table legs bound x y ≡ false
+  pub far-point-fails : candidate? legs y ≡ false → passes? n table legs bound x y ≡ false
   far-point-fails h = fails (omega (arith, far-leg legs y h))
 
 -- next_in_row
 
--- the near point z is the next to try, and stands at the place `at`; the row of x begins at the place `first`
-pub record Scanning (n : ℕ) (table legs near rank : List ℕ) (bound x y cost first at z : ℕ) : Type 0 where
-  pub asked : RowAsked n table legs near rank bound x y
+-- the candidate z is the next to try, and stands at the place `at`; the row of x begins at the place `first`
+pub record Scanning (n : ℕ) (table legs candidates rank : List ℕ) (bound x y cost first at z : ℕ) : Type 0 where
+  pub asked : RowSearchAsked n table legs candidates rank bound x y
   pub is-cost : cost ≡ getD legs x 0 + mostLength
   pub is-first : first ≡ placeUp n x (x + 1)
   pub is-at : at ≡ getD rank z 0
-  pub is-near : z ≤ n → near? legs z ≡ true
+  pub is-candidate : z ≤ n → candidate? legs z ≡ true
   pub above : y < z
   pub high : z ≤ n + 1
   pub same : firstFrom (passes? n table legs bound x) z (n + 1 - z) ≡ firstFrom (passes? n table legs bound x) (suc y) (n - y)
 
-module _ {n : ℕ} {table legs near rank : List ℕ} {bound x y : ℕ} (r : RowAsked n table legs near rank bound x y) where
+module _ {n : ℕ} {table legs candidates rank : List ℕ} {bound x y : ℕ} (r : RowSearchAsked n table legs candidates rank bound x y) where
   row-end : n + 1 ≡ suc y + (n - y)
   row-end = omega (arith, r .high)
 
@@ -70,41 +71,41 @@ module _ {n : ℕ} {table legs near rank : List ℕ} {bound x y : ℕ} (r : RowA
       let f : n + 1 ≡ suc y = omega (arith, r .high) in
       f ∙ ap (firstFrom (passes? n table legs bound x) (suc y)) (sym e)
 
-  -- the place of the first near point after y
+  -- the place of the first candidate after y
   pub row-rank : getD rank (y + 1) 0 ≤ mostPoints
   row-rank = omega (arith, r .listed .inside (y + 1) (omega arith) (omega (arith, r .high)), r .lengths .few)
 
-  -- where the search may begin at w, it may begin at the first near point from w on
+  -- where the search may begin at w, it may begin at the first candidate from w on
   scan-from : (cost first w at : ℕ) → cost ≡ getD legs x 0 + mostLength → first ≡ placeUp n x (x + 1) → at ≡ getD rank w 0 → y < w → w ≤ n + 1
       → firstFrom (passes? n table legs bound x) w (n + 1 - w) ≡ firstFrom (passes? n table legs bound x) (suc y) (n - y)
-      → Scanning n table legs near rank bound x y cost first at (getD near at 0)
+      → Scanning n table legs candidates rank bound x y cost first at (getD candidates at 0)
   scan-from cost first w at e f g up high same =
       let low : 1 ≤ w = omega arith in
       let sum : w + (n + 1 - w) ≡ n + 1 = omega arith in
-      let z : getD near at 0 ≡ firstFrom (near? legs) w (n + 1 - w) = ap (λ (i : ℕ). getD near i 0) g ∙ r .listed .first w low high in
-      let left : n + 1 - getD near at 0 ≡ w + (n + 1 - w) - firstFrom (near? legs) w (n + 1 - w) = omega arith in
+      let z : getD candidates at 0 ≡ firstFrom (candidate? legs) w (n + 1 - w) = ap (λ (i : ℕ). getD candidates i 0) g ∙ r .listed .first w low high in
+      let left : n + 1 - getD candidates at 0 ≡ w + (n + 1 - w) - firstFrom (candidate? legs) w (n + 1 - w) = omega arith in
       record {
         asked = r;
         is-cost = e;
         is-first = f;
         is-at = g ∙ sym (ap (λ (i : ℕ). getD rank i 0) z ∙ rank-first (r .listed) w (n + 1 - w) low sum);
-        is-near = λ h. ap (near? legs) z ∙ firstFrom-found (near? legs) w (n + 1 - w) (omega arith);
-        above = omega (arith, firstFrom-low (near? legs) w (n + 1 - w));
-        high = omega (arith, firstFrom-high (near? legs) w (n + 1 - w));
+        is-candidate = λ h. ap (candidate? legs) z ∙ firstFrom-found (candidate? legs) w (n + 1 - w) (omega arith);
+        above = omega (arith, firstFrom-low (candidate? legs) w (n + 1 - w));
+        high = omega (arith, firstFrom-high (candidate? legs) w (n + 1 - w));
         same =
             ap₂ (firstFrom (passes? n table legs bound x)) z left
-            ∙ sym (firstFrom-skip (passes? n table legs bound x) (near? legs) (far-point-fails (r .lengths) (r .bounded) x) w (n + 1 - w))
+            ∙ sym (firstFrom-skip (passes? n table legs bound x) (candidate? legs) (far-point-fails (r .lengths) (r .bounded) x) w (n + 1 - w))
             ∙ same;
       }
 
-  pub scan-start : {first : ℕ} → first ≡ place n x (x + 1) → Scanning n table legs near rank bound x y (getD legs x 0 + mostLength) first (getD rank (y + 1) 0) (getD near (getD rank (y + 1) 0) 0)
+  pub scan-start : {first : ℕ} → first ≡ place n x (x + 1) → Scanning n table legs candidates rank bound x y (getD legs x 0 + mostLength) first (getD rank (y + 1) 0) (getD candidates (getD rank (y + 1) 0) 0)
   scan-start {first} p =
       let e : y + 1 ≡ suc y = omega arith in
       let f : n + 1 - (y + 1) ≡ n - y = omega arith in
       scan-from (getD legs x 0 + mostLength) first (y + 1) (getD rank (y + 1) 0) refl (p ∙ place-up n x (x + 1) (omega arith)) refl (omega arith) (omega (arith, r .high))
       (ap₂ (firstFrom (passes? n table legs bound x)) e f)
 
-module _ {n : ℕ} {table legs near rank : List ℕ} {bound x y cost first at z : ℕ} (s : Scanning n table legs near rank bound x y cost first at z) where
+module _ {n : ℕ} {table legs candidates rank : List ℕ} {bound x y cost first at z : ℕ} (s : Scanning n table legs candidates rank bound x y cost first at z) where
   pub scan-below : x + 1 ≤ z
   scan-below = omega (arith, s .asked .up, s .above)
 
@@ -125,36 +126,36 @@ module _ {n : ℕ} {table legs near rank : List ℕ} {bound x y cost first at z 
   scan-length : z ≤ n → lengthOf n table x z ≡ getD table (first + (z - (x + 1))) 0
   scan-length h = length-up n table x z (scan-edge h .up) ∙ ap (λ (j : ℕ). getD table j 0) (sym scan-place)
 
-  -- the next place is that of the first near point above z
+  -- the next place is that of the first candidate above z
   scan-next : z ≤ n → at + 1 ≡ getD rank (z + 1) 0
-  scan-next h = sym (s .asked .listed .next z (omega (arith, scan-below)) h (s .is-near h) ∙ ap (λ (i : ℕ). i + 1) (sym (s .is-at)))
+  scan-next h = sym (s .asked .listed .next z (omega (arith, scan-below)) h (s .is-candidate h) ∙ ap (λ (i : ℕ). i + 1) (sym (s .is-at)))
 
   pub scan-room : z ≤ n → at + 1 ≤ mostPoints
   scan-room h = omega (arith, scan-next h, s .asked .listed .inside (z + 1) (omega arith) (omega arith), s .asked .lengths .few)
 
-  pub scan-rises : z ≤ n → z < getD near (at + 1) 0
+  pub scan-rises : z ≤ n → z < getD candidates (at + 1) 0
   scan-rises h =
-      omega (arith, ap (λ (i : ℕ). getD near i 0) (scan-next h), s .asked .listed .first (z + 1) (omega arith) (omega arith), firstFrom-low (near? legs) (z + 1) (n + 1 - (z + 1)))
+      omega (arith, ap (λ (i : ℕ). getD candidates i 0) (scan-next h), s .asked .listed .first (z + 1) (omega arith) (omega arith), firstFrom-low (candidate? legs) (z + 1) (n + 1 - (z + 1)))
 
-  pub scan-found : z ≤ n → cost + getD legs z 0 ≤ getD table (first + (z - (x + 1))) 0 + bound
+  pub scan-found : {d : ℕ} → z ≤ n → d ≡ getD table (first + (z - (x + 1))) 0 → cost + getD legs z 0 ≤ d + bound
       → z ≡ firstFrom (passes? n table legs bound x) (suc y) (n - y)
   unfolding passes?
-  scan-found h g =
+  scan-found h is g =
       let e : n + 1 - z ≡ suc (n - z) = omega arith in
       let t : leb (getD legs x 0 + mostLength + getD legs z 0) (lengthOf n table x z + bound) ≡ true =
-      le-leb (getD legs x 0 + mostLength + getD legs z 0) (lengthOf n table x z + bound) (omega (arith, s .is-cost, scan-length h)) in
+      le-leb (getD legs x 0 + mostLength + getD legs z 0) (lengthOf n table x z + bound) (omega (arith, is, s .is-cost, scan-length h)) in
       sym (firstFrom-yes (passes? n table legs bound x) z (n - z) t)
       ∙ ap (firstFrom (passes? n table legs bound x) z) (sym e)
       ∙ s .same
 
-  pub scan-on : z ≤ n → getD table (first + (z - (x + 1))) 0 + bound < cost + getD legs z 0
-      → Scanning n table legs near rank bound x y cost first (at + 1) (getD near (at + 1) 0)
+  pub scan-on : {d : ℕ} → z ≤ n → d ≡ getD table (first + (z - (x + 1))) 0 → d + bound < cost + getD legs z 0
+      → Scanning n table legs candidates rank bound x y cost first (at + 1) (getD candidates (at + 1) 0)
   unfolding passes?
-  scan-on h g =
+  scan-on h is g =
       let e : n + 1 - z ≡ suc (n - z) = omega arith in
       let f : n + 1 - (z + 1) ≡ n - z = omega arith in
       let t : leb (getD legs x 0 + mostLength + getD legs z 0) (lengthOf n table x z + bound) ≡ false =
-      lt-leb (getD legs x 0 + mostLength + getD legs z 0) (lengthOf n table x z + bound) (omega (arith, s .is-cost, scan-length h)) in
+      lt-leb (getD legs x 0 + mostLength + getD legs z 0) (lengthOf n table x z + bound) (omega (arith, is, s .is-cost, scan-length h)) in
       scan-from (s .asked) cost first (z + 1) (at + 1) (s .is-cost) (s .is-first) (scan-next h) (omega (arith, s .above)) (omega arith)
       (ap₂ (firstFrom (passes? n table legs bound x)) (add-one z) f
       ∙ sym (firstFrom-no (passes? n table legs bound x) z (n - z) t)
@@ -169,9 +170,9 @@ module _ {n : ℕ} {table legs near rank : List ℕ} {bound x y cost first at z 
 
 -- next_with: the row of x where c has the neighbour a
 
-module _ {n : ℕ} {table legs near rank : List ℕ} {bound x y : ℕ} (r : RowAsked n table legs near rank bound x y) where
+module _ {n : ℕ} {table legs candidates rank : List ℕ} {bound x y : ℕ} (r : RowSearchAsked n table legs candidates rank bound x y) where
   -- no pair of the row is allowed
-  row-none : (centre : Near) → ((i : ℕ) → suc y ≤ i → i < suc y + (n - y) → allowed? n table legs bound centre x i ≡ false)
+  row-none : (centre : Neighbours) → ((i : ℕ) → suc y ≤ i → i < suc y + (n - y) → allowed? n table legs bound centre x i ≡ false)
       → n + 1 ≡ firstFrom (allowed? n table legs bound centre x) (suc y) (n - y)
   row-none centre h = row-end r ∙ sym (firstFrom-none (allowed? n table legs bound centre x) (suc y) (n - y) h)
 

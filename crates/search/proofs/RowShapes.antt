@@ -7,48 +7,48 @@ use mathlib.Core.List.{List}
 use native.Mathlib.Omega.{arith}
 use Rattle.lists.proofs.Bools.{and-no}
 use Rattle.lengths.specs.Edge.{Edge}
-use Rattle.sets.specs.Beyond.{nextOf, fork, ShutsAsked}
-use Rattle.sets.specs.Near.{neighbours, beyond}
+use Rattle.sets.specs.asks.Beyond.{nextOf, fork, ShutsAsked}
+use Rattle.sets.specs.Neighbours.{neighboursOf, beyond}
 use Rattle.lists.specs.FirstFrom.{firstFrom}
-use Rattle.search.specs.NextPair.{allowed?, fits?, BesideAsked, Searchable}
+use Rattle.search.specs.asks.Pairs.{allowed?, fits?, BesideAsked, Searchable}
 use Rattle.sets.specs.Shape.{shuts?}
-use Rattle.sets.specs.Stored.{edgeList}
+use Rattle.sets.specs.asks.Stored.{edgeList}
 use Rattle.sets.specs.declared.edge_set.EdgeSet.{EdgeSet}
-use Rattle.sets.specs.declared.near.Near.{Near}
-use Rattle.sets.specs.declared.near.Next.the-variants.{Fork}
+use Rattle.sets.specs.declared.neighbours.Neighbours.{Neighbours}
+use Rattle.sets.specs.declared.neighbours.PathStep.the-variants.{Fork}
 use Rattle.sets.proofs.BeyondNumbers.{beyond-asked, next-fork}
 use Rattle.lists.proofs.FirstFrom.{firstFrom-yes, firstFrom-no, firstFrom-low, firstFrom-high, firstFrom-found, firstFrom-none, firstFrom-skip}
 
-module _ (n : ℕ) (table legs : List ℕ) (bound : ℕ) (centre : Near) (K : List Edge) (c x : ℕ) where
+module _ (n : ℕ) (table legs : List ℕ) (bound : ℕ) (centre : Neighbours) (K : List Edge) (c x : ℕ) where
   not-allowed : (i : ℕ) → allowed? n table legs bound centre x i ≡ false → fits? n table legs bound centre K c x i ≡ false
   unfolding fits?
-  not-allowed i e = ap (λ (t : Bool). t && not (shuts? n K x i (beyond (neighbours K x) c) (beyond (neighbours K i) c))) e
+  not-allowed i e = ap (λ (t : Bool). t && not (shuts? n K x i (beyond (neighboursOf K x) c) (beyond (neighboursOf K i) c))) e
 
   -- where x has several neighbours beyond c, no point fits
-  forked : beyond (neighbours K x) c ≡ Fork → (i : ℕ) → fits? n table legs bound centre K c x i ≡ false
+  forked : beyond (neighboursOf K x) c ≡ Fork → (i : ℕ) → fits? n table legs bound centre K c x i ≡ false
   unfolding fits? shuts?
   forked e i = rw e (and-no (allowed? n table legs bound centre x i))
 
   -- an allowed point fits where it shuts nothing
-  fits-by : (ahead i : ℕ) → nextOf ahead ≡ beyond (neighbours K x) c → allowed? n table legs bound centre x i ≡ true
-      → fits? n table legs bound centre K c x i ≡ not (shuts? n K x i (nextOf ahead) (beyond (neighbours K i) c))
+  fits-by : (ahead i : ℕ) → nextOf ahead ≡ beyond (neighboursOf K x) c → allowed? n table legs bound centre x i ≡ true
+      → fits? n table legs bound centre K c x i ≡ not (shuts? n K x i (nextOf ahead) (beyond (neighboursOf K i) c))
   unfolding fits?
   fits-by ahead i met e = rw (e, met)
 
 -- the point z is the next to try: the first that is allowed of those left
-pub record Trying (n : ℕ) (table legs near rank : List ℕ) (bound c : ℕ) (centre : Near) (k : EdgeSet) (x y ahead z : ℕ) : Type 0 where
-  pub asked : Searchable n table legs near rank bound centre k x y
-  pub met : nextOf ahead ≡ beyond (neighbours (edgeList k) x) c
+pub record Trying (n : ℕ) (table legs candidates rank : List ℕ) (bound c : ℕ) (centre : Neighbours) (k : EdgeSet) (x y ahead z : ℕ) : Type 0 where
+  pub asked : Searchable n table legs candidates rank bound centre k x y
+  pub met : nextOf ahead ≡ beyond (neighboursOf (edgeList k) x) c
   pub one : ahead ≡ fork → ⊥
   pub above : y < z
   pub allowed : z ≤ n → allowed? n table legs bound centre x z ≡ true
   pub same : firstFrom (fits? n table legs bound centre (edgeList k) c x) z (n + 1 - z) ≡ firstFrom (fits? n table legs bound centre (edgeList k) c x) (suc y) (n - y)
 
-module _ {n : ℕ} {table legs near rank : List ℕ} {bound : ℕ} {centre : Near} {k : EdgeSet} {x y : ℕ} (s : Searchable n table legs near rank bound centre k x y) (c : ℕ) where
+module _ {n : ℕ} {table legs candidates rank : List ℕ} {bound : ℕ} {centre : Neighbours} {k : EdgeSet} {x y : ℕ} (s : Searchable n table legs candidates rank bound centre k x y) (c : ℕ) where
   -- where the search may begin behind w, it may begin at the first allowed point there
-  try-from : {ahead w z : ℕ} → nextOf ahead ≡ beyond (neighbours (edgeList k) x) c → (ahead ≡ fork → ⊥) → y ≤ w → w ≤ n
+  try-from : {ahead w z : ℕ} → nextOf ahead ≡ beyond (neighboursOf (edgeList k) x) c → (ahead ≡ fork → ⊥) → y ≤ w → w ≤ n
       → firstFrom (fits? n table legs bound centre (edgeList k) c x) (suc w) (n - w) ≡ firstFrom (fits? n table legs bound centre (edgeList k) c x) (suc y) (n - y)
-      → z ≡ firstFrom (allowed? n table legs bound centre x) (suc w) (n - w) → Trying n table legs near rank bound c centre k x y ahead z
+      → z ≡ firstFrom (allowed? n table legs bound centre x) (suc w) (n - w) → Trying n table legs candidates rank bound c centre k x y ahead z
   try-from {ahead} {w} {z} met one up high same e =
       let left : n + 1 - z ≡ suc w + (n - w) - firstFrom (allowed? n table legs bound centre x) (suc w) (n - w) = omega arith in
       record {
@@ -63,8 +63,8 @@ module _ {n : ℕ} {table legs near rank : List ℕ} {bound : ℕ} {centre : Nea
             ∙ same;
       }
 
-  pub try-start : {ahead z : ℕ} → nextOf ahead ≡ beyond (neighbours (edgeList k) x) c → (ahead ≡ fork → ⊥)
-      → z ≡ firstFrom (allowed? n table legs bound centre x) (suc y) (n - y) → Trying n table legs near rank bound c centre k x y ahead z
+  pub try-start : {ahead z : ℕ} → nextOf ahead ≡ beyond (neighboursOf (edgeList k) x) c → (ahead ≡ fork → ⊥)
+      → z ≡ firstFrom (allowed? n table legs bound centre x) (suc y) (n - y) → Trying n table legs candidates rank bound c centre k x y ahead z
   try-start met one e = try-from met one (omega arith) (s .beside .row .high) refl e
 
   -- no point of the row is allowed
@@ -79,17 +79,17 @@ module _ {n : ℕ} {table legs near rank : List ℕ} {bound : ℕ} {centre : Nea
       ∙ ap (firstFrom (fits? n table legs bound centre (edgeList k) c x) (firstFrom (allowed? n table legs bound centre x) (suc y) (n - y))) left)
 
   -- x is in no pair
-  pub try-fork : {ahead : ℕ} → nextOf ahead ≡ beyond (neighbours (edgeList k) x) c → ahead ≡ fork
+  pub try-fork : {ahead : ℕ} → nextOf ahead ≡ beyond (neighboursOf (edgeList k) x) c → ahead ≡ fork
       → n + 1 ≡ firstFrom (fits? n table legs bound centre (edgeList k) c x) (suc y) (n - y)
   try-fork {ahead} met e =
       let end : n + 1 ≡ suc y + (n - y) = omega (arith, s .beside .row .high) in
       end ∙ sym (firstFrom-none (fits? n table legs bound centre (edgeList k) c x) (suc y) (n - y) (λ i g g′. forked n table legs bound centre (edgeList k) c x (sym met ∙ next-fork ahead e) i))
 
-module _ {n : ℕ} {table legs near rank : List ℕ} {bound c : ℕ} {centre : Near} {k : EdgeSet} {x y ahead z : ℕ} (t : Trying n table legs near rank bound c centre k x y ahead z) where
+module _ {n : ℕ} {table legs candidates rank : List ℕ} {bound c : ℕ} {centre : Neighbours} {k : EdgeSet} {x y ahead z : ℕ} (t : Trying n table legs candidates rank bound c centre k x y ahead z) where
   pub try-shuts : ShutsAsked k ahead
   try-shuts = record { asked = beyond-asked (t .asked .beside .row .lengths .few) (t .asked .held); one = t .one }
 
-  pub try-asked : z ≤ n → BesideAsked n table legs near rank bound centre x z
+  pub try-asked : z ≤ n → BesideAsked n table legs candidates rank bound centre x z
   try-asked h =
       let r = t .asked .beside .row in
       record {
@@ -97,10 +97,10 @@ module _ {n : ℕ} {table legs near rank : List ℕ} {bound c : ℕ} {centre : N
         apart = t .asked .beside .apart;
       }
 
-  try-fits : z ≤ n → fits? n table legs bound centre (edgeList k) c x z ≡ not (shuts? n (edgeList k) x z (nextOf ahead) (beyond (neighbours (edgeList k) z) c))
+  try-fits : z ≤ n → fits? n table legs bound centre (edgeList k) c x z ≡ not (shuts? n (edgeList k) x z (nextOf ahead) (beyond (neighboursOf (edgeList k) z) c))
   try-fits h = fits-by n table legs bound centre (edgeList k) c x ahead z (t .met) (t .allowed h)
 
-  pub try-found : z ≤ n → not (shuts? n (edgeList k) x z (nextOf ahead) (beyond (neighbours (edgeList k) z) c)) ≡ true
+  pub try-found : z ≤ n → not (shuts? n (edgeList k) x z (nextOf ahead) (beyond (neighboursOf (edgeList k) z) c)) ≡ true
       → z ≡ firstFrom (fits? n table legs bound centre (edgeList k) c x) (suc y) (n - y)
   try-found h e =
       let left : n + 1 - z ≡ suc (n - z) = omega arith in
@@ -108,8 +108,8 @@ module _ {n : ℕ} {table legs near rank : List ℕ} {bound c : ℕ} {centre : N
       ∙ ap (firstFrom (fits? n table legs bound centre (edgeList k) c x) z) (sym left)
       ∙ t .same
 
-  pub try-on : {w : ℕ} → z ≤ n → not (shuts? n (edgeList k) x z (nextOf ahead) (beyond (neighbours (edgeList k) z) c)) ≡ false
-      → w ≡ firstFrom (allowed? n table legs bound centre x) (suc z) (n - z) → Trying n table legs near rank bound c centre k x y ahead w
+  pub try-on : {w : ℕ} → z ≤ n → not (shuts? n (edgeList k) x z (nextOf ahead) (beyond (neighboursOf (edgeList k) z) c)) ≡ false
+      → w ≡ firstFrom (allowed? n table legs bound centre x) (suc z) (n - z) → Trying n table legs candidates rank bound c centre k x y ahead w
   try-on h e f =
       let left : n + 1 - z ≡ suc (n - z) = omega arith in
       try-from (t .asked) c (t .met) (t .one) (omega (arith, t .above)) h

@@ -1,3 +1,1 @@
-pub mod Nearby
-pub mod NextPair
-pub mod Split
+pub mod asks

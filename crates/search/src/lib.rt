@@ -1,4 +1,4 @@
 // The search for feasible pairs at a split point.
-pub mod nearby;
+pub mod candidates;
 pub mod pairs;
 pub mod split;

@@ -1,5 +1,6 @@
 // The search for the next feasible pair at a split point.
-use crate::nearby;
+use crate::candidates;
+use endian::bytes::number32;
 use lengths::edge;
 use lengths::instance::Instance;
 use lengths::table::length_between;
@@ -7,13 +8,14 @@ use rules::legs;
 use sets::beyond;
 use sets::beyond::look_beyond;
 use sets::edge_set::EdgeSet;
-use sets::near::Near;
+use sets::neighbours::Neighbours;
 use sets::shape::shuts;
 ghost use mathlib.Core.Path.{_≡_};
 ghost use Prim.Native.Nat.{suc, _-_};
+ghost use Rattle.endian.specs.Bytes.{whole32};
 ghost use Rattle.lists.specs.FirstFrom.{firstFrom};
-ghost use Rattle.search.specs.NextPair.{passes?, allowed?, fits?, RowAsked, BesideAsked, Searchable, Next};
-ghost use Rattle.sets.specs.Stored.{edgeList};
+ghost use Rattle.search.specs.asks.Pairs.{passes?, allowed?, fits?, RowSearchAsked, BesideAsked, Searchable, NextPairOf};
+ghost use Rattle.sets.specs.asks.Stored.{edgeList};
 
 // What the search finds.
 pub enum NextPair {
@@ -21,19 +23,19 @@ pub enum NextPair {
     End,
 }
 
-// The first point after y whose pair with x passes the one comparison, n + 1 where none does. Only near points are tried.
+// The first point after y whose pair with x passes the one comparison, n + 1 where none does. Only candidates are tried.
 fn next_in_row(
     n: u16,
-    table: &[u32],
+    table: &[u8],
     legs: &[u32; Instance::PLACES],
-    near: &[u16; nearby::PLACES],
-    rank: &[u16; nearby::PLACES],
+    candidates: &[u16; candidates::PLACES],
+    rank: &[u16; candidates::PLACES],
     bound: u32,
     x: u16,
     y: u16,
 ) -> u16
-    requires { ⌜ RowAsked n (now table) (now legs) (now near) (now rank) bound x y ⌝ }
-    ensures { λ r. ⌜ r ≡ firstFrom (passes? n (now (table .entry)) (now (legs .entry)) bound x) (suc y) (n - y) ⌝ }
+    requires { ⌜ RowSearchAsked n (whole32 (now table)) (now legs) (now candidates) (now rank) bound x y ⌝ }
+    ensures { λ r. ⌜ r ≡ firstFrom (passes? n (whole32 (now (table .entry))) (now (legs .entry)) bound x) (suc y) (n - y) ⌝ }
 {
     let leg = legs[x as usize];
     if leg == legs::FAR {
@@ -46,13 +48,13 @@ fn next_in_row(
     let after = x + 1;
     let first = edge::place(n, x, after);
     let mut at = rank[y as usize + 1] as usize;
-    let mut z = near[at];
+    let mut z = candidates[at];
     while z <= n {
-        if cost + legs[z as usize] <= table[first + (z - after) as usize] + bound {
+        if cost + legs[z as usize] <= number32(table, first + (z - after) as usize) + bound {
             return z;
         }
         at += 1;
-        z = near[at];
+        z = candidates[at];
     }
     z
 }
@@ -60,20 +62,20 @@ fn next_in_row(
 // The first point after y that is a or lies beside x = a, and passes the comparison with x; n + 1 where none does.
 fn next_with(
     n: u16,
-    table: &[u32],
+    table: &[u8],
     legs: &[u32; Instance::PLACES],
-    near: &[u16; nearby::PLACES],
-    rank: &[u16; nearby::PLACES],
+    candidates: &[u16; candidates::PLACES],
+    rank: &[u16; candidates::PLACES],
     bound: u32,
     a: u16,
     x: u16,
     y: u16,
 ) -> u16
-    requires { ⌜ RowAsked n (now table) (now legs) (now near) (now rank) bound x y ⌝ }
-    ensures { λ r. ⌜ r ≡ firstFrom (allowed? n (now (table .entry)) (now (legs .entry)) bound (Near.One a) x) (suc y) (n - y) ⌝ }
+    requires { ⌜ RowSearchAsked n (whole32 (now table)) (now legs) (now candidates) (now rank) bound x y ⌝ }
+    ensures { λ r. ⌜ r ≡ firstFrom (allowed? n (whole32 (now (table .entry))) (now (legs .entry)) bound (Neighbours.One a) x) (suc y) (n - y) ⌝ }
 {
     if a == x {
-        return next_in_row(n, table, legs, near, rank, bound, x, y);
+        return next_in_row(n, table, legs, candidates, rank, bound, x, y);
     }
     if a <= y {
         return n + 1;
@@ -91,31 +93,31 @@ fn next_with(
 // The first point after y that passes the comparison with x and leaves none of c's neighbours out; n + 1 where none does.
 fn next_beside(
     n: u16,
-    table: &[u32],
+    table: &[u8],
     legs: &[u32; Instance::PLACES],
-    near: &[u16; nearby::PLACES],
-    rank: &[u16; nearby::PLACES],
+    candidates: &[u16; candidates::PLACES],
+    rank: &[u16; candidates::PLACES],
     bound: u32,
-    centre: Near,
+    centre: Neighbours,
     x: u16,
     y: u16,
 ) -> u16
-    requires { ⌜ BesideAsked n (now table) (now legs) (now near) (now rank) bound centre x y ⌝ }
-    ensures { λ r. ⌜ r ≡ firstFrom (allowed? n (now (table .entry)) (now (legs .entry)) bound centre x) (suc y) (n - y) ⌝ }
+    requires { ⌜ BesideAsked n (whole32 (now table)) (now legs) (now candidates) (now rank) bound centre x y ⌝ }
+    ensures { λ r. ⌜ r ≡ firstFrom (allowed? n (whole32 (now (table .entry))) (now (legs .entry)) bound centre x) (suc y) (n - y) ⌝ }
 {
     match centre {
-        Near::None => next_in_row(n, table, legs, near, rank, bound, x, y),
-        Near::One(a) => next_with(n, table, legs, near, rank, bound, a, x, y),
-        Near::Two(a, b) => {
+        Neighbours::None => next_in_row(n, table, legs, candidates, rank, bound, x, y),
+        Neighbours::One(a) => next_with(n, table, legs, candidates, rank, bound, a, x, y),
+        Neighbours::Two(a, b) => {
             if a == x {
-                return next_with(n, table, legs, near, rank, bound, b, x, y);
+                return next_with(n, table, legs, candidates, rank, bound, b, x, y);
             }
             if b == x {
-                return next_with(n, table, legs, near, rank, bound, a, x, y);
+                return next_with(n, table, legs, candidates, rank, bound, a, x, y);
             }
             n + 1
         }
-        Near::More => n + 1,
+        Neighbours::More => n + 1,
     }
 }
 
@@ -123,21 +125,21 @@ fn next_beside(
 // What x has in k is read once a row, and only where a pair passes: with several edges there, x is in no pair.
 fn next_in_shape(
     n: u16,
-    table: &[u32],
+    table: &[u8],
     legs: &[u32; Instance::PLACES],
-    near: &[u16; nearby::PLACES],
-    rank: &[u16; nearby::PLACES],
+    candidates: &[u16; candidates::PLACES],
+    rank: &[u16; candidates::PLACES],
     bound: u32,
     c: u16,
-    centre: Near,
+    centre: Neighbours,
     k: EdgeSet,
     x: u16,
     y: u16,
 ) -> u16
-    requires { ⌜ Searchable n (now table) (now legs) (now near) (now rank) bound centre k x y ⌝ }
-    ensures { λ r. ⌜ r ≡ firstFrom (fits? n (now (table .entry)) (now (legs .entry)) bound centre (edgeList k) c x) (suc y) (n - y) ⌝ }
+    requires { ⌜ Searchable n (whole32 (now table)) (now legs) (now candidates) (now rank) bound centre k x y ⌝ }
+    ensures { λ r. ⌜ r ≡ firstFrom (fits? n (whole32 (now (table .entry))) (now (legs .entry)) bound centre (edgeList k) c x) (suc y) (n - y) ⌝ }
 {
-    let mut z = next_beside(n, table, legs, near, rank, bound, centre, x, y);
+    let mut z = next_beside(n, table, legs, candidates, rank, bound, centre, x, y);
     if n < z {
         return z;
     }
@@ -149,36 +151,36 @@ fn next_in_shape(
         if !shuts(n, k, c, x, z, ahead) {
             return z;
         }
-        z = next_beside(n, table, legs, near, rank, bound, centre, x, z);
+        z = next_beside(n, table, legs, candidates, rank, bound, centre, x, z);
     }
     z
 }
 
-// The first feasible pair after xy: rows rise, and in a row the points. After 1-1 it is the first of all. Only near points have rows.
+// The first feasible pair after xy: rows rise, and in a row the points. After 1-1 it is the first of all. Only candidates have rows.
 pub fn next_pair(
     n: u16,
-    table: &[u32],
+    table: &[u8],
     legs: &[u32; Instance::PLACES],
-    near: &[u16; nearby::PLACES],
-    rank: &[u16; nearby::PLACES],
+    candidates: &[u16; candidates::PLACES],
+    rank: &[u16; candidates::PLACES],
     bound: u32,
     c: u16,
-    centre: Near,
+    centre: Neighbours,
     k: EdgeSet,
     x: u16,
     y: u16,
 ) -> NextPair
-    requires { ⌜ Searchable n (now table) (now legs) (now near) (now rank) bound centre k x y ⌝ }
-    ensures { λ r. ⌜ Next n (now (table .entry)) (now (legs .entry)) bound c centre k x y r ⌝ }
+    requires { ⌜ Searchable n (whole32 (now table)) (now legs) (now candidates) (now rank) bound centre k x y ⌝ }
+    ensures { λ r. ⌜ NextPairOf n (whole32 (now (table .entry))) (now (legs .entry)) bound c centre k x y r ⌝ }
 {
     let mut a = x;
     let mut b = y;
     while a < n {
-        let z = next_in_shape(n, table, legs, near, rank, bound, c, centre, k, a, b);
+        let z = next_in_shape(n, table, legs, candidates, rank, bound, c, centre, k, a, b);
         if z <= n {
             return NextPair::Pair(a, z);
         }
-        a = near[rank[a as usize + 1] as usize];
+        a = candidates[rank[a as usize + 1] as usize];
         b = a;
     }
     NextPair::End

@@ -13,9 +13,10 @@ ghost use Prim.Native.Nat.{_+_, _*_, _<_};
 ghost use mathlib.Core.Path.{_≡_};
 ghost use mathlib.Core.List.{[], _∷_};
 ghost use lib.ListN.{length, getD, replicate};
-ghost use Rattle.rules.specs.Legs.{far};
-ghost use Rattle.search.specs.Split.{TakeAsked, TakenIn, TriangleAsked, TriangleIn, SingleAsked, SplitAsked, SplitOf, EdgeAsked, EdgeRowsAsked, EdgeRows, EdgeTriangle, EdgeLegsAsked, EdgeLegs};
-ghost use Rattle.rules.specs.Bound.{boundOf};
+ghost use Rattle.endian.specs.Bytes.{whole32};
+ghost use Rattle.rules.specs.asks.Legs.{far};
+ghost use Rattle.search.specs.asks.Split.{TakeAsked, TakenIn, TriangleAsked, TriangleIn, SingleAsked, SplitAsked, SplitOf, EdgeAsked, EdgeRowsAsked, EdgeRows, EdgeTriangle, EdgeLegsAsked, EdgeLegs};
+ghost use Rattle.rules.specs.asks.Bound.{boundOf};
 ghost use Rattle.lengths.specs.Edge.{edge};
 ghost use Rattle.lengths.specs.Instance.{pointPlaces};
 ghost use Rattle.lengths.specs.Table.{lengthOf};
@@ -74,7 +75,7 @@ fn triangle_of(n: u16, rows: &[u32], c: u16, p: u16, q: u16) -> Triangle
 // Takes the edge uv of K into the legs, and answers the bound with it: an edge that touches c changes neither.
 fn take_in(
     n: u16,
-    table: &[u32],
+    table: &[u8],
     rows: &[u32],
     c: u16,
     u: u16,
@@ -82,8 +83,8 @@ fn take_in(
     legs: &mut [u32; Instance::PLACES],
     bound: u32,
 ) -> u32
-    requires { ⌜ TakeAsked n (now table) (now rows) c u v (now legs) bound ⌝ }
-    ensures { λ r. ⌜ TakenIn n (now (table .entry)) c u v (now (legs .entry)) bound (now (legs .exit)) r ⌝ }
+    requires { ⌜ TakeAsked n (whole32 (now table)) (now rows) c u v (now legs) bound ⌝ }
+    ensures { λ r. ⌜ TakenIn n (whole32 (now (table .entry))) c u v (now (legs .entry)) bound (now (legs .exit)) r ⌝ }
 {
     if u == c {
         return bound;
@@ -100,16 +101,16 @@ fn take_in(
 // The table is there to name the lengths: the rows hold them.
 pub fn prepare(
     n: u16,
-    table: &[u32],
+    table: &[u8],
     rows: &[u32],
     marks: &[u8],
     k: EdgeSet,
     c: u16,
     legs: &mut [u32; Instance::PLACES],
 ) -> u32
-    requires { ⌜ SplitAsked n (now table) (now rows) (now marks) k c ⌝ }
+    requires { ⌜ SplitAsked n (whole32 (now table)) (now rows) (now marks) k c ⌝ }
     requires { ⌜ now legs ≡ replicate pointPlaces far ⌝ }
-    ensures { λ r. ⌜ SplitOf n (now (table .entry)) (now (marks .entry)) k c (now (legs .exit)) r ⌝ }
+    ensures { λ r. ⌜ SplitOf n (whole32 (now (table .entry))) (now (marks .entry)) k c (now (legs .exit)) r ⌝ }
 {
     let from = k.from;
     let to = k.to;
@@ -126,9 +127,9 @@ pub fn prepare(
 }
 
 // Writes the rows of c, a and b side by side.
-fn fill_edge_rows(n: u16, table: &[u32], a: u16, b: u16, c: u16, rows: &mut [u32])
-    requires { ⌜ EdgeRowsAsked n (now table) a b c (now rows) ⌝ }
-    ensures { λ _. ⌜ EdgeRows n (now (table .entry)) a b c (now (rows .exit)) ⌝ }
+fn fill_edge_rows(n: u16, table: &[u8], a: u16, b: u16, c: u16, rows: &mut [u32])
+    requires { ⌜ EdgeRowsAsked n (whole32 (now table)) a b c (now rows) ⌝ }
+    ensures { λ _. ⌜ EdgeRows n (whole32 (now (table .entry))) a b c (now (rows .exit)) ⌝ }
 {
     fill_row(n, table, c, rows, 0);
     fill_row(n, table, a, rows, Instance::PLACES);
@@ -136,9 +137,9 @@ fn fill_edge_rows(n: u16, table: &[u32], a: u16, b: u16, c: u16, rows: &mut [u32
 }
 
 // The triangle of c and the edge ab, by the table and these rows.
-fn edge_triangle(n: u16, table: &[u32], a: u16, b: u16, c: u16) -> Triangle
-    requires { ⌜ EdgeAsked n (now table) a b c ⌝ }
-    ensures { λ r. ⌜ EdgeTriangle n (now (table .entry)) a b c r ⌝ }
+fn edge_triangle(n: u16, table: &[u8], a: u16, b: u16, c: u16) -> Triangle
+    requires { ⌜ EdgeAsked n (whole32 (now table)) a b c ⌝ }
+    ensures { λ r. ⌜ EdgeTriangle n (whole32 (now (table .entry))) a b c r ⌝ }
 {
     let ab = length_between(n, table, a, b) as u32;
     let ca = length_between(n, table, c, a) as u32;
@@ -155,14 +156,14 @@ fn edge_triangle(n: u16, table: &[u32], a: u16, b: u16, c: u16) -> Triangle
 // The legs of K = {ab} at c.
 fn legs_for_edge(
     n: u16,
-    table: &[u32],
+    table: &[u8],
     marks: &[u8],
     a: u16,
     b: u16,
     c: u16,
 ) -> [u32; Instance::PLACES]
-    requires { ⌜ EdgeLegsAsked n (now table) (now marks) a b c ⌝ }
-    ensures { λ r. ⌜ EdgeLegs n (now (table .entry)) (now (marks .entry)) a b c r ⌝ }
+    requires { ⌜ EdgeLegsAsked n (whole32 (now table)) (now marks) a b c ⌝ }
+    ensures { λ r. ⌜ EdgeLegs n (whole32 (now (table .entry))) (now (marks .entry)) a b c r ⌝ }
 {
     let mut rows = [0u32; 3 * Instance::PLACES];
     fill_edge_rows(n, table, a, b, c, &mut rows);
@@ -174,18 +175,18 @@ fn legs_for_edge(
 }
 
 // The bound of K = {ab} at c.
-fn bound_for_edge(n: u16, table: &[u32], a: u16, b: u16, c: u16) -> u32
-    requires { ⌜ EdgeAsked n (now table) a b c ⌝ }
-    ensures { λ r. ⌜ r ≡ boundOf (lengthOf n (now (table .entry))) (edge a b ∷ []) c ⌝ }
+fn bound_for_edge(n: u16, table: &[u8], a: u16, b: u16, c: u16) -> u32
+    requires { ⌜ EdgeAsked n (whole32 (now table)) a b c ⌝ }
+    ensures { λ r. ⌜ r ≡ boundOf (lengthOf n (whole32 (now (table .entry)))) (edge a b ∷ []) c ⌝ }
 {
     let t = edge_triangle(n, table, a, b, c);
     tighten(c, a, b, t.pq, t.cp, t.cq, bound::LOOSE)
 }
 
 // What the search looks up for a set k of one edge at c, by three rows alone.
-pub fn prepare_single(n: u16, table: &[u32], marks: &[u8], k: EdgeSet, c: u16) -> Split
-    requires { ⌜ SingleAsked n (now table) (now marks) k c ⌝ }
-    ensures { λ r. ⌜ SplitOf n (now (table .entry)) (now (marks .entry)) k c (r .legs) (r .bound) ⌝ }
+pub fn prepare_single(n: u16, table: &[u8], marks: &[u8], k: EdgeSet, c: u16) -> Split
+    requires { ⌜ SingleAsked n (whole32 (now table)) (now marks) k c ⌝ }
+    ensures { λ r. ⌜ SplitOf n (whole32 (now (table .entry))) (now (marks .entry)) k c (r .legs) (r .bound) ⌝ }
 {
     let from = k.from;
     let to = k.to;

@@ -11,15 +11,15 @@ use borrow.Author.Tests.{eqb-true, eqb-false, eq-eqb, ne-eqb}
 use Rattle.lengths.specs.Edge.{Edge, Point}
 use Rattle.lengths.specs.Instance.{mostPoints}
 use Rattle.sets.specs.Shape.{reaches?, shuts?}
-use Rattle.sets.specs.Near.{withPoint, seen, neighbours, beyond}
-use Rattle.sets.specs.Stored.{edgesOf, edgeList, Held, mostKnown}
-use Rattle.sets.specs.Beyond.{nextOf, joined, further, passing, Named, BeyondAsked, fork}
+use Rattle.sets.specs.Neighbours.{withPoint, seen, neighboursOf, beyond}
+use Rattle.sets.specs.asks.Stored.{edgesOf, edgeList, Held, mostKnown}
+use Rattle.sets.specs.asks.Beyond.{nextOf, joined, further, passing, Named, BeyondAsked, fork}
 use Rattle.sets.specs.declared.edge_set.EdgeSet.{EdgeSet}
-use Rattle.sets.specs.declared.near.Near.{Near}
-use Rattle.sets.specs.declared.near.Near.the-variants.{None, One, Two, More}
-use Rattle.sets.specs.declared.near.Next.{Next}
-use Rattle.sets.specs.declared.near.Next.the-variants.{Stop, On, Fork}
-use Rattle.sets.proofs.Laws.Near.{Around, neighbours-exact}
+use Rattle.sets.specs.declared.neighbours.Neighbours.{Neighbours}
+use Rattle.sets.specs.declared.neighbours.Neighbours.the-variants.{None, One, Two, More}
+use Rattle.sets.specs.declared.neighbours.PathStep.{PathStep}
+use Rattle.sets.specs.declared.neighbours.PathStep.the-variants.{Stop, On, Fork}
+use Rattle.sets.proofs.Laws.Neighbours.{NeighboursAre, neighbours-exact}
 use Rattle.sets.proofs.Laws.Stored.{neighbours-up}
 
 -- the number
@@ -61,7 +61,7 @@ module _ (m u c : ℕ) (named : Named u) where
 
 -- `beyond` takes in a neighbour as `further` does
 
-beyond-with : (m : Near) (u c : ℕ) → beyond (withPoint m u) c ≡ further (beyond m c) u c
+beyond-with : (m : Neighbours) (u c : ℕ) → beyond (withPoint m u) c ≡ further (beyond m c) u c
 unfolding beyond withPoint further joined
 beyond-with None u c = refl
 beyond-with (One a) u c = go (eqb a u) refl (eqb a c) refl (eqb u c) refl
@@ -104,7 +104,7 @@ beyond-with More u c = go (eqb u c) refl
     go true e = refl
     go false e = refl
 
-beyond-seen : (p q v : ℕ) (m : Near) (c : ℕ) → beyond (seen p q v m) c ≡ passing p q c v (beyond m c)
+beyond-seen : (p q v : ℕ) (m : Neighbours) (c : ℕ) → beyond (seen p q v m) c ≡ passing p q c v (beyond m c)
 unfolding seen passing
 beyond-seen p q v m c = go (eqb p v) (eqb q v)
   where
@@ -115,7 +115,7 @@ beyond-seen p q v m c = go (eqb p v) (eqb q v)
 
 -- the tests of `pass`
 
-module _ (p q c v : ℕ) (m : Next) where
+module _ (p q c v : ℕ) (m : PathStep) where
   pub passing-first : p ≡ v → further m q c ≡ passing p q c v m
   unfolding passing
   passing-first e = rw (eq-eqb p v e)
@@ -133,10 +133,10 @@ module _ (p q c v : ℕ) (m : Next) where
 pub record Gathering (from to : List ℕ) (count v c met i : ℕ) : Type 0 where
   pub within : i ≤ count
   pub few : count ≤ mostKnown
-  pub known : nextOf met ≡ beyond (neighbours (edgesOf from to i) v) c
+  pub known : nextOf met ≡ beyond (neighboursOf (edgesOf from to i) v) c
 
 pub gather-start : {k : EdgeSet} (v c : ℕ) → BeyondAsked k → Gathering (k .from) (k .to) (k .count) v c 0 0
-unfolding edgesOf neighbours beyond
+unfolding edgesOf neighboursOf beyond
 gather-start v c a = record { within = omega arith; few = a .stored .few; known = next-none 0 refl }
 
 pub gather-on : {from to : List ℕ} {count v c met i r : ℕ} → Gathering from to count v c met i → i < count
@@ -147,15 +147,15 @@ gather-on {from} {to} {count} {v} {c} {met} {i} {r} g h e = record {
   known =
       e
       ∙ ap (passing (getD from i 0) (getD to i 0) c v) (g .known)
-      ∙ sym (beyond-seen (getD from i 0) (getD to i 0) v (neighbours (edgesOf from to i) v) c)
-      ∙ ap (λ (m : Near). beyond m c) (sym (neighbours-up from to i v));
+      ∙ sym (beyond-seen (getD from i 0) (getD to i 0) v (neighboursOf (edgesOf from to i) v) c)
+      ∙ ap (λ (m : Neighbours). beyond m c) (sym (neighbours-up from to i v));
 }
 
-pub gather-end : {k : EdgeSet} {v c met i : ℕ} → Gathering (k .from) (k .to) (k .count) v c met i → k .count ≤ i → nextOf met ≡ beyond (neighbours (edgeList k) v) c
+pub gather-end : {k : EdgeSet} {v c met i : ℕ} → Gathering (k .from) (k .to) (k .count) v c met i → k .count ≤ i → nextOf met ≡ beyond (neighboursOf (edgeList k) v) c
 unfolding edgeList
 gather-end {k} {v} {c} {met} {i} g h =
     let e : i ≡ k .count = omega (arith, g .within) in
-    g .known ∙ ap (λ (j : ℕ). beyond (neighbours (edgesOf (k .from) (k .to) j) v) c) e
+    g .known ∙ ap (λ (j : ℕ). beyond (neighboursOf (edgesOf (k .from) (k .to) j) v) c) e
 
 -- several stay several, so the edges that are left need not be looked at
 
@@ -170,24 +170,24 @@ passing-fork p q c v = go (eqb p v) (eqb q v) (eqb q c) (eqb p c)
     go false true r false = refl
     go false false r r′ = refl
 
-fork-stays : (f t : List ℕ) (v c i m : ℕ) → i ≤ m → beyond (neighbours (edgesOf f t i) v) c ≡ Fork → beyond (neighbours (edgesOf f t m) v) c ≡ Fork
-unfolding edgesOf neighbours
-fork-stays f t v c i zero l h = let e : 0 ≡ i = omega arith in ap (λ (j : ℕ). beyond (neighbours (edgesOf f t j) v) c) e ∙ h
+fork-stays : (f t : List ℕ) (v c i m : ℕ) → i ≤ m → beyond (neighboursOf (edgesOf f t i) v) c ≡ Fork → beyond (neighboursOf (edgesOf f t m) v) c ≡ Fork
+unfolding edgesOf neighboursOf
+fork-stays f t v c i zero l h = let e : 0 ≡ i = omega arith in ap (λ (j : ℕ). beyond (neighboursOf (edgesOf f t j) v) c) e ∙ h
 fork-stays f t v c i (suc m) l h = elim (ℕ-discrete (suc m) i) [
-  | yes e ↦ ap (λ (j : ℕ). beyond (neighbours (edgesOf f t j) v) c) e ∙ h
+  | yes e ↦ ap (λ (j : ℕ). beyond (neighboursOf (edgesOf f t j) v) c) e ∙ h
   | no d ↦
-      beyond-seen (getD f m 0) (getD t m 0) v (neighbours (edgesOf f t m) v) c
+      beyond-seen (getD f m 0) (getD t m 0) v (neighboursOf (edgesOf f t m) v) c
       ∙ ap (passing (getD f m 0) (getD t m 0) c v) (fork-stays f t v c i m (omega (arith, d)) h)
       ∙ passing-fork (getD f m 0) (getD t m 0) c v
 ]
 
-pub gather-fork : {k : EdgeSet} {v c met i : ℕ} → Gathering (k .from) (k .to) (k .count) v c met i → met ≡ fork → nextOf met ≡ beyond (neighbours (edgeList k) v) c
+pub gather-fork : {k : EdgeSet} {v c met i : ℕ} → Gathering (k .from) (k .to) (k .count) v c met i → met ≡ fork → nextOf met ≡ beyond (neighboursOf (edgeList k) v) c
 unfolding edgeList
 gather-fork {k} {v} {c} {met} {i} g h = next-fork met h ∙ sym (fork-stays (k .from) (k .to) v c i (k .count) (g .within) (sym (g .known) ∙ next-fork met h))
 
 -- the test of a cycle, by the numbers of x and y
 
-module _ (n x y : ℕ) (K : List Edge) {ahead behind : ℕ} {m : Next} (of : nextOf behind ≡ m) (one : ahead ≡ fork → ⊥) where
+module _ (n x y : ℕ) (K : List Edge) {ahead behind : ℕ} {m : PathStep} (of : nextOf behind ≡ m) (one : ahead ≡ fork → ⊥) where
   pub shuts-second : behind ≡ fork → true ≡ shuts? n K x y (nextOf ahead) m
   unfolding shuts?
   shuts-second e = elim (ℕ-discrete ahead 0) [
@@ -222,5 +222,5 @@ beyond-asked {n} few h = record {
     named p = record { low = p .low; high = omega (arith, p .high, few) }
 
 -- where a point has exactly two neighbours, they are different
-pub two-apart : (K : List Edge) (c : ℕ) (centre : Near) → centre ≡ neighbours K c → (a b : ℕ) → centre ≡ Two a b → a ≡ b → ⊥
-two-apart K c centre own a b e = subst (Around K c) (sym own ∙ e) (neighbours-exact K c) .apart
+pub two-apart : (K : List Edge) (c : ℕ) (centre : Neighbours) → centre ≡ neighboursOf K c → (a b : ℕ) → centre ≡ Two a b → a ≡ b → ⊥
+two-apart K c centre own a b e = subst (NeighboursAre K c) (sym own ∙ e) (neighbours-exact K c) .apart

@@ -2,7 +2,7 @@
 -- both, for a K that has the shape; {ab} has the shape, and a pair that passes keeps it. Assumes nothing.
 -- The other tests' theorems are named here too: `has?`, the neighbours of a point, and the two ends of a centre.
 pub use Rattle.sets.proofs.Laws.Joined.{has-exact}
-pub use Rattle.sets.proofs.Laws.Near.{neighbours-exact, onward-exact, within-exact, ends-sound, ends-complete}
+pub use Rattle.sets.proofs.Laws.Neighbours.{neighbours-exact, onward-exact, within-exact, ends-sound, ends-complete}
 use Prim.Native.Nat.{ℕ, _-_, _≤_, _<_}
 use native.Mathlib.Omega.{arith}
 use native.Mathlib.Decide.{ℕ-discrete, decLe}
@@ -15,15 +15,16 @@ use borrow.Author.Tests.{not-true}
 use Rattle.lengths.specs.Edge.{Edge, edge}
 use Rattle.lists.proofs.Bools.{and-both, and-true}
 use Rattle.sets.specs.EdgeSet.{Has, AtMostTwo, Cycle, NoShortCycle, closedEdges, withPair}
-use Rattle.sets.specs.Near.{neighbours, beyond, within?}
-use Rattle.sets.specs.Shape.{Shape, Apart, reaches?, shuts?, shape?}
-use Rattle.sets.specs.declared.near.Next.{Next}
-use Rattle.sets.specs.declared.near.Next.the-variants.{Stop, On, Fork}
+use Rattle.sets.specs.Neighbours.{neighboursOf, beyond, within?}
+use Rattle.sets.specs.Shape.{Shape, reaches?, shuts?, shape?}
+use Rattle.sets.specs.asks.Shape.{Apart}
+use Rattle.sets.specs.declared.neighbours.PathStep.{PathStep}
+use Rattle.sets.specs.declared.neighbours.PathStep.the-variants.{Stop, On, Fork}
 use Rattle.sets.proofs.Laws.Cycle.{cycle-sides, closed-in}
 use Rattle.sets.proofs.Laws.Degree.{pair-has, pair-keeps, pair-x, pair-y, x-pair, old-edge, two-of-room, room-of-two}
 use Rattle.sets.proofs.Laws.Follow.{found, met}
 use Rattle.sets.proofs.Laws.Joined.{has-sym}
-use Rattle.sets.proofs.Laws.Near.{Leads, Onward, Forks}
+use Rattle.sets.proofs.Laws.Neighbours.{Leads, Onward, Forks}
 use Rattle.sets.proofs.Laws.Points.{In, in-dec}
 use Rattle.sets.proofs.Laws.Trail.{Trail}
 
@@ -49,7 +50,7 @@ module _ (n : ℕ) (K : List Edge) (c x y : ℕ) (shape : Shape n K) (apart : Ap
   start : (v : ℕ) → Leads K x c v → Trail (withPair K c x y) c y v x (c ∷ [])
   start v l =
       record {
-        chain = (pair-keeps K c x y v x (has-sym K x v (l .has)), (x-pair K c x y, tt));
+        path = (pair-keeps K c x y v x (has-sym K x v (l .has)), (x-pair K c x y, tt));
         distinct = (
           ⊎-elim (λ e. shape .plain v (subst (λ (u : ℕ). Has K u v) e (l .has))) (⊎-elim (λ e. l .new (sym e)) (λ h. h)),
           (⊎-elim (λ e. apart .x-c (sym e)) (λ h. h), ((λ h. h), tt)),
@@ -72,8 +73,8 @@ module _ (n : ℕ) (K : List Edge) (c x y : ℕ) (shape : Shape n K) (apart : Ap
 
   module _ (two : AtMostTwo (withPair K c x y)) (vs : List ℕ) (C : Cycle (withPair K c x y) vs) where
     -- the points of a cycle are closed under neighbours
-    near-in : (u v : ℕ) → In u vs → Has (withPair K c x y) u v → In v vs
-    near-in u v h k =
+    neighbour-in : (u v : ℕ) → In u vs → Has (withPair K c x y) u v → In v vs
+    neighbour-in u v h k =
         let s = cycle-sides (withPair K c x y) vs C u h in
         ⊎-elim (λ e. absurd (s .apart e))
         (⊎-elim (λ e. subst (λ (t : ℕ). In t vs) e (s .in-p)) (λ e. subst (λ (t : ℕ). In t vs) e (s .in-q)))
@@ -89,28 +90,28 @@ module _ (n : ℕ) (K : List Edge) (c x y : ℕ) (shape : Shape n K) (apart : Ap
         s .apart (to-c (s .p) (s .has-p) ∙ sym (to-c (s .q) (s .has-q)))
 
     -- the test sees a short cycle
-    seen-by : length vs < n → In c vs → (mx my : Next) → Onward K x c mx → Onward K y c my → shuts? n K x y mx my ≡ true
+    seen-by : length vs < n → In c vs → (mx my : PathStep) → Onward K x c mx → Onward K y c my → shuts? n K x y mx my ≡ true
     unfolding shuts?
     seen-by short ci Fork my hx hy = refl
     seen-by short ci Stop Fork hx hy = refl
-    seen-by short ci Stop Stop hx hy = absurd (leaves x (near-in c x ci (pair-x K c x y)) (apart .x-c) hx)
-    seen-by short ci Stop (On u) hx hy = absurd (leaves x (near-in c x ci (pair-x K c x y)) (apart .x-c) hx)
+    seen-by short ci Stop Stop hx hy = absurd (leaves x (neighbour-in c x ci (pair-x K c x y)) (apart .x-c) hx)
+    seen-by short ci Stop (On u) hx hy = absurd (leaves x (neighbour-in c x ci (pair-x K c x y)) (apart .x-c) hx)
     seen-by short ci (On v) Fork hx hy = refl
-    seen-by short ci (On v) Stop hx hy = absurd (leaves y (near-in c y ci (pair-y K c x y)) (apart .y-c) hy)
+    seen-by short ci (On v) Stop hx hy = absurd (leaves y (neighbour-in c y ci (pair-y K c x y)) (apart .y-c) hy)
     seen-by short ci (On v) (On u) hx hy =
-        let xi : In x vs = near-in c x ci (pair-x K c x y) in
-        let vi : In v vs = near-in x v xi (pair-keeps K c x y x v (hx .has)) in
+        let xi : In x vs = neighbour-in c x ci (pair-x K c x y) in
+        let vi : In v vs = neighbour-in x v xi (pair-keeps K c x y x v (hx .has)) in
         met K c x y two pair-plain n vs short (cycle-sides (withPair K c x y) vs C) (n - 3) v x (c ∷ []) (start v hx)
         (λ w. ⊎-elim (λ e. rw (← e) vi) (⊎-elim (λ e. rw (← e) xi) (⊎-elim (λ e. rw (← e) ci) (λ h. absurd h)))) (omega arith)
 
   -- a test that is passed leaves x, and y, no two neighbours in K besides c
-  room-x : (mx my : Next) → Onward K x c mx → shuts? n K x y mx my ≡ false → Forks K x c → ⊥
+  room-x : (mx my : PathStep) → Onward K x c mx → shuts? n K x y mx my ≡ false → Forks K x c → ⊥
   unfolding shuts?
   room-x Fork my h e f = true≢false e
   room-x Stop my h e f = stop-or-fork K x c h f
   room-x (On v) my h e f = lead-or-fork K x c v h f
 
-  room-y : (mx my : Next) → Onward K y c my → shuts? n K x y mx my ≡ false → Forks K y c → ⊥
+  room-y : (mx my : PathStep) → Onward K y c my → shuts? n K x y mx my ≡ false → Forks K y c → ⊥
   unfolding shuts?
   room-y Fork my h e f = true≢false e
   room-y Stop Fork h e f = true≢false e
@@ -121,7 +122,7 @@ module _ (n : ℕ) (K : List Edge) (c x y : ℕ) (shape : Shape n K) (apart : Ap
   room-y (On v) (On u) h e f = lead-or-fork K y c u h f
 
   -- a pair with room that closes no short cycle passes
-  unseen : AtMostTwo (withPair K c x y) → NoShortCycle n (withPair K c x y) → (mx my : Next) → Onward K x c mx → Onward K y c my
+  unseen : AtMostTwo (withPair K c x y) → NoShortCycle n (withPair K c x y) → (mx my : PathStep) → Onward K x c mx → Onward K y c my
       → shuts? n K x y mx my ≡ false
   unfolding shuts?
   unseen two long Fork my hx hy = absurd (room-of-two K c x y apart two .at-x hx)
@@ -137,14 +138,14 @@ module _ (n : ℕ) (K : List Edge) (c x y : ℕ) (shape : Shape n K) (apart : Ap
   unfolding shape?
   shape-sound h = (two, long)
     where
-      my : Next
-      my = beyond (neighbours K y) c
+      my : PathStep
+      my = beyond (neighboursOf K y) c
 
-      mx : Next
-      mx = beyond (neighbours K x) c
+      mx : PathStep
+      mx = beyond (neighboursOf K x) c
 
-      passed : (within? (neighbours K c) x y ≡ true) × (not (shuts? n K x y mx my) ≡ true)
-      passed = and-true (within? (neighbours K c) x y) (not (shuts? n K x y mx my)) h
+      passed : (within? (neighboursOf K c) x y ≡ true) × (not (shuts? n K x y mx my) ≡ true)
+      passed = and-true (within? (neighboursOf K c) x y) (not (shuts? n K x y mx my)) h
 
       open-end : shuts? n K x y mx my ≡ false
       open-end = not-true (shuts? n K x y mx my) (passed .1)
@@ -173,10 +174,10 @@ module _ (n : ℕ) (K : List Edge) (c x y : ℕ) (shape : Shape n K) (apart : Ap
   shape-complete : AtMostTwo (withPair K c x y) × NoShortCycle n (withPair K c x y) → shape? n K c x y ≡ true
   unfolding shape?
   shape-complete h =
-      let my : Next = beyond (neighbours K y) c in
-      let mx : Next = beyond (neighbours K x) c in
+      let my : PathStep = beyond (neighboursOf K y) c in
+      let mx : PathStep = beyond (neighboursOf K x) c in
       let e : shuts? n K x y mx my ≡ false = unseen (h .0) (h .1) mx my (onward-exact K x c) (onward-exact K y c) in
-      and-both (within? (neighbours K c) x y) (not (shuts? n K x y mx my)) (within-exact K c x y .1 (room-of-two K c x y apart (h .0) .at-c))
+      and-both (within? (neighboursOf K c) x y) (not (shuts? n K x y mx my)) (within-exact K c x y .1 (room-of-two K c x y apart (h .0) .at-c))
       (ap not e)
 
   -- THEOREM: the test is passed exactly when K with the pair has conditions 2 and 3.

@@ -2,7 +2,7 @@
 -- path that the cycle test follows. Each file assumes nothing.
 pub mod Stored
 pub mod Joined
-pub mod Near
+pub mod Neighbours
 pub mod Points
 pub mod Cycle
 pub mod Trail

@@ -44,8 +44,8 @@ NoShortCycle n es = (vs : List ℕ) → Cycle es vs → n ≤ length vs
 unfoldable pub withPair : List Edge → ℕ → ℕ → ℕ → List Edge
 withPair K c x y = edge c x ∷ edge c y ∷ K
 
--- r has exactly two edges in K, and x and y are their other ends
-pub record Ends (K : List Edge) (r x y : ℕ) : Type 0 where
+-- r has degree two in K, and x and y are the other ends of its edges
+pub record DegreeTwo (K : List Edge) (r x y : ℕ) : Type 0 where
   pub apart : x ≡ y → ⊥
   pub has-x : Has K r x
   pub has-y : Has K r y

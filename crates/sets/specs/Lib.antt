@@ -1,7 +1,6 @@
-pub mod Beyond
+pub mod asks
 pub mod EdgeSet
 pub mod Joined
-pub mod Near
+pub mod Neighbours
 pub mod Rising
 pub mod Shape
-pub mod Stored

@@ -1,9 +1,9 @@
 // What a point has in K beyond the split point, read from K itself.
 use crate::edge_set::EdgeSet;
 ghost use mathlib.Core.Path.{_≡_};
-ghost use Rattle.sets.specs.Beyond.{nextOf, further, passing, Named, PassAsked, BeyondAsked};
-ghost use Rattle.sets.specs.Near.{neighbours, beyond};
-ghost use Rattle.sets.specs.Stored.{edgeList};
+ghost use Rattle.sets.specs.asks.Beyond.{nextOf, further, passing, Named, PassAsked, BeyondAsked};
+ghost use Rattle.sets.specs.Neighbours.{neighboursOf, beyond};
+ghost use Rattle.sets.specs.asks.Stored.{edgeList};
 
 // Several neighbours beyond the split point: no point has this number.
 pub const FORK: u16 = 65535;
@@ -42,7 +42,7 @@ fn pass(met: u16, p: u16, q: u16, v: u16, c: u16) -> u16
 // What v has in k beyond c: 0 for nothing, the point where it is one, FORK for several.
 pub fn look_beyond(k: EdgeSet, v: u16, c: u16) -> u16
     requires { ⌜ BeyondAsked k ⌝ }
-    ensures { λ r. ⌜ nextOf r ≡ beyond (neighbours (edgeList k) v) c ⌝ }
+    ensures { λ r. ⌜ nextOf r ≡ beyond (neighboursOf (edgeList k) v) c ⌝ }
 {
     let count = k.count;
     let mut met: u16 = 0;

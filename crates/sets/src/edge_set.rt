@@ -2,7 +2,7 @@
 ghost use mathlib.Core.Path.{_≡_};
 ghost use Prim.Native.Nat.{_+_, _≤_};
 ghost use Rattle.sets.specs.Joined.{joins?, has?};
-ghost use Rattle.sets.specs.Stored.{mostKnown, edgeList, Stored, Single, Added};
+ghost use Rattle.sets.specs.asks.Stored.{mostKnown, edgeList, Stored, Single, Added};
 
 // The i-th edge taken in joins from[i] and to[i], for i below count. An edge may stand twice.
 pub struct EdgeSet {

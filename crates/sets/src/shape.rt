@@ -2,14 +2,14 @@
 use crate::beyond;
 use crate::beyond::look_beyond;
 use crate::edge_set::EdgeSet;
-use crate::near::Next;
-use crate::near::onward;
+use crate::neighbours::PathStep;
+use crate::neighbours::onward;
 ghost use mathlib.Core.Path.{_≡_};
 ghost use Prim.Native.Nat.{_-_};
-ghost use Rattle.sets.specs.Beyond.{nextOf, ShutsAsked};
-ghost use Rattle.sets.specs.Near.{neighbours, beyond};
+ghost use Rattle.sets.specs.asks.Beyond.{nextOf, ShutsAsked};
+ghost use Rattle.sets.specs.Neighbours.{neighboursOf, beyond};
 ghost use Rattle.sets.specs.Shape.{reaches?, shuts?};
-ghost use Rattle.sets.specs.Stored.{edgeList, Stored};
+ghost use Rattle.sets.specs.asks.Stored.{edgeList, Stored};
 
 // Is y met on the path of k that comes from `start` to `first`, in time to close a cycle of fewer than n points?
 // Three points of the cycle are known where the path begins: c, start and first.
@@ -25,9 +25,9 @@ fn reaches(n: u16, k: EdgeSet, start: u16, first: u16, y: u16) -> bool
             return true;
         }
         match onward(k, at, from) {
-            Next::Stop => return false,
-            Next::Fork => return false,
-            Next::On(v) => {
+            PathStep::Stop => return false,
+            PathStep::Fork => return false,
+            PathStep::On(v) => {
                 from = at;
                 at = v;
             }
@@ -41,7 +41,7 @@ fn reaches(n: u16, k: EdgeSet, start: u16, first: u16, y: u16) -> bool
 // `ahead` is what x has in k beyond c, nothing or one point. There is no cycle where x or y has nothing there.
 pub fn shuts(n: u16, k: EdgeSet, c: u16, x: u16, y: u16, ahead: u16) -> bool
     requires { ⌜ ShutsAsked k ahead ⌝ }
-    ensures { λ r. ⌜ r ≡ shuts? n (edgeList k) x y (nextOf ahead) (beyond (neighbours (edgeList k) y) c) ⌝ }
+    ensures { λ r. ⌜ r ≡ shuts? n (edgeList k) x y (nextOf ahead) (beyond (neighboursOf (edgeList k) y) c) ⌝ }
 {
     let behind = look_beyond(k, y, c);
     if behind == beyond::FORK {

@@ -1,75 +1,72 @@
 // "Mark a sheet": accepted arguments, the refusals of a case, 13 to 16, and their order.
 use crate::fixtures;
-use crate::sheet_checks::mark_part;
+use crate::sheet_checks::five;
+use crate::sheet_checks::four;
 use crate::sheet_checks::one;
-use crate::sheet_checks::put;
-use crate::sheet_checks::square;
-use crate::sheet_checks::square_made;
+use crate::sheet_checks::refused;
+use crate::sheet_checks::struck;
 use crate::sheet_checks::under;
+use answers::data::begin;
+use answers::data::lengths_as_bytes;
+use answers::data::put;
 use answers::tally::Tally;
 use answers::tally::subject;
 use answers::tally::text;
 
 // The first so many numbers of a sheet, on four points at equal distances, with fresh marks that stay.
-fn flat_4(t: Tally, sheet: &[u16; 56], size: usize, number: u64, record: u64) -> Tally {
+fn flat_4(t: Tally, sheet: [u8; 112], size: u32, number: u64, record: u64) -> Tally {
     text(b"mark, 4 flat,");
-    let mut bytes = fixtures::FRESH_4;
-    mark_part(
+    four(
         t,
-        4,
-        &fixtures::FLAT_4,
-        &mut bytes,
+        lengths_as_bytes(fixtures::FLAT),
         sheet,
         size,
         number,
         record,
         0,
-        &fixtures::FRESH_4,
+        fixtures::FRESH,
     )
 }
 
-// The same on five points at equal distances.
-fn flat_5(t: Tally, sheet: &[u16; 56], size: usize, number: u64, record: u64) -> Tally {
+// The same on five points.
+fn flat_5(t: Tally, sheet: [u8; 112], size: u32, number: u64, record: u64) -> Tally {
     text(b"mark, 5 flat,");
-    let mut bytes = fixtures::FRESH_5;
-    mark_part(
+    five(
         t,
-        5,
-        &fixtures::FLAT_5,
-        &mut bytes,
+        lengths_as_bytes(fixtures::FLAT),
         sheet,
         size,
         number,
         record,
         0,
-        &fixtures::FRESH_5,
+        fixtures::FRESH,
     )
 }
 
-// A crossing under K = 1-2, 1-3, 3-4, 2-4, a cycle of all four points.
+// A 3-opt closing under K = 1-2, 1-3, 3-4, 2-4, a cycle of all four points.
 fn in_cycle(t: Tally, p: u16, q: u16, r: u16, s: u16, number: u64) -> Tally {
-    let sheet = put([0u16; 56], 0, [1, 1, 2, 0, 0, 3, 2, 0]);
+    let sheet = begin([1, 1, 2, 0, 0, 3, 2, 0]);
     let sheet = put(sheet, 1, [2, 1, 4, 0, 0, 4, 3, 0]);
     let sheet = put(sheet, 2, [3, 2, 3, p, q, r, s, 0]);
-    flat_4(t, &sheet, 24, number, 3)
+    flat_4(t, sheet, 24, number, 3)
 }
 
-// A crossing under K = 1-2, 1-3, 3-4: of five points, 5 has no edge.
+// A 3-opt closing under K = 1-2, 1-3, 3-4: of five points, 5 has no edge.
 fn in_part(t: Tally, p: u16, q: u16, r: u16, s: u16, number: u64) -> Tally {
-    let sheet = put([0u16; 56], 0, [1, 1, 2, 0, 0, 3, 2, 0]);
+    let sheet = begin([1, 1, 2, 0, 0, 3, 2, 0]);
     let sheet = put(sheet, 1, [3, 1, 4, p, q, r, s, 0]);
-    flat_5(t, &sheet, 16, number, 2)
+    flat_5(t, sheet, 16, number, 2)
 }
 
-// A crossing under K = 1-2, 1-3, 3-4, 4-5, the path 2-1-3-4-5 of five points.
+// A 3-opt closing under K = 1-2, 1-3, 3-4, 4-5, the path 2-1-3-4-5 of five points.
 fn in_path(t: Tally, p: u16, q: u16, r: u16, s: u16, number: u64) -> Tally {
-    let sheet = put([0u16; 56], 0, [1, 1, 2, 0, 0, 3, 2, 0]);
+    let sheet = begin([1, 1, 2, 0, 0, 3, 2, 0]);
     let sheet = put(sheet, 1, [2, 1, 4, 0, 0, 4, 3, 0]);
     let sheet = put(sheet, 2, [3, 3, 5, p, q, r, s, 0]);
-    flat_5(t, &sheet, 24, number, 3)
+    flat_5(t, sheet, 24, number, 3)
 }
 
-// A crossing under K = 1-2, 1-3, 3-4, 2-5, 4-5, a cycle of all five points, for the pair a, b; the next index.
+// A 3-opt closing under K = 1-2, 1-3, 3-4, 2-5, 4-5, a cycle of all five points, for the pair a, b; the next index.
 fn in_tour(
     t: Tally,
     a: u16,
@@ -81,93 +78,84 @@ fn in_tour(
     next: u16,
     number: u64,
 ) -> Tally {
-    let sheet = put([0u16; 56], 0, [1, 1, 2, 0, 0, 3, 2, 0]);
+    let sheet = begin([1, 1, 2, 0, 0, 3, 2, 0]);
     let sheet = put(sheet, 1, [2, 1, 4, 0, 0, 5, 3, 0]);
     let sheet = put(sheet, 2, [3, a, b, p, q, r, s, next]);
-    flat_5(t, &sheet, 24, number, 3)
+    flat_5(t, sheet, 24, number, 3)
 }
 
 // Six splits at 3, and a last case a, b with u, split point c and first index d: the pair (1,4) stands again and again.
 fn seventh(t: Tally, a: u16, b: u16, u: u16, c: u16, d: u16, number: u64) -> Tally {
-    let sheet = put([0u16; 56], 0, [1, 1, 2, 0, 0, 3, 2, 0]);
+    let sheet = begin([1, 1, 2, 0, 0, 3, 2, 0]);
     let sheet = put(sheet, 1, [2, 1, 4, 0, 0, 3, 3, 0]);
     let sheet = put(sheet, 2, [2, 1, 4, 0, 0, 3, 4, 0]);
     let sheet = put(sheet, 3, [2, 1, 4, 0, 0, 3, 5, 0]);
     let sheet = put(sheet, 4, [2, 1, 4, 0, 0, 3, 6, 0]);
     let sheet = put(sheet, 5, [2, 1, 4, 0, 0, 3, 7, 0]);
     let sheet = put(sheet, 6, [2, a, b, u, 0, c, d, 0]);
-    square_made(t, &sheet, 56, number, 7, 0, &fixtures::FRESH_4)
+    refused(t, sheet, 56, number, 7)
 }
 
 // Two cases, each with a split at which nothing stands.
 fn two_cases(t: Tally) -> Tally {
-    let sheet = put([0u16; 56], 0, [1, 1, 3, 0, 0, 1, 2, 0]);
+    let sheet = begin([1, 1, 3, 0, 0, 1, 2, 0]);
     let sheet = put(sheet, 1, [2, 2, 3, 0, 0, 4, 0, 3]);
     let sheet = put(sheet, 2, [2, 3, 4, 0, 0, 2, 0, 0]);
-    square_made(t, &sheet, 24, 0, 0, 1, &[1, 0, 1, 1, 1, 1])
+    struck(t, sheet, 24, 0, 0)
 }
 
 // Six splits one inside another, and a second case of the first.
 fn six_splits(t: Tally) -> Tally {
-    let sheet = put([0u16; 56], 0, [1, 1, 3, 0, 0, 1, 2, 0]);
+    let sheet = begin([1, 1, 3, 0, 0, 1, 2, 0]);
     let sheet = put(sheet, 1, [2, 2, 3, 0, 0, 1, 3, 7]);
     let sheet = put(sheet, 2, [2, 2, 3, 0, 0, 1, 4, 0]);
     let sheet = put(sheet, 3, [2, 2, 3, 0, 0, 1, 5, 0]);
     let sheet = put(sheet, 4, [2, 2, 3, 0, 0, 1, 6, 0]);
     let sheet = put(sheet, 5, [2, 2, 3, 0, 0, 4, 0, 0]);
     let sheet = put(sheet, 6, [2, 3, 4, 0, 0, 2, 0, 0]);
-    square_made(t, &sheet, 56, 0, 0, 1, &[1, 0, 1, 1, 1, 1])
+    struck(t, sheet, 56, 0, 0)
 }
 
-// A sheet on five points of which a crossing saves.
-fn crossed(t: Tally, sheet: &[u16; 56]) -> Tally {
+// Two cases with a split, the second closed by 3-opt.
+fn a_three_opt(t: Tally) -> Tally {
+    let sheet = begin([1, 1, 2, 0, 0, 4, 2, 0]);
+    let sheet = put(sheet, 1, [2, 1, 5, 0, 0, 2, 0, 3]);
+    let sheet = put(sheet, 2, [2, 2, 5, 0, 0, 3, 4, 0]);
+    let sheet = put(sheet, 3, [3, 1, 5, 3, 5, 1, 4, 0]);
     text(b"mark, 5 crossed,");
-    let mut bytes = fixtures::FRESH_5;
-    let left = [0, 1, 1, 1, 1, 1, 1, 1, 1, 1];
-    mark_part(
+    five(
         t,
-        5,
-        &fixtures::CROSSED,
-        &mut bytes,
+        lengths_as_bytes(fixtures::THREE_OPT),
         sheet,
         32,
         0,
         0,
         1,
-        &left,
+        [0, 1, 1, 1, 1, 1, 1, 1, 1, 1],
     )
-}
-
-// Two cases with a split, the second closed by a crossing.
-fn a_crossing(t: Tally) -> Tally {
-    let sheet = put([0u16; 56], 0, [1, 1, 2, 0, 0, 4, 2, 0]);
-    let sheet = put(sheet, 1, [2, 1, 5, 0, 0, 2, 0, 3]);
-    let sheet = put(sheet, 2, [2, 2, 5, 0, 0, 3, 4, 0]);
-    let sheet = put(sheet, 3, [3, 1, 5, 3, 5, 1, 4, 0]);
-    crossed(t, &sheet)
 }
 
 fn accepted(t: Tally) -> Tally {
     subject(b"mark a sheet: accepted: cases with splits, six splits, a crossing");
     let t = two_cases(t);
     let t = six_splits(t);
-    a_crossing(t)
+    a_three_opt(t)
 }
 
 // A case (1,4) twice.
 fn pair_twice(t: Tally) -> Tally {
-    let sheet = put([0u16; 56], 0, [1, 1, 2, 0, 0, 3, 2, 0]);
+    let sheet = begin([1, 1, 2, 0, 0, 3, 2, 0]);
     let sheet = put(sheet, 1, [2, 1, 4, 0, 0, 2, 0, 3]);
     let sheet = put(sheet, 2, [2, 1, 4, 0, 0, 2, 0, 0]);
-    square_made(t, &sheet, 24, 14, 3, 0, &fixtures::FRESH_4)
+    refused(t, sheet, 24, 14, 3)
 }
 
 // A chain whose last record is 2, though 3 was entered; (3,4) is left.
 fn ends_above(t: Tally) -> Tally {
-    let sheet = put([0u16; 56], 0, [1, 1, 3, 0, 0, 1, 2, 0]);
+    let sheet = begin([1, 1, 3, 0, 0, 1, 2, 0]);
     let sheet = put(sheet, 1, [2, 2, 3, 0, 0, 1, 3, 0]);
     let sheet = put(sheet, 2, [2, 2, 3, 0, 0, 4, 0, 0]);
-    square_made(t, &sheet, 24, 14, 2, 0, &fixtures::FRESH_4)
+    refused(t, sheet, 24, 14, 2)
 }
 
 // 14: a wrong pair.
@@ -177,7 +165,8 @@ fn wrong_pair(t: Tally) -> Tally {
     );
     let t = under(t, [2, 2, 4, 0, 0, 1, 0, 0], 14);
     let t = under(t, [2, 4, 1, 0, 0, 2, 0, 0], 14);
-    let t = square(t, &[1, 1, 3, 0, 0, 2, 2, 0, 2, 1, 4, 0, 0, 2, 0, 0], 14, 2);
+    let sheet = put(begin([1, 1, 3, 0, 0, 2, 2, 0]), 1, [2, 1, 4, 0, 0, 2, 0, 0]);
+    let t = refused(t, sheet, 16, 14, 2);
     pair_twice(t)
 }
 
@@ -203,8 +192,8 @@ fn seventh_split(t: Tally) -> Tally {
     seventh(t, 1, 4, 0, 3, 0, 13)
 }
 
-// 15: each condition of a crossing, broken alone.
-fn crossing_conditions(t: Tally) -> Tally {
+// 15: each condition of a 3-opt closing, broken alone.
+fn three_opt_conditions(t: Tally) -> Tally {
     subject(b"mark a sheet: 15: pq not in K; r = s; r = p, r = q, s = p, s = q; rs in K");
     let t = in_cycle(t, 2, 3, 1, 4, 15);
     let t = in_cycle(t, 3, 4, 1, 1, 15);
@@ -223,7 +212,7 @@ fn centre_edges(t: Tally) -> Tally {
     in_part(t, 3, 4, 1, 5, 15)
 }
 
-// 16, and the order at a crossing.
+// 16, and the order at a 3-opt closing.
 fn no_saving(t: Tally) -> Tally {
     subject(b"mark a sheet: 16, after 11 and 14, before 8 and 9 of its next index");
     let t = in_tour(t, 2, 4, 1, 2, 3, 5, 0, 16);
@@ -233,7 +222,7 @@ fn no_saving(t: Tally) -> Tally {
     in_tour(t, 2, 4, 1, 2, 3, 5, 3, 16)
 }
 
-fn crossing_order(t: Tally) -> Tally {
+fn three_opt_order(t: Tally) -> Tally {
     subject(b"mark a sheet: 15 after 11 and 14, before 16, and before 8 and 9 of its next index");
     let t = in_tour(t, 2, 4, 1, 1, 3, 5, 0, 15);
     let t = in_tour(t, 2, 4, 1, 1, 3, 0, 0, 11);
@@ -259,9 +248,9 @@ pub fn run(t: Tally) -> Tally {
     let t = wrong_pair(t);
     let t = ends_early(t);
     let t = seventh_split(t);
-    let t = crossing_conditions(t);
+    let t = three_opt_conditions(t);
     let t = centre_edges(t);
     let t = no_saving(t);
-    let t = crossing_order(t);
+    let t = three_opt_order(t);
     case_order(t)
 }

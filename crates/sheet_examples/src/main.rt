@@ -1,4 +1,5 @@
-// *Mark a sheet*: 01's examples that are not starred, and further ones for every refusal, executed: a line for each, with what it should be.
+// *Mark a sheet*: 01's examples that are not starred, and further ones for every refusal, executed by its function for C: a line for each, with
+// what it should be.
 mod cases;
 mod fixtures;
 mod records;

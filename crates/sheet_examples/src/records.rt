@@ -2,10 +2,10 @@
 // On the square nothing stands for 1-3 at 2, (1,4) and (2,4) stand for 1-2 at 3, and nothing stands at 2 once (1,4) is added.
 use crate::sheet_checks::given;
 use crate::sheet_checks::one;
-use crate::sheet_checks::put;
-use crate::sheet_checks::square_made;
-use crate::sheet_checks::square_struck;
+use crate::sheet_checks::struck;
 use crate::sheet_checks::under;
+use answers::data::begin;
+use answers::data::put;
 use answers::tally::Tally;
 use answers::tally::subject;
 
@@ -19,8 +19,8 @@ fn split(t: Tally, a: u16, b: u16, c: u16, number: u64) -> Tally {
     under(t, [2, a, b, 0, 0, c, 0, 0], number)
 }
 
-// Under 1-2 split at 3, a first case with a crossing.
-fn crossing(t: Tally, a: u16, b: u16, p: u16, q: u16, r: u16, s: u16, number: u64) -> Tally {
+// Under 1-2 split at 3, a first case with a 3-opt closing.
+fn three_opt(t: Tally, a: u16, b: u16, p: u16, q: u16, r: u16, s: u16, number: u64) -> Tally {
     under(t, [3, a, b, p, q, r, s, 0], number)
 }
 
@@ -32,8 +32,8 @@ fn closed(t: Tally, d: u16, next: u16, number: u64) -> Tally {
 // 8: the next and first index of a line and of a case.
 fn above(t: Tally) -> Tally {
     subject(b"mark a sheet: 8 names the record that has the index");
-    let t = square_struck(t, &[1, 1, 3, 0, 0, 2, 0, 2], 8, 1);
-    let t = square_struck(t, &[1, 1, 3, 0, 0, 2, 0, 65535], 8, 1);
+    let t = struck(t, begin([1, 1, 3, 0, 0, 2, 0, 2]), 8, 8, 1);
+    let t = struck(t, begin([1, 1, 3, 0, 0, 2, 0, 65535]), 8, 8, 1);
     let t = one(t, [1, 1, 3, 0, 0, 2, 2, 0], 8);
     let t = closed(t, 3, 0, 8);
     closed(t, 0, 3, 8)
@@ -41,10 +41,10 @@ fn above(t: Tally) -> Tally {
 
 // A line that is accepted, whose next index is a record that its own chain has entered.
 fn next_inside(t: Tally) -> Tally {
-    let sheet = put([0u16; 56], 0, [1, 1, 3, 0, 0, 1, 2, 3]);
+    let sheet = begin([1, 1, 3, 0, 0, 1, 2, 3]);
     let sheet = put(sheet, 1, [2, 2, 3, 0, 0, 4, 0, 3]);
     let sheet = put(sheet, 2, [2, 3, 4, 0, 0, 2, 0, 0]);
-    square_made(t, &sheet, 24, 9, 1, 1, &[1, 0, 1, 1, 1, 1])
+    struck(t, sheet, 24, 9, 1)
 }
 
 // 9: the first index of a line; the first and the next index of a case; the next index of a line.
@@ -66,7 +66,8 @@ fn no_line(t: Tally) -> Tally {
     let t = one(t, [4, 1, 3, 0, 0, 2, 0, 0], 10);
     let t = one(t, [1, 1, 3, 1, 0, 2, 0, 0], 10);
     let t = one(t, [1, 1, 3, 0, 1, 2, 0, 0], 10);
-    square_struck(t, &[1, 1, 3, 0, 0, 2, 0, 2, 2, 2, 4, 0, 0, 1, 0, 0], 10, 2)
+    let sheet = put(begin([1, 1, 3, 0, 0, 2, 0, 2]), 1, [2, 2, 4, 0, 0, 1, 0, 0]);
+    struck(t, sheet, 16, 10, 2)
 }
 
 // 10 among cases.
@@ -103,38 +104,39 @@ fn split_points(t: Tally) -> Tally {
     split(t, 1, 1, 2, 11)
 }
 
-// 11 on a case with a crossing.
-fn crossing_points(t: Tally) -> Tally {
+// 11 on a case with a 3-opt closing.
+fn three_opt_points(t: Tally) -> Tally {
     subject(b"mark a sheet: 11 on a case with a crossing: a, b, u, v, c, d, and a = b");
-    let t = crossing(t, 0, 4, 1, 2, 3, 4, 11);
-    let t = crossing(t, 5, 4, 1, 2, 3, 4, 11);
-    let t = crossing(t, 1, 0, 1, 2, 3, 4, 11);
-    let t = crossing(t, 1, 5, 1, 2, 3, 4, 11);
-    let t = crossing(t, 1, 4, 0, 2, 3, 4, 11);
-    let t = crossing(t, 1, 4, 5, 2, 3, 4, 11);
-    crossing(t, 1, 1, 1, 2, 3, 4, 11)
+    let t = three_opt(t, 0, 4, 1, 2, 3, 4, 11);
+    let t = three_opt(t, 5, 4, 1, 2, 3, 4, 11);
+    let t = three_opt(t, 1, 0, 1, 2, 3, 4, 11);
+    let t = three_opt(t, 1, 5, 1, 2, 3, 4, 11);
+    let t = three_opt(t, 1, 4, 0, 2, 3, 4, 11);
+    let t = three_opt(t, 1, 4, 5, 2, 3, 4, 11);
+    three_opt(t, 1, 1, 1, 2, 3, 4, 11)
 }
 
-fn crossing_ends(t: Tally) -> Tally {
-    let t = crossing(t, 1, 4, 1, 0, 3, 4, 11);
-    let t = crossing(t, 1, 4, 1, 5, 3, 4, 11);
-    let t = crossing(t, 1, 4, 1, 2, 0, 4, 11);
-    let t = crossing(t, 1, 4, 1, 2, 5, 4, 11);
-    let t = crossing(t, 1, 4, 1, 2, 3, 0, 11);
-    crossing(t, 1, 4, 1, 2, 3, 5, 11)
+fn three_opt_ends(t: Tally) -> Tally {
+    let t = three_opt(t, 1, 4, 1, 0, 3, 4, 11);
+    let t = three_opt(t, 1, 4, 1, 5, 3, 4, 11);
+    let t = three_opt(t, 1, 4, 1, 2, 0, 4, 11);
+    let t = three_opt(t, 1, 4, 1, 2, 5, 4, 11);
+    let t = three_opt(t, 1, 4, 1, 2, 3, 0, 11);
+    three_opt(t, 1, 4, 1, 2, 3, 5, 11)
 }
 
 // A sheet of one record on the square with 1-2 lent struck.
 fn lent_struck(t: Tally, record: [u16; 8], number: u64) -> Tally {
-    given(t, 4, 6, 10, 6, 0, &record, number, 1)
+    given(t, 4, 6, 10, 6, 0, begin(record), 8, number, 1)
 }
 
 // 12: an edge that was lent struck, in either order, and one that the sheet struck.
-fn struck(t: Tally) -> Tally {
+fn struck_edge(t: Tally) -> Tally {
     subject(b"mark a sheet: 12");
     let t = lent_struck(t, [1, 1, 2, 0, 0, 1, 0, 0], 12);
     let t = lent_struck(t, [1, 2, 1, 0, 0, 1, 0, 0], 12);
-    square_struck(t, &[1, 1, 3, 0, 0, 2, 0, 2, 1, 3, 1, 0, 0, 4, 0, 0], 12, 2)
+    let sheet = put(begin([1, 1, 3, 0, 0, 2, 0, 2]), 1, [1, 3, 1, 0, 0, 4, 0, 0]);
+    struck(t, sheet, 16, 12, 2)
 }
 
 // The order at a line: 10, 11, 12, then its first index (8, 9), its cases (14), and its next index.
@@ -157,17 +159,8 @@ fn struck_order(t: Tally) -> Tally {
     let t = lent_struck(t, [1, 1, 2, 0, 0, 3, 2, 0], 12);
     let t = lent_struck(t, [1, 1, 2, 0, 0, 3, 1, 0], 12);
     let t = lent_struck(t, [1, 1, 2, 0, 0, 3, 0, 0], 12);
-    let t = given(
-        t,
-        4,
-        6,
-        10,
-        6,
-        0,
-        &[1, 1, 2, 0, 0, 3, 2, 0, 1, 1, 4, 0, 0, 2, 0, 0],
-        12,
-        1,
-    );
+    let sheet = put(begin([1, 1, 2, 0, 0, 3, 2, 0]), 1, [1, 1, 4, 0, 0, 2, 0, 0]);
+    let t = given(t, 4, 6, 10, 6, 0, sheet, 16, 12, 1);
     let t = one(t, [1, 1, 2, 0, 0, 3, 0, 2], 14);
     one(t, [1, 1, 2, 0, 0, 3, 0, 1], 14)
 }
@@ -192,9 +185,9 @@ pub fn run(t: Tally) -> Tally {
     let t = no_case(t);
     let t = line_points(t);
     let t = split_points(t);
-    let t = crossing_points(t);
-    let t = crossing_ends(t);
-    let t = struck(t);
+    let t = three_opt_points(t);
+    let t = three_opt_ends(t);
+    let t = struck_edge(t);
     let t = line_order(t);
     let t = struck_order(t);
     index_order(t)

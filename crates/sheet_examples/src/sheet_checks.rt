@@ -1,116 +1,107 @@
 // "Mark a sheet": how an example is run, 01's examples, and the tests 1, 2, 5, 6 and 7 of the call.
 use crate::fixtures;
+use answers::data;
+use answers::data::begin;
+use answers::data::put;
+use answers::data::some_bytes;
 use answers::tally::Tally;
 use answers::tally::figure;
 use answers::tally::given_text;
 use answers::tally::marks;
 use answers::tally::numbers;
-use answers::tally::some_lengths;
-use answers::tally::some_marks;
-use answers::tally::some_numbers;
 use answers::tally::subject;
 use answers::tally::text;
 use check::same;
-use marking::mark::mark_sheet;
-use sheets::verdict::Verdict;
-
-// The refusal number, or 0.
-fn number_of(verdict: Verdict) -> u64 {
-    match verdict {
-        Verdict::Accepted { lines: _ } => 0,
-        Verdict::Refused {
-            refusal,
-            record: _,
-            lines: _,
-        } => refusal as u64,
-    }
-}
-
-// The record of a refusal, or 0.
-fn record_of(verdict: Verdict) -> u64 {
-    match verdict {
-        Verdict::Accepted { lines: _ } => 0,
-        Verdict::Refused {
-            refusal: _,
-            record,
-            lines: _,
-        } => record as u64,
-    }
-}
-
-// The lines accepted.
-fn lines_of(verdict: Verdict) -> u64 {
-    match verdict {
-        Verdict::Accepted { lines } => lines as u64,
-        Verdict::Refused {
-            refusal: _,
-            record: _,
-            lines,
-        } => lines as u64,
-    }
-}
+use revosti::mark::revosti_mark_sheet;
 
 // Writes a sheet: its numbers, or how many there are.
-fn sheet_text(sheet: &[u16]) {
-    if 64 < sheet.len() {
-        figure(b" ", sheet.len() as u64);
+fn sheet_text(sheet: &[u8]) {
+    if 128 < sheet.len() {
+        figure(b" ", sheet.len() as u64 / 2);
         text(b" numbers");
         return;
     }
     numbers(sheet);
 }
 
-// Writes an answer with the marks that are left.
-fn answer(number: u64, record: u64, lines: u64, left: &[u8]) {
+// Writes an answer with the first so many marks that are left.
+fn answer(number: u64, record: u64, lines: u64, left: [u8; 10], size: usize) {
     figure(b" ", number);
     figure(b" record ", record);
     figure(b" lines ", lines);
     text(b" marks ");
-    marks(left);
+    let m = some_bytes(size, &left);
+    marks(&left[..m]);
 }
 
-// Marks a sheet, and holds the answer and the marks to what they should be.
-pub fn mark(
+// Holds an answer and the marks that are left, of which so many were lent, to what they should be.
+fn hold(
+    t: Tally,
+    got: u64,
+    found: [u8; 10],
+    size: usize,
+    number: u64,
+    record: u64,
+    lines: u64,
+    left: [u8; 10],
+) -> Tally {
+    let refusal = got % 256;
+    let at = got / 256 % 65_536;
+    let count = got / 16_777_216;
+    text(b":");
+    answer(refusal, at, count, found, size);
+    text(b", should be");
+    answer(number, record, lines, left, size);
+    let same_marks = same(&found, &left);
+    t.judged(refusal == number && at == record && count == lines && same_marks)
+}
+
+// Marks a sheet with the first so many of the lengths and marks.
+fn mark(
     t: Tally,
     n: u32,
-    table: &[u32],
-    bytes: &mut [u8],
-    sheet: &[u16],
+    table: [u8; 40],
+    entries: u32,
+    fresh: [u8; 10],
+    bytes: usize,
+    sheet: &[u8],
     number: u64,
     record: u64,
     lines: u64,
-    left: &[u8],
+    left: [u8; 10],
 ) -> Tally {
-    let verdict = mark_sheet(n, table, bytes, sheet);
-    let got = number_of(verdict);
-    let at = record_of(verdict);
-    let count = lines_of(verdict);
     sheet_text(sheet);
-    text(b":");
-    answer(got, at, count, bytes);
-    text(b", should be");
-    answer(number, record, lines, left);
-    let same_marks = same(bytes, left);
-    t.judged(got == number && at == record && count == lines && same_marks)
+    let mut found = fresh;
+    let k = some_bytes(4 * entries as usize, &table);
+    let m = some_bytes(bytes, &found);
+    let got = revosti_mark_sheet(n, &table[..k], &mut found[..m], sheet);
+    hold(t, got, found, bytes, number, record, lines, left)
 }
 
-// A sheet on the square with fresh marks: the answer, and the marks that should be left.
-pub fn square_leaves(
+// The same with the first so many numbers of a sheet that was made.
+fn mark_part(
     t: Tally,
-    sheet: &[u16],
+    n: u32,
+    table: [u8; 40],
+    entries: u32,
+    fresh: [u8; 10],
+    bytes: usize,
+    sheet: [u8; 112],
+    size: u32,
     number: u64,
     record: u64,
     lines: u64,
-    left: &[u8; 6],
+    left: [u8; 10],
 ) -> Tally {
-    text(b"mark, square,");
-    let mut bytes = fixtures::FRESH_4;
+    let p = some_bytes(2 * size as usize, &sheet);
     mark(
         t,
-        4,
-        &fixtures::SQUARE,
-        &mut bytes,
-        sheet,
+        n,
+        table,
+        entries,
+        fresh,
+        bytes,
+        &sheet[..p],
         number,
         record,
         lines,
@@ -118,80 +109,24 @@ pub fn square_leaves(
     )
 }
 
-// A sheet on the square with fresh marks that is refused at its first line: the marks stay fresh.
-pub fn square(t: Tally, sheet: &[u16], number: u64, record: u64) -> Tally {
-    square_leaves(t, sheet, number, record, 0, &fixtures::FRESH_4)
-}
-
-// A sheet on the square that strikes 1-3 and is then refused: that strike stays.
-pub fn square_struck(t: Tally, sheet: &[u16], number: u64, record: u64) -> Tally {
-    square_leaves(t, sheet, number, record, 1, &[1, 0, 1, 1, 1, 1])
-}
-
-// A sheet of one record on the square with fresh marks, which is refused there.
-pub fn one(t: Tally, record: [u16; 8], number: u64) -> Tally {
-    square(t, &record, number, 1)
-}
-
-// A sheet that is being made, with its record i, counted from 0.
-pub fn put(sheet: [u16; 56], i: usize, record: [u16; 8]) -> [u16; 56] {
-    if 6 < i {
-        return sheet;
-    }
-    let at = 8 * i;
-    let mut made = sheet;
-    made[at] = record[0];
-    made[at + 1] = record[1];
-    made[at + 2] = record[2];
-    made[at + 3] = record[3];
-    made[at + 4] = record[4];
-    made[at + 5] = record[5];
-    made[at + 6] = record[6];
-    made[at + 7] = record[7];
-    made
-}
-
-// A line that strikes 1-2 by a split at 3, and its first case, which is refused, on the square with fresh marks.
-pub fn under(t: Tally, record: [u16; 8], number: u64) -> Tally {
-    let sheet = put([0u16; 56], 0, [1, 1, 2, 0, 0, 3, 2, 0]);
-    let sheet = put(sheet, 1, record);
-    square_made(t, &sheet, 16, number, 2, 0, &fixtures::FRESH_4)
-}
-
-// Marks the first so many numbers of a sheet.
-pub fn mark_part(
+// The first so many numbers of a sheet on four points with these lengths and fresh marks.
+pub fn four(
     t: Tally,
-    n: u32,
-    table: &[u32],
-    bytes: &mut [u8],
-    sheet: &[u16],
-    size: usize,
+    table: [u8; 40],
+    sheet: [u8; 112],
+    size: u32,
     number: u64,
     record: u64,
     lines: u64,
-    left: &[u8],
+    left: [u8; 10],
 ) -> Tally {
-    let k = some_numbers(size, sheet);
-    mark(t, n, table, bytes, &sheet[..k], number, record, lines, left)
-}
-
-// The first so many numbers of a sheet that was made, on the square with fresh marks.
-pub fn square_made(
-    t: Tally,
-    sheet: &[u16; 56],
-    size: usize,
-    number: u64,
-    record: u64,
-    lines: u64,
-    left: &[u8; 6],
-) -> Tally {
-    text(b"mark, square,");
-    let mut bytes = fixtures::FRESH_4;
     mark_part(
         t,
         4,
-        &fixtures::SQUARE,
-        &mut bytes,
+        table,
+        6,
+        fixtures::FRESH,
+        6,
         sheet,
         size,
         number,
@@ -201,34 +136,121 @@ pub fn square_made(
     )
 }
 
-// The square with n stated, the first so many entries of its table and so many marks, the first of them changed. The marks stay.
-pub fn given(
+// The same on five points.
+pub fn five(
     t: Tally,
-    n: u32,
-    entries: usize,
-    first: u32,
-    bytes: usize,
-    mark_1: u8,
-    sheet: &[u16],
+    table: [u8; 40],
+    sheet: [u8; 112],
+    size: u32,
     number: u64,
     record: u64,
+    lines: u64,
+    left: [u8; 10],
 ) -> Tally {
-    given_text(b"mark,", n, entries, first, bytes, mark_1);
-    let table = [first, 14, 10, 10, 14, 10, 10];
-    let mut fresh = [mark_1, 1, 1, 1, 1, 1, 1];
-    let left = [mark_1, 1, 1, 1, 1, 1, 1];
-    let k = some_lengths(entries, &table);
-    let m = some_marks(bytes, &left);
+    mark_part(
+        t,
+        5,
+        table,
+        10,
+        fixtures::FRESH,
+        10,
+        sheet,
+        size,
+        number,
+        record,
+        lines,
+        left,
+    )
+}
+
+// A sheet on the square that is refused at its first line: the marks stay fresh.
+pub fn refused(t: Tally, sheet: [u8; 112], size: u32, number: u64, record: u64) -> Tally {
+    text(b"mark, square,");
+    four(
+        t,
+        data::square(10),
+        sheet,
+        size,
+        number,
+        record,
+        0,
+        fixtures::FRESH,
+    )
+}
+
+// A sheet on the square that strikes 1-3, and may then be refused: that strike stays.
+pub fn struck(t: Tally, sheet: [u8; 112], size: u32, number: u64, record: u64) -> Tally {
+    text(b"mark, square,");
+    four(
+        t,
+        data::square(10),
+        sheet,
+        size,
+        number,
+        record,
+        1,
+        fixtures::STRUCK,
+    )
+}
+
+// A sheet of no more than zeros on the square, which is refused.
+fn zeros(t: Tally, sheet: &[u8], number: u64, record: u64) -> Tally {
+    text(b"mark, square,");
     mark(
         t,
-        n,
-        &table[..k],
-        &mut fresh[..m],
+        4,
+        data::square(10),
+        6,
+        fixtures::FRESH,
+        6,
         sheet,
         number,
         record,
         0,
-        &left[..m],
+        fixtures::FRESH,
+    )
+}
+
+// A sheet of one record on the square with fresh marks, which is refused there.
+pub fn one(t: Tally, record: [u16; 8], number: u64) -> Tally {
+    refused(t, begin(record), 8, number, 1)
+}
+
+// A line that strikes 1-2 by a split at 3, and its first case, which is refused, on the square with fresh marks.
+pub fn under(t: Tally, record: [u16; 8], number: u64) -> Tally {
+    let sheet = put(begin([1, 1, 2, 0, 0, 3, 2, 0]), 1, record);
+    refused(t, sheet, 16, number, 2)
+}
+
+// The square with n stated, the first so many entries of its table and so many marks, the first of each changed, and the first so many numbers
+// of a sheet. The marks stay.
+pub fn given(
+    t: Tally,
+    n: u32,
+    entries: u32,
+    first: u32,
+    bytes: usize,
+    mark_1: u8,
+    sheet: [u8; 112],
+    size: u32,
+    number: u64,
+    record: u64,
+) -> Tally {
+    given_text(b"mark,", n, entries, first, bytes, mark_1);
+    let fresh = [mark_1, 1, 1, 1, 1, 1, 1, 1, 1, 1];
+    mark_part(
+        t,
+        n,
+        data::square(first),
+        entries,
+        fresh,
+        bytes,
+        sheet,
+        size,
+        number,
+        record,
+        0,
+        fresh,
     )
 }
 
@@ -236,7 +258,7 @@ pub fn given(
 fn good(
     t: Tally,
     n: u32,
-    entries: usize,
+    entries: u32,
     first: u32,
     bytes: usize,
     mark_1: u8,
@@ -249,7 +271,8 @@ fn good(
         first,
         bytes,
         mark_1,
-        &fixtures::GOOD,
+        begin(fixtures::GOOD),
+        8,
         number,
         0,
     )
@@ -259,7 +282,7 @@ fn good(
 fn broken(
     t: Tally,
     n: u32,
-    entries: usize,
+    entries: u32,
     first: u32,
     bytes: usize,
     mark_1: u8,
@@ -272,7 +295,8 @@ fn broken(
         first,
         bytes,
         mark_1,
-        &[1, 1, 3, 0, 0, 2, 0],
+        begin(fixtures::GOOD),
+        7,
         number,
         0,
     )
@@ -282,7 +306,7 @@ fn broken(
 fn kind_0(
     t: Tally,
     n: u32,
-    entries: usize,
+    entries: u32,
     first: u32,
     bytes: usize,
     mark_1: u8,
@@ -295,7 +319,8 @@ fn kind_0(
         first,
         bytes,
         mark_1,
-        &[0, 1, 3, 0, 0, 2, 0, 0],
+        begin(fixtures::KIND_0),
+        8,
         number,
         0,
     )
@@ -305,16 +330,20 @@ fn kind_0(
 fn examples_of_01(t: Tally) -> Tally {
     subject(b"mark a sheet: 01's examples");
     let t = one(t, [1, 1, 2, 0, 0, 3, 0, 0], 14);
-    let t = square_struck(t, &[1, 1, 3, 0, 0, 2, 0, 1], 9, 1);
+    let t = struck(t, begin([1, 1, 3, 0, 0, 2, 0, 1]), 8, 9, 1);
     let t = good(t, 3, 3, 10, 3, 1, 1);
     let t = good(t, 181, 6, 10, 6, 1, 1);
-    square_leaves(
+    let two = put(begin([1, 1, 3, 0, 0, 2, 0, 2]), 1, [1, 2, 4, 0, 0, 1, 0, 0]);
+    text(b"mark, square,");
+    four(
         t,
-        &[1, 1, 3, 0, 0, 2, 0, 2, 1, 2, 4, 0, 0, 1, 0, 0],
+        data::square(10),
+        two,
+        16,
         0,
         0,
         2,
-        &[1, 0, 1, 1, 0, 1],
+        [1, 0, 1, 1, 0, 1, 1, 1, 1, 1],
     )
 }
 
@@ -328,18 +357,19 @@ fn sizes(t: Tally) -> Tally {
     let t = good(t, 4, 6, 10, 7, 1, 6);
     let t = good(t, 4, 6, 10, 6, 2, 6);
     // 2,000,000 is a length: now (3,4) stands at 2.
-    given(t, 4, 6, 2_000_000, 6, 1, &fixtures::GOOD, 14, 1)
+    given(t, 4, 6, 2_000_000, 6, 1, begin(fixtures::GOOD), 8, 14, 1)
 }
 
 // 7: no record, a broken one, and one too many. 4,000 records are read.
 fn sheet_sizes(t: Tally) -> Tally {
     subject(b"mark a sheet: 7");
-    let long = [0u16; 32008];
-    let t = square(t, &long[..0], 7, 0);
-    let t = square(t, &[1, 1, 3, 0, 0, 2, 0], 7, 0);
-    let t = square(t, &[1, 1, 3, 0, 0, 2, 0, 0, 1], 7, 0);
-    let t = square(t, &long, 7, 0);
-    square(t, &long[..32000], 10, 1)
+    let nine = put(begin(fixtures::GOOD), 1, [1, 0, 0, 0, 0, 0, 0, 0]);
+    let t = refused(t, nine, 0, 7, 0);
+    let t = refused(t, nine, 7, 7, 0);
+    let t = refused(t, nine, 9, 7, 0);
+    let long = [0u8; 64016];
+    let t = zeros(t, &long, 7, 0);
+    zeros(t, &long[..64000], 10, 1)
 }
 
 // 1 comes before 2, 5, 6, 7 and 10.
@@ -371,7 +401,8 @@ fn entries_first(t: Tally) -> Tally {
     let t = broken(t, 4, 6, 10, 5, 1, 6);
     let t = broken(t, 4, 6, 10, 6, 2, 6);
     let t = kind_0(t, 4, 6, 10, 6, 2, 6);
-    square(t, &[0, 1, 3, 0, 0, 2, 0, 0, 1], 7, 0)
+    let nine = put(begin(fixtures::KIND_0), 1, [1, 0, 0, 0, 0, 0, 0, 0]);
+    refused(t, nine, 9, 7, 0)
 }
 
 pub fn run(t: Tally) -> Tally {

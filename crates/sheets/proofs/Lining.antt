@@ -9,8 +9,8 @@ use native.Mathlib.Omega.{arith}
 use lib.ListN.{length}
 use Rattle.lengths.specs.Edge.{Edge, edge}
 use Rattle.marks.specs.Mark.{openIn}
-use Rattle.marks.specs.Mark as mark
-use Rattle.sets.specs.Stored.{edgeList, Single}
+use Rattle.marks.specs.asks.Mark.{MarkAsked}
+use Rattle.sets.specs.asks.Stored.{edgeList, Single}
 use Rattle.sets.specs.declared.edge_set.EdgeSet.{EdgeSet}
 use Rattle.argument.specs.Argument.{splitLimit}
 use Rattle.argument.specs.Verdict.{Verdict, accepted, refused, andThen}
@@ -24,12 +24,13 @@ use Rattle.argument.proofs.Verdicts.{pass-guard, fail-guard}
 use Rattle.argument.proofs.Tests.{fits-means}
 use Rattle.argument.proofs.Equations.{close-splits, judged}
 use Rattle.argument.proofs.Sheet.{turn-over, turn-8, turn-9, turn-stops, turn-strikes, turn-rises, lines-over, lines-stop, lines-go-on}
-use Rattle.sheets.specs.Lines.{LineAsked, TurnedAs, judgedOf, placeOf, turnedOf, marksAfter}
-use Rattle.sheets.specs.Results.{resultOf}
+use Rattle.sheets.specs.asks.Line.{LineAsked, TurnedAs, judgedOf, placeOf, turnedOf, marksAfter}
+use Rattle.sheets.specs.Verdict.{resultOf}
 use Rattle.sheets.specs.Rules.{rulesOf, markingOf}
 use Rattle.marks.specs.Mark.{strikeIn}
-use Rattle.sheets.specs.Sheets.{recordOf, mostRecords}
-use Rattle.sheets.specs.Walks.{walkedOf, Tried, ChainAsked}
+use Rattle.sheets.specs.Sheet.{mostRecords}
+use Rattle.sheets.specs.asks.Sheet.{recordOf}
+use Rattle.sheets.specs.asks.Walk.{walkedOf, Tried, ChainAsked}
 use Rattle.sheets.specs.declared.line.Judged.{Judged}
 use Rattle.sheets.specs.declared.line.Judged.the-variants as judging
 use Rattle.sheets.specs.declared.line.Turned.{Turned}
@@ -70,7 +71,7 @@ module _ (R : Rules) (open? : ℕ → ℕ → Bool) (s : List ℕ) (i a b c firs
       line-stops g = sym (line-walks g)
 
 module _ {n : ℕ} {table rows marks s : List ℕ} {count i : ℕ} (asked : LineAsked n table rows marks s count i) (a b c first : ℕ) (f : fits n a b (splits c first) ≡ true) where
-  pub line-marked : mark.Marked n marks a b
+  pub line-marked : MarkAsked n marks a b
   line-marked =
       let t = fits-means n a b (splits c first) f in
       record { is-edge = record { first = t .point-a; second = t .point-b; apart = t .apart }; whole = asked .tried .admitted .marked }
@@ -132,7 +133,7 @@ module _ (n : ℕ) (table marks s : List ℕ) (last index high : ℕ) where
         (λ lines. refl)
 
 -- an accepted line strikes an edge
-pub mark-marked : {n : ℕ} {table rows marks s : List ℕ} {count : ℕ} → Tried n table rows marks s count → (index : ℕ) {v : Judged} {a b next reached : ℕ} → judgedOf v ≡ judge (rulesOf n table marks) (openIn n marks) s index → v ≡ judging.Strikes a b next reached → mark.Marked n marks a b
+pub mark-marked : {n : ℕ} {table rows marks s : List ℕ} {count : ℕ} → Tried n table rows marks s count → (index : ℕ) {v : Judged} {a b next reached : ℕ} → judgedOf v ≡ judge (rulesOf n table marks) (openIn n marks) s index → v ≡ judging.Strikes a b next reached → MarkAsked n marks a b
 mark-marked {n} {table} {rows} {marks} {s} {count} t index {v} {a} {b} {next} {reached} z g =
     let l = judged (rulesOf n table marks) (openIn n marks) s index a b next reached (sym z ∙ ap judgedOf g) .at-line in
     record { is-edge = record { first = l .point-a; second = l .point-b; apart = l .apart }; whole = t .admitted .marked }

@@ -8,7 +8,7 @@ use native.Mathlib.Omega.{arith}
 use lib.Dec.{leb, eqb}
 use borrow.Author.Tests.{lt-leb, le-leb, eq-eqb, ne-eqb}
 use Rattle.lengths.specs.Edge.{Edge, edge}
-use Rattle.search.specs.NextPair.{firstOf}
+use Rattle.search.specs.asks.Pairs.{firstOf}
 use Rattle.search.specs.declared.pairs.NextPair.{NextPair}
 use Rattle.search.specs.declared.pairs.NextPair.the-variants.{Pair, End}
 use Rattle.argument.specs.Verdict.{Verdict, accepted, refused, guard}
@@ -19,10 +19,10 @@ use Rattle.argument.specs.Layout.{Enters}
 use Rattle.argument.proofs.Verdicts.{pass-guard, fail-guard}
 use Rattle.argument.proofs.Tests.{both}
 use Rattle.argument.proofs.Steps.{look-entered}
-use Rattle.sheets.specs.Sheets.{howOf, recordOf}
-use Rattle.sheets.specs.Walks.{WholeRecords, pointsOnly, pairsOf, spotOf}
+use Rattle.sheets.specs.asks.Sheet.{howOf, recordOf}
+use Rattle.sheets.specs.asks.Walk.{WholeRecords, pointsOnly, pairsOf, spotOf}
 use Rattle.sheets.specs.declared.sheet.Closing.{Closing}
-use Rattle.sheets.specs.declared.sheet.Closing.the-variants.{Split, Crossing}
+use Rattle.sheets.specs.declared.sheet.Closing.the-variants.{Split, ThreeOpt}
 use Rattle.sheets.specs.declared.sheet.Case.{Case}
 use Rattle.sheets.specs.declared.sheet.Line.{Line}
 use Rattle.sheets.specs.declared.sheet.Record as declared
@@ -50,22 +50,22 @@ pub split-fits : (n : ℕ) {closing : Closing} {c first : ℕ} → closing ≡ S
 unfolding howFits
 split-fits n e = rw e
 
-module _ (n : ℕ) {closing : Closing} {p q r s : ℕ} (e : closing ≡ Crossing p q r s) where
-  crossing-is : howFits n (howOf closing) ≡ (isPoint n p && (isPoint n q && (isPoint n r && isPoint n s)))
+module _ (n : ℕ) {closing : Closing} {p q r s : ℕ} (e : closing ≡ ThreeOpt p q r s) where
+  three-opt-is : howFits n (howOf closing) ≡ (isPoint n p && (isPoint n q && (isPoint n r && isPoint n s)))
   unfolding howFits
-  crossing-is = rw e
+  three-opt-is = rw e
 
-  pub crossing-p : isPoint n p ≡ false → false ≡ howFits n (howOf closing)
-  crossing-p h = and-stop _ h ∙ sym crossing-is
+  pub three-opt-p : isPoint n p ≡ false → false ≡ howFits n (howOf closing)
+  three-opt-p h = and-stop _ h ∙ sym three-opt-is
 
-  pub crossing-q : isPoint n p ≡ true → isPoint n q ≡ false → false ≡ howFits n (howOf closing)
-  crossing-q hp h = and-go hp (and-stop _ h) ∙ sym crossing-is
+  pub three-opt-q : isPoint n p ≡ true → isPoint n q ≡ false → false ≡ howFits n (howOf closing)
+  three-opt-q hp h = and-go hp (and-stop _ h) ∙ sym three-opt-is
 
-  pub crossing-r : isPoint n p ≡ true → isPoint n q ≡ true → isPoint n r ≡ false → false ≡ howFits n (howOf closing)
-  crossing-r hp hq h = and-go hp (and-go hq (and-stop _ h)) ∙ sym crossing-is
+  pub three-opt-r : isPoint n p ≡ true → isPoint n q ≡ true → isPoint n r ≡ false → false ≡ howFits n (howOf closing)
+  three-opt-r hp hq h = and-go hp (and-go hq (and-stop _ h)) ∙ sym three-opt-is
 
-  pub crossing-s : isPoint n p ≡ true → isPoint n q ≡ true → isPoint n r ≡ true → isPoint n s ≡ howFits n (howOf closing)
-  crossing-s hp hq hr = and-go hp (and-go hq (and-go hr refl)) ∙ sym crossing-is
+  pub three-opt-s : isPoint n p ≡ true → isPoint n q ≡ true → isPoint n r ≡ true → isPoint n s ≡ howFits n (howOf closing)
+  three-opt-s hp hq hr = and-go hp (and-go hq (and-go hr refl)) ∙ sym three-opt-is
 
 module _ (n a b : ℕ) (how : How) where
   pub fits-not-a : isPoint n a ≡ false → false ≡ fits n a b how

@@ -10,8 +10,9 @@ use lib.Dec.{leb, eqb}
 use lib.ListN.{length, getD}
 use borrow.Author.Tests.{eq-eqb, ne-eqb, le-leb, lt-leb, leb-true, eqb-true, eqb-false, not-true}
 use Rattle.lists.proofs.Bools.{and-left, and-right}
-use Rattle.argument.specs.Record.{Record, line, case, other, splits, crosses, records, field, bare, content, recordAt}
-use Rattle.sheets.specs.Sheets.{wholeSheet, sheetAdmission, Readable, mostNumbers, mostRecords, recordSize}
+use Rattle.argument.specs.Record.{Record, line, case, other, splits, threeOpts, records, field, bare, content, recordAt}
+use Rattle.sheets.specs.Sheet.{wholeSheet, Readable, mostNumbers, mostRecords, recordSize}
+use Rattle.sheets.specs.asks.Sheet.{sheetAdmission}
 use Rattle.sheets.specs.declared.sheet.Sheet.{Sheet}
 use Rattle.sheets.specs.declared.sheet.SheetAdmission.the-variants.{Admitted, Refused}
 
@@ -128,7 +129,7 @@ module _ (kind a b u v c d next : ℕ) (h : kind ≡ 3 → ⊥) where
             | true ↦ bare u v (line a b c d next)
             | false ↦ elim y [
               | true ↦ bare u v (case a b (splits c d) next)
-              | false ↦ elim (eqb kind 3) [ true ↦ case a b (crosses u v c d) next | false ↦ other ]
+              | false ↦ elim (eqb kind 3) [ true ↦ case a b (threeOpts u v c d) next | false ↦ other ]
             ]
           ])
           ≡ other
@@ -136,42 +137,36 @@ module _ (kind a b u v c d next : ℕ) (h : kind ≡ 3 → ⊥) where
       go false true = bare-not u v _ g
       go false false = rw (ne-eqb kind 3 h)
 
-  content-other : (kind ≡ 1 → ⊥) → (kind ≡ 2 → ⊥) → content kind a b u v c d next ≡ other
+-- what the numbers mean, by the kind and by u and v
+module _ (kind a b u v c d next : ℕ) where
+  pub exchange-content : kind ≡ 3 → case a b (threeOpts u v c d) next ≡ content kind a b u v c d next
   unfolding content
-  content-other g k = rw (content, ne-eqb kind 1 g, ne-eqb kind 2 k, ne-eqb kind 3 h)
+  exchange-content h = sym (ap (λ (k : ℕ). content k a b u v c d next) h)
 
--- `recordAt` by the kind and by u and v
-module _ (s : List ℕ) (i : ℕ) where
-  kind-at : field s i 0 ≡ getD s ((i - 1) * recordSize) 0
-  unfolding field
-  kind-at = rw add-zero
+  pub other-u : (kind ≡ 3 → ⊥) → (u ≡ 0 → ⊥) → other ≡ content kind a b u v c d next
+  other-u h g = sym (content-not kind a b u v c d next h (rw (ne-eqb u 0 g)))
 
-  content-at : {k : ℕ} → getD s ((i - 1) * recordSize) 0 ≡ k
-      → recordAt s i ≡ content k (field s i 1) (field s i 2) (field s i 3) (field s i 4) (field s i 5) (field s i 6) (field s i 7)
-  unfolding recordAt
-  content-at h = rw (recordAt, kind-at, h)
+  pub other-v : (kind ≡ 3 → ⊥) → u ≡ 0 → (v ≡ 0 → ⊥) → other ≡ content kind a b u v c d next
+  other-v h e g = sym (content-not kind a b u v c d next h (rw (e, ne-eqb v 0 g)))
 
-  pub crossing-record : getD s ((i - 1) * recordSize) 0 ≡ 3
-      → case (field s i 1) (field s i 2) (crosses (field s i 3) (field s i 4) (field s i 5) (field s i 6)) (field s i 7) ≡ recordAt s i
+  module _ (e : u ≡ 0) (f : v ≡ 0) where
+    pub line-content : kind ≡ 1 → line a b c d next ≡ content kind a b u v c d next
+    unfolding content
+    line-content h = sym (ap (λ (k : ℕ). content k a b u v c d next) h ∙ bare-is u v _ e f)
+
+    pub split-content : kind ≡ 2 → case a b (splits c d) next ≡ content kind a b u v c d next
+    unfolding content
+    split-content h = sym (ap (λ (k : ℕ). content k a b u v c d next) h ∙ bare-is u v _ e f)
+
+  pub other-kind : (kind ≡ 1 → ⊥) → (kind ≡ 2 → ⊥) → (kind ≡ 3 → ⊥) → other ≡ content kind a b u v c d next
   unfolding content
-  crossing-record h = sym (content-at h)
+  other-kind g k h = rw (content, ne-eqb kind 1 g, ne-eqb kind 2 k, ne-eqb kind 3 h)
 
-  pub other-u : (getD s ((i - 1) * recordSize) 0 ≡ 3 → ⊥) → (field s i 3 ≡ 0 → ⊥) → other ≡ recordAt s i
-  other-u h u = sym (content-at refl ∙ content-not _ _ _ _ _ _ _ _ h (rw (ne-eqb (field s i 3) 0 u)))
-
-  pub other-v : (getD s ((i - 1) * recordSize) 0 ≡ 3 → ⊥) → field s i 3 ≡ 0 → (field s i 4 ≡ 0 → ⊥) → other ≡ recordAt s i
-  other-v h u v = sym (content-at refl ∙ content-not _ _ _ _ _ _ _ _ h (rw (u, ne-eqb (field s i 4) 0 v)))
-
-  module _ (u : field s i 3 ≡ 0) (v : field s i 4 ≡ 0) where
-    pub line-record : getD s ((i - 1) * recordSize) 0 ≡ 1 → line (field s i 1) (field s i 2) (field s i 5) (field s i 6) (field s i 7) ≡ recordAt s i
-    unfolding content
-    line-record h = sym (content-at h ∙ bare-is _ _ _ u v)
-
-    pub split-record : getD s ((i - 1) * recordSize) 0 ≡ 2
-        → case (field s i 1) (field s i 2) (splits (field s i 5) (field s i 6)) (field s i 7) ≡ recordAt s i
-    unfolding content
-    split-record h = sym (content-at h ∙ bare-is _ _ _ u v)
-
-  pub other-kind : (getD s ((i - 1) * recordSize) 0 ≡ 1 → ⊥) → (getD s ((i - 1) * recordSize) 0 ≡ 2 → ⊥) → (getD s ((i - 1) * recordSize) 0 ≡ 3 → ⊥)
-      → other ≡ recordAt s i
-  other-kind h g k = sym (content-at refl ∙ content-other _ _ _ _ _ _ _ _ k h g)
+-- the numbers read are the record
+pub record-read : (s : List ℕ) (i : ℕ) {kind a b u v c d next : ℕ}
+    → kind ≡ getD s ((i - 1) * recordSize) 0 → a ≡ getD s ((i - 1) * recordSize + 1) 0 → b ≡ getD s ((i - 1) * recordSize + 2) 0
+    → u ≡ getD s ((i - 1) * recordSize + 3) 0 → v ≡ getD s ((i - 1) * recordSize + 4) 0 → c ≡ getD s ((i - 1) * recordSize + 5) 0
+    → d ≡ getD s ((i - 1) * recordSize + 6) 0 → next ≡ getD s ((i - 1) * recordSize + 7) 0
+    → content kind a b u v c d next ≡ recordAt s i
+unfolding recordAt field
+record-read s i e0 e1 e2 e3 e4 e5 e6 e7 = rw (e0, e1, e2, e3, e4, e5, e6, e7, recordAt, add-zero)

@@ -10,34 +10,35 @@ use Rattle.lengths.specs.Edge.{Edge, edge}
 use Rattle.lengths.specs.Table.{lengthOf}
 use Rattle.marks.specs.Mark.{openIn}
 use Rattle.sets.specs.EdgeSet.{withPair}
-use Rattle.rules.specs.Pairs.{feasibleAfter}
-use Rattle.sets.specs.Near.{neighbours}
-use Rattle.search.specs.Nearby.{NearbyOf}
-use Rattle.search.specs.NextPair.{Searchable, Next}
-use Rattle.search.specs.Split.{Bounded, Prepared, SplitAsked, SplitOf}
-use Rattle.sets.specs.Stored.{edgeList, Added, mostKnown}
-use Rattle.closings.specs.ClosingTest.{crossedBy, refusalOf, Crossable}
+use Rattle.rules.specs.asks.Pairs.{feasibleAfter}
+use Rattle.sets.specs.Neighbours.{neighboursOf}
+use Rattle.search.specs.asks.Candidates.{CandidatesOf}
+use Rattle.search.specs.asks.Pairs.{Searchable, NextPairOf}
+use Rattle.search.specs.asks.Split.{Bounded, Prepared, SplitAsked, SplitOf}
+use Rattle.sets.specs.asks.Stored.{edgeList, Added, mostKnown}
+use Rattle.closings.specs.ClosingTest.{threeOptOutcome, refusalOf}
+use Rattle.closings.specs.asks.ClosingTest.{ThreeOptAsked}
 use Rattle.sets.specs.declared.edge_set.EdgeSet.{EdgeSet}
-use Rattle.sets.specs.declared.near.Near.{Near}
+use Rattle.sets.specs.declared.neighbours.Neighbours.{Neighbours}
 use Rattle.search.specs.declared.pairs.NextPair.{NextPair}
 use Rattle.search.specs.declared.split.Split as split
-use Rattle.closings.specs.declared.closing.Crossed.{Crossed}
-use Rattle.closings.specs.declared.closing.Crossed.the-variants.{Settled, NoCrossing, NoSaving}
+use Rattle.closings.specs.declared.closing.ThreeOptOutcome.{ThreeOptOutcome}
+use Rattle.closings.specs.declared.closing.ThreeOptOutcome.the-variants.{Settled, NoMoves, NoSaving}
 use Rattle.sets.proofs.BeyondNumbers.{two-apart}
 use Rattle.rules.proofs.PairLists.{feasibleAfter-start, feasibleAfter-next}
-use Rattle.argument.specs.Verdict.{Verdict, accepted, refused, unless}
+use Rattle.argument.specs.Verdict.{Verdict, accepted, refused, refusedBy}
 use Rattle.argument.specs.Record.{records, howFits}
 use Rattle.argument.specs.Rules.{Rules}
 use Rattle.argument.specs.Walk.{Spot, takes, look, opening, behind, close, walk}
 use Rattle.argument.proofs.Tests.{both, is-point, means-fits}
 use Rattle.argument.proofs.Steps.{Taken, looked}
 use Rattle.argument.proofs.Fuel.{close-rises, walk-rises}
-use Rattle.argument.proofs.Equations.{walk-ends, walk-stops, walk-goes-on, walk-case-stops, close-splits, close-seventh, close-crosses}
+use Rattle.argument.proofs.Equations.{walk-ends, walk-stops, walk-goes-on, walk-case-stops, close-splits, close-seventh, close-three-opts}
 use Rattle.sheets.specs.Rules.{rulesOf}
-use Rattle.sheets.specs.Sheets.{howOf}
-use Rattle.sheets.specs.Walks.{walkedOf, lookedOf, pointsOnly, spotOf, ChainAsked, CaseAsked}
+use Rattle.sheets.specs.asks.Sheet.{howOf}
+use Rattle.sheets.specs.asks.Walk.{walkedOf, lookedOf, pointsOnly, spotOf, ChainAsked, CaseAsked}
 use Rattle.sheets.specs.declared.sheet.Closing.{Closing}
-use Rattle.sheets.specs.declared.sheet.Closing.the-variants.{Split, Crossing}
+use Rattle.sheets.specs.declared.sheet.Closing.the-variants.{Split, ThreeOpt}
 use Rattle.sheets.specs.declared.sheet.Case.{Case}
 use Rattle.sheets.specs.declared.walk.Walked.{Walked}
 use Rattle.sheets.specs.declared.walk.Walked.the-variants as walked
@@ -59,12 +60,12 @@ spotAt n table marks k left c x y last index high =
     }
 
 -- the loop's invariant
-pub record Following (n : ℕ) (table rows marks sheet : List ℕ) (count : ℕ) (k : EdgeSet) (left i c first : ℕ) (legs near rank : List ℕ) (bound : ℕ) (centre : Near) (x y last index high : ℕ) : Type 0 where
+pub record Following (n : ℕ) (table rows marks sheet : List ℕ) (count : ℕ) (k : EdgeSet) (left i c first : ℕ) (legs candidates rank : List ℕ) (bound : ℕ) (centre : Neighbours) (x y last index high : ℕ) : Type 0 where
   pub asked : ChainAsked n table rows marks sheet count k left c
   pub bounded : Bounded legs bound
-  pub listed : NearbyOf n legs near rank
+  pub listed : CandidatesOf n legs candidates rank
   pub prepared : Prepared n (lengthOf n table) (openIn n marks) (edgeList k) c legs bound
-  pub own : centre ≡ neighbours (edgeList k) c
+  pub own : centre ≡ neighboursOf (edgeList k) c
   pub low : 1 ≤ x
   pub up : x ≤ y
   pub top : y ≤ n
@@ -74,8 +75,8 @@ module _ {n : ℕ} {table rows marks sheet : List ℕ} {count : ℕ} {k : EdgeSe
   pub chain-split : SplitAsked n table rows marks k c
   chain-split = record { legs = record { lengths = asked .tried .admitted .lengths; marked = asked .tried .admitted .marked; centre = asked .centre }; in-rows = asked .tried .in-rows; held = asked .held }
 
-  pub follow-start : {legs near rank : List ℕ} {bound : ℕ} {centre : Near} (i first : ℕ) → SplitOf n table marks k c legs bound → centre ≡ neighbours (edgeList k) c
-      → NearbyOf n legs near rank → Following n table rows marks sheet count k left i c first legs near rank bound centre 1 1 i first i
+  pub follow-start : {legs candidates rank : List ℕ} {bound : ℕ} {centre : Neighbours} (i first : ℕ) → SplitOf n table marks k c legs bound → centre ≡ neighboursOf (edgeList k) c
+      → CandidatesOf n legs candidates rank → Following n table rows marks sheet count k left i c first legs candidates rank bound centre 1 1 i first i
   unfolding opening
   follow-start i first s own listed =
       let e : left ≡ suc left - 1 = omega arith in
@@ -91,26 +92,26 @@ module _ {n : ℕ} {table rows marks sheet : List ℕ} {count : ℕ} {k : EdgeSe
         walks = ap₂ (λ (l : ℕ) (ps : List Edge). walk (rulesOf n table marks) sheet record { left = l; known = edgeList k; point = c; pairs = ps; last = i; index = first; high = i }) e (feasibleAfter-start n (lengthOf n table) (openIn n marks) (edgeList k) c);
       }
 
-module _ {n : ℕ} {table rows marks sheet : List ℕ} {count : ℕ} {k : EdgeSet} {left i c first : ℕ} {legs near rank : List ℕ} {bound : ℕ} {centre : Near} {x y last index high : ℕ} (f : Following n table rows marks sheet count k left i c first legs near rank bound centre x y last index high) where
+module _ {n : ℕ} {table rows marks sheet : List ℕ} {count : ℕ} {k : EdgeSet} {left i c first : ℕ} {legs candidates rank : List ℕ} {bound : ℕ} {centre : Neighbours} {x y last index high : ℕ} (f : Following n table rows marks sheet count k left i c first legs candidates rank bound centre x y last index high) where
   abbrev rules : Rules
   rules = rulesOf n table marks
 
   abbrev here : Spot
   here = spotAt n table marks k left c x y last index high
 
-  pub follow-search : Searchable n table legs near rank bound centre k x y
+  pub follow-search : Searchable n table legs candidates rank bound centre k x y
   follow-search = record { beside = record { row = record { lengths = f .asked .tried .admitted .lengths; bounded = f .bounded; listed = f .listed; low = f .low; up = f .up; high = f .top }; apart = two-apart (edgeList k) c centre (f .own) }; held = f .asked .held }
 
   pub follow-few : k .count + 2 ≤ mostKnown
   follow-few = omega (arith, f .asked .room)
 
   -- what the code's look answers is what the walk looks at
-  module _ {next : NextPair} (found : Next n table legs bound c centre k x y next) {r : Looked} (e : lookedOf r ≡ look (pointsOnly n) sheet (spotOf next last index high)) where
+  module _ {next : NextPair} (found : NextPairOf n table legs bound c centre k x y next) {r : Looked} (e : lookedOf r ≡ look (pointsOnly n) sheet (spotOf next last index high)) where
     looks : {r′ : Looked} → r ≡ r′ → look rules sheet here ≡ lookedOf r′
     looks g =
         look-heads rules sheet left (edgeList k) c _ last index high ∙ ap (λ (p : NextPair). look (pointsOnly n) sheet (spotOf p last index high)) (sym (found .first (openIn n marks) (f .prepared) (f .own))) ∙ sym e ∙ ap lookedOf g
 
-    pub follow-ends : r ≡ looking.Ends → accepted high ≡ walk rules sheet (opening rules (suc left) (edgeList k) i c first)
+    pub follow-ends : r ≡ looking.ChainEnds → accepted high ≡ walk rules sheet (opening rules (suc left) (edgeList k) i c first)
     follow-ends g = sym (walk-ends rules sheet here (looks g)) ∙ f .walks
 
     pub follow-stops : {m a : ℕ} → r ≡ looking.Refused m a → refused m a ≡ walk rules sheet (opening rules (suc left) (edgeList k) i c first)
@@ -144,7 +145,7 @@ module _ {n : ℕ} {table rows marks sheet : List ℕ} {count : ℕ} {k : EdgeSe
             unfolding walk
             follow-falls = omega (arith, taken .entered, close-rises rules sheet (walk rules sheet) (walk-rises rules sheet (suc (records sheet))) left _ index (howOf (x′ .closing)) reached (closes w))
 
-            pub follow-on : Following n table rows marks sheet count k left i c first legs near rank bound centre (x′ .a) (x′ .b) index (x′ .next) reached
+            pub follow-on : Following n table rows marks sheet count k left i c first legs candidates rank bound centre (x′ .a) (x′ .b) index (x′ .next) reached
             unfolding behind
             follow-on =
                 let t = taken in
@@ -189,10 +190,10 @@ module _ {n : ℕ} {table rows marks sheet : List ℕ} {count : ℕ} {k : EdgeSe
         let l : suc (left - 1) ≡ left = omega arith in
         w ∙ ap (λ (m : ℕ). walk case-rules sheet (opening case-rules m (edgeList k) i point first)) l ∙ sym (close-splits case-rules sheet left (edgeList k) i point first (omega arith)) ∙ closed-as i e
 
-  module _ {p q r s : ℕ} (e : closing ≡ Crossing p q r s) where
-    pub close-crossable : Crossable n table k p q r s
+  module _ {p q r s : ℕ} (e : closing ≡ ThreeOpt p q r s) where
+    pub close-three-opt-asked : ThreeOptAsked n table k p q r s
     unfolding howFits
-    close-crossable =
+    close-three-opt-asked =
         let h = both _ _ (fitting e) in
         let g = both _ _ (h .1) in
         let f = both _ _ (g .1) in
@@ -203,18 +204,18 @@ module _ {n : ℕ} {table rows marks sheet : List ℕ} {count : ℕ} {k : EdgeSe
           held = asked .held;
         }
 
-    module _ (i : ℕ) {v : Crossed} (z : v ≡ crossedBy (lengthOf n table) (edgeList k) p q r s) where
-      crossed-as : {v′ : Crossed} → v ≡ v′ → unless (refusalOf v′) i i ≡ close case-rules (walk case-rules sheet) left (edgeList k) i (howOf closing)
-      crossed-as g = ap (λ (x : Crossed). unless (refusalOf x) i i) (sym g ∙ z) ∙ sym (close-crosses case-rules sheet left (edgeList k) i p q r s) ∙ closed-as i e
+    module _ (i : ℕ) {v : ThreeOptOutcome} (z : v ≡ threeOptOutcome (lengthOf n table) (edgeList k) p q r s) where
+      outcome-as : {v′ : ThreeOptOutcome} → v ≡ v′ → refusedBy (refusalOf v′) i i ≡ close case-rules (walk case-rules sheet) left (edgeList k) i (howOf closing)
+      outcome-as g = ap (λ (x : ThreeOptOutcome). refusedBy (refusalOf x) i i) (sym g ∙ z) ∙ sym (close-three-opts case-rules sheet left (edgeList k) i p q r s) ∙ closed-as i e
 
       pub close-settled : v ≡ Settled → accepted i ≡ close case-rules (walk case-rules sheet) left (edgeList k) i (howOf closing)
-      unfolding refusalOf unless
-      close-settled g = crossed-as g
+      unfolding refusalOf refusedBy
+      close-settled g = outcome-as g
 
-      pub close-no-crossing : v ≡ NoCrossing → refused 15 i ≡ close case-rules (walk case-rules sheet) left (edgeList k) i (howOf closing)
-      unfolding refusalOf unless
-      close-no-crossing g = crossed-as g
+      pub close-no-moves : v ≡ NoMoves → refused 15 i ≡ close case-rules (walk case-rules sheet) left (edgeList k) i (howOf closing)
+      unfolding refusalOf refusedBy
+      close-no-moves g = outcome-as g
 
       pub close-no-saving : v ≡ NoSaving → refused 16 i ≡ close case-rules (walk case-rules sheet) left (edgeList k) i (howOf closing)
-      unfolding refusalOf unless
-      close-no-saving g = crossed-as g
+      unfolding refusalOf refusedBy
+      close-no-saving g = outcome-as g

@@ -1,5 +1,4 @@
-pub mod Lines
-pub mod Results
+pub mod asks
 pub mod Rules
-pub mod Sheets
-pub mod Walks
+pub mod Sheet
+pub mod Verdict

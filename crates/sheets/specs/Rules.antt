@@ -3,7 +3,7 @@ use Prim.Native.Nat.{ℕ}
 use mathlib.Core.List.{List}
 use Rattle.lengths.specs.Table.{lengthOf}
 use Rattle.closings.specs.Closing.{Closes}
-use Rattle.closings.specs.ClosingTest.{crossedBy, refusalOf}
+use Rattle.closings.specs.ClosingTest.{threeOptOutcome, refusalOf}
 use Rattle.marks.specs.Mark.{openIn, strikeIn}
 use Rattle.rules.specs.Pair.{FeasiblePair}
 use Rattle.rules.specs.Pairs.{feasiblePairs}
@@ -18,7 +18,7 @@ rulesOf n table marks =
       Feasible = FeasiblePair n (lengthOf n table) (openIn n marks);
       Settles = Closes (lengthOf n table);
       pairs = feasiblePairs n (lengthOf n table) (openIn n marks);
-      closing = λ K p q r s. refusalOf (crossedBy (lengthOf n table) K p q r s);
+      closing = λ K p q r s. refusalOf (threeOptOutcome (lengthOf n table) K p q r s);
     }
 
 -- marks of n points with these lengths

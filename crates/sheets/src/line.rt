@@ -12,17 +12,17 @@ use marks::mark::is_open;
 use marks::mark::strike;
 use sets::edge_set::EdgeSet;
 ghost use mathlib.Core.Path.{_≡_};
+ghost use Rattle.endian.specs.Bytes.{whole16, whole32};
 ghost use Rattle.marks.specs.Mark.{openIn};
-ghost use Rattle.marks.specs.Mark as mark;
 ghost use Rattle.argument.specs.Line.{judgeRecord};
 ghost use Rattle.argument.specs.Line as judging;
 ghost use Rattle.argument.specs.Sheet as lines;
-ghost use Rattle.sheets.specs.Lines.{LineAsked, TurnedAs, judgedOf};
-ghost use Rattle.sheets.specs.Results.{resultOf};
+ghost use Rattle.sheets.specs.asks.Line.{LineAsked, TurnedAs, judgedOf};
+ghost use Rattle.sheets.specs.Verdict.{resultOf};
 ghost use Rattle.sheets.specs.Rules.{rulesOf, markingOf};
 ghost use Rattle.marks.specs.Mark.{strikeIn};
-ghost use Rattle.sheets.specs.Sheets.{recordOf};
-ghost use Rattle.sheets.specs.Walks.{Tried};
+ghost use Rattle.sheets.specs.asks.Sheet.{recordOf};
+ghost use Rattle.sheets.specs.asks.Walk.{Tried};
 
 // What a line that was entered comes to: it strikes its edge, with the next index and the highest record entered, or it is refused.
 pub enum Judged {
@@ -45,16 +45,16 @@ pub enum Turned {
 // Judges the line that was read as record i.
 fn judge_line(
     n: u16,
-    table: &[u32],
+    table: &[u8],
     rows: &[u32],
     marks: &[u8],
-    sheet: &[u16],
+    sheet: &[u8],
     count: u16,
     i: u16,
     line: Line,
 ) -> Judged
-    requires { ⌜ LineAsked n (now table) (now rows) (now marks) (now sheet) count i ⌝ }
-    ensures { λ r. ⌜ judgedOf r ≡ judgeRecord (rulesOf n (now (table .entry)) (now (marks .entry))) (openIn n (now (marks .entry))) (now (sheet .entry)) i (recordOf (Record.Line line)) ⌝ }
+    requires { ⌜ LineAsked n (whole32 (now table)) (now rows) (now marks) (whole16 (now sheet)) count i ⌝ }
+    ensures { λ r. ⌜ judgedOf r ≡ judgeRecord (rulesOf n (whole32 (now (table .entry))) (now (marks .entry))) (openIn n (now (marks .entry))) (whole16 (now (sheet .entry))) i (recordOf (Record.Line line)) ⌝ }
 {
     let closing = Closing::Split {
         point: line.point,
@@ -93,15 +93,15 @@ fn judge_line(
 // Judges the line that record i should be.
 pub fn judge(
     n: u16,
-    table: &[u32],
+    table: &[u8],
     rows: &[u32],
     marks: &[u8],
-    sheet: &[u16],
+    sheet: &[u8],
     count: u16,
     i: u16,
 ) -> Judged
-    requires { ⌜ LineAsked n (now table) (now rows) (now marks) (now sheet) count i ⌝ }
-    ensures { λ r. ⌜ judgedOf r ≡ judging.judge (rulesOf n (now (table .entry)) (now (marks .entry))) (openIn n (now (marks .entry))) (now (sheet .entry)) i ⌝ }
+    requires { ⌜ LineAsked n (whole32 (now table)) (now rows) (now marks) (whole16 (now sheet)) count i ⌝ }
+    ensures { λ r. ⌜ judgedOf r ≡ judging.judge (rulesOf n (whole32 (now (table .entry))) (now (marks .entry))) (openIn n (now (marks .entry))) (whole16 (now (sheet .entry))) i ⌝ }
 {
     match Sheet::record(sheet, i) {
         Record::Line(line) => judge_line(n, table, rows, marks, sheet, count, i, line),
@@ -113,17 +113,17 @@ pub fn judge(
 // One line from an index, which the record `last` has: judged and, if it is accepted, marked.
 pub fn mark_line(
     n: u16,
-    table: &[u32],
+    table: &[u8],
     rows: &[u32],
     marks: &mut [u8],
-    sheet: &[u16],
+    sheet: &[u8],
     count: u16,
     last: u16,
     index: u16,
     high: u16,
 ) -> Turned
-    requires { ⌜ Tried n (now table) (now rows) (now marks) (now sheet) count ⌝ }
-    ensures { λ r. ⌜ TurnedAs n (now (table .entry)) (now (marks .entry)) (now (sheet .entry)) last index high r (now (marks .exit)) ⌝ }
+    requires { ⌜ Tried n (whole32 (now table)) (now rows) (now marks) (whole16 (now sheet)) count ⌝ }
+    ensures { λ r. ⌜ TurnedAs n (whole32 (now (table .entry))) (now (marks .entry)) (whole16 (now (sheet .entry))) last index high r (now (marks .exit)) ⌝ }
 {
     if index == 0 {
         return Turned::Over;
@@ -149,14 +149,14 @@ pub fn mark_line(
 // The lines of a sheet of so many records, from record 1 on.
 pub fn mark_lines(
     n: u16,
-    table: &[u32],
+    table: &[u8],
     rows: &[u32],
     marks: &mut [u8],
-    sheet: &[u16],
+    sheet: &[u8],
     count: u16,
 ) -> Verdict
-    requires { ⌜ Tried n (now table) (now rows) (now marks) (now sheet) count ⌝ }
-    ensures { λ r. ⌜ resultOf r (now (marks .exit)) ≡ lines.sheet (markingOf n (now (table .entry))) (now (sheet .entry)) (now (marks .entry)) ⌝ }
+    requires { ⌜ Tried n (whole32 (now table)) (now rows) (now marks) (whole16 (now sheet)) count ⌝ }
+    ensures { λ r. ⌜ resultOf r (now (marks .exit)) ≡ lines.sheet (markingOf n (whole32 (now (table .entry)))) (whole16 (now (sheet .entry))) (now (marks .entry)) ⌝ }
 {
     let mut lines: u16 = 0;
     let mut last: u16 = 0;

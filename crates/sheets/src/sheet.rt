@@ -1,7 +1,10 @@
-// Sheets and their records: 01's "The sheet".
+// Sheets and their records: 01's "The sheet". A sheet is 16-bit numbers as little-endian bytes.
+use endian::bytes::number16;
 ghost use mathlib.Core.Path.{_≡_};
-ghost use Rattle.sheets.specs.Sheets.{sheetAdmission, recordOf, Readable};
-ghost use Rattle.argument.specs.Record.{recordAt};
+ghost use Rattle.endian.specs.Bytes.{whole16};
+ghost use Rattle.sheets.specs.Sheet.{Readable};
+ghost use Rattle.sheets.specs.asks.Sheet.{sheetAdmission, recordOf};
+ghost use Rattle.argument.specs.Record.{content, recordAt};
 
 // A sheet of 1 to MOST_RECORDS whole records.
 pub struct Sheet {
@@ -14,10 +17,10 @@ pub enum SheetAdmission {
     Refused,
 }
 
-// How a case is closed: by a split at a point whose first case is the record `first`, or by a crossing.
+// How a case is closed: by a split at a point whose first case is the record `first`, or by 3-opt (01's crossing).
 pub enum Closing {
     Split { point: u16, first: u16 },
-    Crossing { p: u16, q: u16, r: u16, s: u16 },
+    ThreeOpt { p: u16, q: u16, r: u16, s: u16 },
 }
 
 // A case: its pair, its closing and the index of the next case.
@@ -53,11 +56,6 @@ impl Sheet {
 
     pub const MOST_NUMBERS: usize = Sheet::MOST_RECORDS * Sheet::RECORD_SIZE;
 
-    // Up to so many records a call from C uses a small array.
-    pub const FEW_RECORDS: usize = 1000;
-
-    pub const FEW_NUMBERS: usize = Sheet::FEW_RECORDS * Sheet::RECORD_SIZE;
-
     // The sheet of so many numbers, where they are 1 to MOST_RECORDS whole records.
     pub fn admit(numbers: usize) -> SheetAdmission
         ensures { λ r. ⌜ r ≡ sheetAdmission numbers ⌝ }
@@ -77,55 +75,65 @@ impl Sheet {
     }
 
     // The record i of a sheet, whose records are numbered from 1.
-    pub fn record(sheet: &[u16], i: u16) -> Record
-        requires { ⌜ Readable (now sheet) i ⌝ }
-        ensures { λ r. ⌜ recordOf r ≡ recordAt (now (sheet .entry)) i ⌝ }
+    pub fn record(sheet: &[u8], i: u16) -> Record
+        requires { ⌜ Readable (whole16 (now sheet)) i ⌝ }
+        ensures { λ r. ⌜ recordOf r ≡ recordAt (whole16 (now (sheet .entry))) i ⌝ }
     {
         let at = (i as usize - 1) * Sheet::RECORD_SIZE;
-        let kind = sheet[at];
-        let a = sheet[at + 1];
-        let b = sheet[at + 2];
-        let u = sheet[at + 3];
-        let v = sheet[at + 4];
-        let c = sheet[at + 5];
-        let d = sheet[at + 6];
-        let next = sheet[at + 7];
-        if kind == 3 {
-            return Record::Case(Case {
-                a: a,
-                b: b,
-                closing: Closing::Crossing {
-                    p: u,
-                    q: v,
-                    r: c,
-                    s: d,
-                },
-                next: next,
-            });
-        }
-        if u != 0 {
-            return Record::Other;
-        }
-        if v != 0 {
-            return Record::Other;
-        }
-        if kind == 1 {
-            return Record::Line(Line {
-                a: a,
-                b: b,
-                point: c,
-                first: d,
-                next: next,
-            });
-        }
-        if kind == 2 {
-            return Record::Case(Case {
-                a: a,
-                b: b,
-                closing: Closing::Split { point: c, first: d },
-                next: next,
-            });
-        }
-        Record::Other
+        meaning(
+            number16(sheet, at),
+            number16(sheet, at + 1),
+            number16(sheet, at + 2),
+            number16(sheet, at + 3),
+            number16(sheet, at + 4),
+            number16(sheet, at + 5),
+            number16(sheet, at + 6),
+            number16(sheet, at + 7),
+        )
     }
+}
+
+// What the eight numbers of a record mean.
+fn meaning(kind: u16, a: u16, b: u16, u: u16, v: u16, c: u16, d: u16, next: u16) -> Record
+    ensures { λ r. ⌜ recordOf r ≡ content kind a b u v c d next ⌝ }
+{
+    if kind == 3 {
+        let closing = Closing::ThreeOpt {
+            p: u,
+            q: v,
+            r: c,
+            s: d,
+        };
+        return Record::Case(Case {
+            a: a,
+            b: b,
+            closing: closing,
+            next: next,
+        });
+    }
+    if u != 0 {
+        return Record::Other;
+    }
+    if v != 0 {
+        return Record::Other;
+    }
+    if kind == 1 {
+        return Record::Line(Line {
+            a: a,
+            b: b,
+            point: c,
+            first: d,
+            next: next,
+        });
+    }
+    if kind == 2 {
+        let closing = Closing::Split { point: c, first: d };
+        return Record::Case(Case {
+            a: a,
+            b: b,
+            closing: closing,
+            next: next,
+        });
+    }
+    Record::Other
 }

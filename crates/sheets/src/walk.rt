@@ -3,27 +3,28 @@ use crate::sheet::Case;
 use crate::sheet::Closing;
 use crate::sheet::Record;
 use crate::sheet::Sheet;
-use closings::closing::Crossed;
-use closings::closing::crossing;
+use closings::closing::ThreeOptOutcome;
+use closings::closing::close_by_three_opt;
 use lengths::instance::Instance;
 use lengths::refusal;
 use rules::legs;
-use search::nearby;
-use search::nearby::list_nearby;
+use search::candidates;
+use search::candidates::list_candidates;
 use search::pairs::NextPair;
 use search::pairs::next_pair;
 use search::split::prepare;
 use sets::edge_set::EdgeSet;
-use sets::near::neighbours;
+use sets::neighbours::neighbours_of;
 ghost use mathlib.Core.Path.{_≡_};
 ghost use Prim.Native.Nat.{suc};
-ghost use Rattle.sets.specs.Stored.{edgeList};
+ghost use Rattle.endian.specs.Bytes.{whole16, whole32};
+ghost use Rattle.sets.specs.asks.Stored.{edgeList};
 ghost use Rattle.argument.specs.Record.{isPoint, howFits, fits};
 ghost use Rattle.argument.specs.Walk.{readCase, opening, close, walk};
 ghost use Rattle.argument.specs.Walk as walking;
-ghost use Rattle.sheets.specs.Sheets.{howOf, recordOf};
+ghost use Rattle.sheets.specs.asks.Sheet.{howOf, recordOf};
 ghost use Rattle.sheets.specs.Rules.{rulesOf};
-ghost use Rattle.sheets.specs.Walks.{walkedOf, lookedOf, pointsOnly, spotOf, WholeRecords, ChainAsked, CaseAsked};
+ghost use Rattle.sheets.specs.asks.Walk.{walkedOf, lookedOf, pointsOnly, spotOf, WholeRecords, ChainAsked, CaseAsked};
 
 // Where a walk ends: all is closed, with the highest record entered, or it is refused with the number and the record.
 pub enum Walked {
@@ -33,7 +34,7 @@ pub enum Walked {
 
 // What a chain does at its next index: it ends, it takes a case whose pair is the next feasible one, or it is refused.
 pub enum Looked {
-    Ends,
+    ChainEnds,
     Takes(Case),
     Refused(u8, u16),
 }
@@ -54,7 +55,7 @@ fn closing_fits(n: u16, closing: Closing) -> bool
 {
     match closing {
         Closing::Split { point, first: _ } => is_point(n, point),
-        Closing::Crossing { p, q, r, s } => {
+        Closing::ThreeOpt { p, q, r, s } => {
             if !is_point(n, p) {
                 return false;
             }
@@ -108,19 +109,19 @@ fn look_at_case(n: u16, case: Case, last: u16, index: u16, high: u16, next: Next
 // What a chain does at its index, which the record `last` has; `high` is the highest record entered, and `count` how many there are.
 fn look(
     n: u16,
-    sheet: &[u16],
+    sheet: &[u8],
     count: u16,
     next: NextPair,
     last: u16,
     index: u16,
     high: u16,
 ) -> Looked
-    requires { ⌜ WholeRecords (now sheet) count ⌝ }
-    ensures { λ r. ⌜ lookedOf r ≡ walking.look (pointsOnly n) (now (sheet .entry)) (spotOf next last index high) ⌝ }
+    requires { ⌜ WholeRecords (whole16 (now sheet)) count ⌝ }
+    ensures { λ r. ⌜ lookedOf r ≡ walking.look (pointsOnly n) (whole16 (now (sheet .entry))) (spotOf next last index high) ⌝ }
 {
     if index == 0 {
         return match next {
-            NextPair::End => Looked::Ends,
+            NextPair::End => Looked::ChainEnds,
             NextPair::Pair(_, _) => Looked::Refused(refusal::PAIR, last),
         };
     }
@@ -141,10 +142,10 @@ fn look(
 // The rows are those of the table, and `count` is how many records the sheet has.
 pub fn chain(
     n: u16,
-    table: &[u32],
+    table: &[u8],
     rows: &[u32],
     marks: &[u8],
-    sheet: &[u16],
+    sheet: &[u8],
     count: u16,
     k: EdgeSet,
     left: u16,
@@ -152,25 +153,37 @@ pub fn chain(
     c: u16,
     first: u16,
 ) -> Walked
-    requires { ⌜ ChainAsked n (now table) (now rows) (now marks) (now sheet) count k left c ⌝ }
-    ensures { λ r. ⌜ walkedOf r ≡ walk (rulesOf n (now (table .entry)) (now (marks .entry))) (now (sheet .entry))
-        (opening (rulesOf n (now (table .entry)) (now (marks .entry))) (suc left) (edgeList k) i c first) ⌝ }
+    requires { ⌜ ChainAsked n (whole32 (now table)) (now rows) (now marks) (whole16 (now sheet)) count k left c ⌝ }
+    ensures { λ r. ⌜ walkedOf r ≡ walk (rulesOf n (whole32 (now (table .entry))) (now (marks .entry))) (whole16 (now (sheet .entry)))
+        (opening (rulesOf n (whole32 (now (table .entry))) (now (marks .entry))) (suc left) (edgeList k) i c first) ⌝ }
 {
     let mut legs = [legs::FAR; Instance::PLACES];
     let bound = prepare(n, table, rows, marks, k, c, &mut legs);
-    let centre = neighbours(k, c);
-    let mut near = [0u16; nearby::PLACES];
-    let mut rank = [0u16; nearby::PLACES];
-    list_nearby(n, &legs, &mut near, &mut rank);
+    let centre = neighbours_of(k, c);
+    let mut candidates = [0u16; candidates::PLACES];
+    let mut rank = [0u16; candidates::PLACES];
+    list_candidates(n, &legs, &mut candidates, &mut rank);
     let mut x: u16 = 1;
     let mut y: u16 = 1;
     let mut last = i;
     let mut index = first;
     let mut high = i;
     loop {
-        let next = next_pair(n, table, &legs, &near, &rank, bound, c, centre, k, x, y);
+        let next = next_pair(
+            n,
+            table,
+            &legs,
+            &candidates,
+            &rank,
+            bound,
+            c,
+            centre,
+            k,
+            x,
+            y,
+        );
         match look(n, sheet, count, next, last, index, high) {
-            Looked::Ends => return Walked::Closed(high),
+            Looked::ChainEnds => return Walked::Closed(high),
             Looked::Refused(number, at) => return Walked::Refused(number, at),
             Looked::Takes(case) => {
                 let closing = case.closing;
@@ -202,19 +215,19 @@ pub fn chain(
 // The closing that record i holds, under k with the case's pair.
 fn close_case(
     n: u16,
-    table: &[u32],
+    table: &[u8],
     rows: &[u32],
     marks: &[u8],
-    sheet: &[u16],
+    sheet: &[u8],
     count: u16,
     k: EdgeSet,
     left: u16,
     i: u16,
     closing: Closing,
 ) -> Walked
-    requires { ⌜ CaseAsked n (now table) (now rows) (now marks) (now sheet) count k left closing ⌝ }
-    ensures { λ r. ⌜ walkedOf r ≡ close (rulesOf n (now (table .entry)) (now (marks .entry)))
-        (walk (rulesOf n (now (table .entry)) (now (marks .entry))) (now (sheet .entry))) left (edgeList k) i (howOf closing) ⌝ }
+    requires { ⌜ CaseAsked n (whole32 (now table)) (now rows) (now marks) (whole16 (now sheet)) count k left closing ⌝ }
+    ensures { λ r. ⌜ walkedOf r ≡ close (rulesOf n (whole32 (now (table .entry))) (now (marks .entry)))
+        (walk (rulesOf n (whole32 (now (table .entry))) (now (marks .entry))) (whole16 (now (sheet .entry)))) left (edgeList k) i (howOf closing) ⌝ }
 {
     match closing {
         Closing::Split { point, first } => {
@@ -235,10 +248,10 @@ fn close_case(
                 first,
             )
         }
-        Closing::Crossing { p, q, r, s } => match crossing(n, table, k, p, q, r, s) {
-            Crossed::Settled => Walked::Closed(i),
-            Crossed::NoCrossing => Walked::Refused(refusal::CROSSING, i),
-            Crossed::NoSaving => Walked::Refused(refusal::SAVING, i),
+        Closing::ThreeOpt { p, q, r, s } => match close_by_three_opt(n, table, k, p, q, r, s) {
+            ThreeOptOutcome::Settled => Walked::Closed(i),
+            ThreeOptOutcome::NoMoves => Walked::Refused(refusal::CROSSING, i),
+            ThreeOptOutcome::NoSaving => Walked::Refused(refusal::SAVING, i),
         },
     }
 }

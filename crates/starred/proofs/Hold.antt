@@ -13,21 +13,21 @@ use Rattle.lengths.specs.Table.{lengthOf}
 use Rattle.lengths.specs.declared.distance.Rule.the-variants.{Euc2d, Ceil2d}
 use Rattle.lengths.proofs.Distances.{distance-euc2d, euc2d-only, distance-ceil2d, ceil2d-only}
 use Rattle.lengths.proofs.Tables.{length-symmetric}
-use Rattle.sets.specs.EdgeSet.{Ends}
-use Rattle.closings.specs.Closing.{Crossing}
-use Rattle.closings.specs.ClosingTest.{saves?, labelling?, apart?, placed?, settledBy, crossedBy}
+use Rattle.sets.specs.EdgeSet.{DegreeTwo}
+use Rattle.closings.specs.Closing.{ThreeOptMoves}
+use Rattle.closings.specs.ClosingTest.{saves?, labelling?, centresApart?, placed?, settledBy, threeOptOutcome}
 use Rattle.sets.specs.Joined.{joins?, has?}
 use Rattle.marks.specs.Mark.{openIn}
-use Rattle.sets.specs.Near.{withPoint, seen, neighbours, bothOf, endsOf, within?, either?, beyond}
+use Rattle.sets.specs.Neighbours.{withPoint, seen, neighboursOf, bothOf, endsOf, within?, either?, beyond}
 use Rattle.rules.specs.Pair.{FeasiblePair}
 use Rattle.rules.specs.PairTest.{every, compatible?, leg?, stays?, unmoved?, feasible?}
 use Rattle.rules.specs.Pairs.{keep, feasiblePairs}
 use Rattle.sets.specs.Shape.{shape?, shuts?, reaches?, goesOn}
-use Rattle.closings.specs.declared.closing.Crossed.the-variants.{NoSaving}
+use Rattle.closings.specs.declared.closing.ThreeOptOutcome.the-variants.{NoSaving}
 use Rattle.closings.proofs.ClosingExact.{no-saving-exact}
 use Rattle.sets.proofs.Exact.{has-exact, ends-sound, shape-exact, single-shape}
 use Rattle.rules.proofs.PairTests.{compatible-iff, feasiblePairs-iff}
-use Rattle.starred.specs.Table.{Example, distances, incompatible, standing, compares, saves, unsaved, starred, square, allOpen, eight, centres, Eight, Claim}
+use Rattle.starred.specs.Table.{Example, distances, incompatible, feasible, compares, saves, unsaved, starred, square, allOpen, eight, centres, Eight, Claim}
 
 distances-hold : (S d e : ℕ) → S ≤ 2000000000000 → distanceBy Euc2d S ≡ d → distanceBy Ceil2d S ≡ e → Claim (distances S d e)
 distances-hold S d e h one two = (
@@ -44,20 +44,20 @@ compares-hold : (c x y u v new old : ℕ) → old ≤ new → square x y + squar
 compares-hold c x y u v new old h one two = (one, two, λ k. omega arith)
 
 -- the list that the test computes has exactly the feasible pairs, since {ab} has the shape that conditions 2 and 3 go by
-standing-hold : (a b c : ℕ) (pairs : List Edge) → (a ≡ b → ⊥) → feasiblePairs 4 square allOpen (edge a b ∷ []) c ≡ pairs → Claim (standing a b c pairs)
+feasible-hold : (a b c : ℕ) (pairs : List Edge) → (a ≡ b → ⊥) → feasiblePairs 4 square allOpen (edge a b ∷ []) c ≡ pairs → Claim (feasible a b c pairs)
 unfolding square
-standing-hold a b c pairs apart e x y =
+feasible-hold a b c pairs apart e x y =
     let r = feasiblePairs-iff square (length-symmetric 4 _) 4 allOpen (edge a b ∷ []) c x y
     (λ xc yc e. shape-exact 4 (edge a b ∷ []) c x y (single-shape 4 a b apart) (record { x-y = λ q. omega (arith, e .up); x-c = xc; y-c = yc })) in
     subst (λ (es : List Edge). List·Memᴰ (edge x y) es ↔ FeasiblePair 4 square allOpen (edge a b ∷ []) c x y) e r
 
 -- the ends of a centre, named the other way round
-ends-swap : {K : List Edge} {r x y : ℕ} → Ends K r x y → Ends K r y x
+ends-swap : {K : List Edge} {r x y : ℕ} → DegreeTwo K r x y → DegreeTwo K r y x
 ends-swap h = record { apart = λ e. h .apart (sym e); has-x = h .has-y; has-y = h .has-x; only = λ v k. ⊎-elim inr inl (h .only v k) }
 
-crosses : Crossing centres 1 2 3 4 5 6 7 8
-unfolding centres endsOf bothOf neighbours seen withPoint has? joins?
-crosses = record {
+are-moves : ThreeOptMoves centres 1 2 3 4 5 6 7 8
+unfolding centres endsOf bothOf neighboursOf seen withPoint has? joins?
+are-moves = record {
   edge-of-K = has-exact centres 1 2 .0 refl;
   centres = λ e. omega arith;
   r-not-p = λ e. omega arith;
@@ -91,16 +91,16 @@ eight-lengths rs = record {
 saves-hold : (rs difference : ℕ) → 1 ≤ difference → 30 ≡ rs + 18 + difference → Claim (saves rs 30 (rs + 18) difference)
 saves-hold rs difference h e =
     let l = eight-lengths rs in (
-      (l, crosses),
+      (l, are-moves),
       record { first-taken = omega arith; first-put = omega arith; second-taken = omega arith; second-put = omega arith },
       e,
-      record { x = 5; y = 6; z = 7; w = 8; crossing = crosses; saves = record { first = omega arith; second = omega arith } },
+      record { x = 5; y = 6; z = 7; w = 8; moves = are-moves; saves = record { first = omega arith; second = omega arith } },
     )
 
-unsaved-hold : (rs : ℕ) → 12 ≤ rs → crossedBy (eight rs) centres 1 2 3 4 ≡ NoSaving → Claim (unsaved rs)
+unsaved-hold : (rs : ℕ) → 12 ≤ rs → threeOptOutcome (eight rs) centres 1 2 3 4 ≡ NoSaving → Claim (unsaved rs)
 unsaved-hold rs h e =
     let l = eight-lengths rs in (
-      (l, crosses),
+      (l, are-moves),
       record {
         as-named = λ s. omega arith;
         swapped-zw = λ s. omega arith;
@@ -120,11 +120,11 @@ each : (es : List Example) → Proved es → (e : Example) → List·Memᴰ e es
 each [] done e m = absurd (List·Memᴰ·not-nil m)
 each (d ∷ es) (h & hs) e m = ⊎-elim (λ q. subst (λ (x : Example). Claim x) (sym q) h) (each es hs e) (List·Memᴰ·cases-cons m)
 
--- the square's numbers, the standing pairs and the crossing's answer are computed
+-- the square's numbers, the standing pairs and the 3-opt closing's answer are computed
 proved : Proved starred
 unfolding starred distanceBy bisect passes square allOpen eight centres lengthOf measuredTable edgeDistance squares xOf yOf gapOf
     edgeCount place placeUp tri edges rows row openIn feasiblePairs keep feasible? leg? unmoved? stays? every compatible? shape? shuts? reaches? goesOn
-    neighbours seen withPoint within? either? beyond crossedBy placed? has? joins? apart? endsOf bothOf settledBy labelling? saves?
+    neighboursOf seen withPoint within? either? beyond threeOptOutcome placed? has? joins? centresApart? endsOf bothOf settledBy labelling? saves?
 proved =
     distances-hold 2 1 2 (omega arith) refl refl &
     distances-hold 5 2 3 (omega arith) refl refl &
@@ -133,9 +133,9 @@ proved =
     distances-hold 2000000000000 1414214 1414214 (omega arith) refl refl &
     incompatible-hold 1 3 2 4 20 28 (omega arith) refl refl &
     compatible-iff square 1 2 3 4 .0 refl &
-    standing-hold 1 2 3 (edge 1 4 ∷ edge 2 4 ∷ []) (λ e. omega arith) refl &
+    feasible-hold 1 2 3 (edge 1 4 ∷ edge 2 4 ∷ []) (λ e. omega arith) refl &
     compares-hold 3 1 4 1 2 34 34 (omega arith) refl refl &
-    standing-hold 1 3 2 [] (λ e. omega arith) refl &
+    feasible-hold 1 3 2 [] (λ e. omega arith) refl &
     saves-hold 9 3 (omega arith) refl &
     unsaved-hold 12 (omega arith) refl &
     done

@@ -11,7 +11,7 @@ use Rattle.lengths.specs.Edge.{Edge, edge, edgeCount}
 use Rattle.lengths.specs.Measure.{measuredTable}
 use Rattle.lengths.specs.Table.{lengthOf}
 use Rattle.lengths.specs.declared.distance.Rule.the-variants.{Euc2d}
-use Rattle.closings.specs.Closing.{Saves, Crossing, Closes}
+use Rattle.closings.specs.Closing.{Saves, ThreeOptMoves, Closes}
 use Rattle.marks.specs.Mark.{openIn}
 use Rattle.rules.specs.Pair.{Compatible, MoveSaves, FeasiblePair}
 use Rattle.sets.specs.Rising.{Among}
@@ -23,13 +23,13 @@ pub data Example : Type 0 where
   incompatible : (p q x y exchange both : ℕ) → Example
   -- square: pq and xy are compatible
   compatible : (p q x y : ℕ) → Example
-  -- square, K = {ab}, split c: standing are these pairs
-  standing : (a b c : ℕ) → List Edge → Example
+  -- square, K = {ab}, split c: these are the feasible pairs
+  feasible : (a b c : ℕ) → List Edge → Example
   -- square, split c: for the pair x, y and the edge uv test 5 compares these two sums, and does not shut the pair out
   compares : (c x y u v new old : ℕ) → Example
-  -- crossing with rs of this length: each move takes out one sum and puts in the other, and so saves the difference
+  -- 3-opt closing with rs of this length: each move takes out one sum and puts in the other, and so saves the difference
   saves : (rs taken put difference : ℕ) → Example
-  -- crossing with rs of this length: no labelling saves
+  -- 3-opt closing with rs of this length: no labelling saves
   unsaved : (rs : ℕ) → Example
 
 -- 01's stars in its order; the sums of test 5 belong to the standing pair before them
@@ -42,9 +42,9 @@ starred =
     distances 2000000000000 1414214 1414214 ∷
     incompatible 1 3 2 4 20 28 ∷
     compatible 1 2 3 4 ∷
-    standing 1 2 3 (edge 1 4 ∷ edge 2 4 ∷ []) ∷
+    feasible 1 2 3 (edge 1 4 ∷ edge 2 4 ∷ []) ∷
     compares 3 1 4 1 2 34 34 ∷
-    standing 1 3 2 [] ∷
+    feasible 1 3 2 [] ∷
     saves 9 30 27 3 ∷
     unsaved 12 ∷
     []
@@ -62,7 +62,7 @@ square = lengthOf 4 (measuredTable Euc2d (0 ∷ 0 ∷ 10 ∷ 0 ∷ 10 ∷ 10 ∷
 unfoldable pub allOpen : ℕ → ℕ → Bool
 allOpen = openIn 4 (replicate (edgeCount 4) 1)
 
--- the lengths among the crossing's points p, q, r, s, x, y, z, w, which are 1 to 8: `Eight` says which they are
+-- the lengths among the 3-opt closing's points p, q, r, s, x, y, z, w, which are 1 to 8: `Eight` says which they are
 unfoldable pub eight : ℕ → ℕ → ℕ → ℕ
 eight rs =
     lengthOf 8
@@ -89,9 +89,9 @@ pub record Eight (l : ℕ → ℕ → ℕ) (p q r s x y z w between : ℕ) : Typ
   pub qz : l q z ≡ 20
   pub rs : l r s ≡ between
 
--- the crossing has these lengths, and meets its conditions: refusal 15 does not apply
+-- the 3-opt closing has these lengths, and meets its conditions: refusal 15 does not apply
 abbrev pub Given : ℕ → Type 0
-Given rs = Eight (eight rs) 1 2 3 4 5 6 7 8 rs × Crossing centres 1 2 3 4 5 6 7 8
+Given rs = Eight (eight rs) 1 2 3 4 5 6 7 8 rs × ThreeOptMoves centres 1 2 3 4 5 6 7 8
 
 -- each of a labelling's two moves takes out one sum and puts in the other: the sides of `Saves`
 pub record Moves (l : ℕ → ℕ → ℕ) (p q r s x y z w taken put : ℕ) : Type 0 where
@@ -114,7 +114,7 @@ Claim (incompatible p q x y exchange both) =
     × (square p q + square x y ≡ both)
     × (Compatible square p q x y → ⊥)
 Claim (compatible p q x y) = Compatible square p q x y
-Claim (standing a b c pairs) = (x y : ℕ) → Among pairs x y ↔ FeasiblePair 4 square allOpen (edge a b ∷ []) c x y
+Claim (feasible a b c pairs) = (x y : ℕ) → Among pairs x y ↔ FeasiblePair 4 square allOpen (edge a b ∷ []) c x y
 Claim (compares c x y u v new old) =
     (square x y + square u c + square v c ≡ new)
     × (square u v + square x c + square y c ≡ old)

@@ -9,7 +9,8 @@ use lib.ListN.{length, length-append, List·getD-append}
 use lib.Seq.{getD-append-seam}
 use borrow.Author.Tests.{lt-ltb, le-ltb}
 use Rattle.text.specs.Words.{Room, Wrote}
-use Rattle.text.specs.Decimal.{digits, decimal, valueFrom, IsDecimal, field, DigitAsked}
+use Rattle.text.specs.Decimal.{digits, decimal, valueFrom, IsDecimal, fieldText}
+use Rattle.text.specs.asks.Decimal.{DigitAsked}
 use Rattle.text.proofs.Writing.{room-first, room-second, wrote-both}
 
 digits-last : (k n : ℕ) → n < 10 → digits (suc k) n ≡ (48 + n) ∷ []
@@ -116,13 +117,13 @@ module _ {out : List ℕ} {at : ℕ} (n : ℕ) (h : 10 ≤ n) where
   wrote-more v w = rw (decimal-more n h) (wrote-both v w)
 
 -- a field of an equal number
-pub field-room : {out : List ℕ} {at n e : ℕ} (word : List ℕ) → e ≡ n → Room out at (field word n) → Room out at (field word e)
+pub field-room : {out : List ℕ} {at n e : ℕ} (word : List ℕ) → e ≡ n → Room out at (fieldText word n) → Room out at (fieldText word e)
 field-room word h p = rw h p
 
-pub field-wrote : {out left : List ℕ} {at r n e : ℕ} (word : List ℕ) → e ≡ n → Wrote out at (field word e) r left → Wrote out at (field word n) r left
+pub field-wrote : {out left : List ℕ} {at r n e : ℕ} (word : List ℕ) → e ≡ n → Wrote out at (fieldText word e) r left → Wrote out at (fieldText word n) r left
 field-wrote word h w = rw (sym h) w
 
 -- a field of a number below 10 ^ k has at most k bytes behind its word
-pub field-length : (k : ℕ) (word : List ℕ) (n : ℕ) → n < 10 ^ suc k → length (field word n) ≤ length word + suc k
-unfolding field
+pub field-length : (k : ℕ) (word : List ℕ) (n : ℕ) → n < 10 ^ suc k → length (fieldText word n) ≤ length word + suc k
+unfolding fieldText
 field-length k word n h = omega (arith, length-append word (decimal n), decimal-length k n h)

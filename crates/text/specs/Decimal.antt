@@ -29,10 +29,5 @@ pub record IsDecimal (n : ℕ) (text : List ℕ) : Type 0 where
   pub none : n ≡ 0 → text ≡ 48 ∷ []
 
 -- a word and a number
-unfoldable pub field : List ℕ → ℕ → List ℕ
-field word n = word ++ decimal n
-
--- what writing a digit asks
-pub record DigitAsked (out : List ℕ) (at d : ℕ) : Type 0 where
-  pub small : d < 10
-  pub inside : at < length out
+unfoldable pub fieldText : List ℕ → ℕ → List ℕ
+fieldText word n = word ++ decimal n

@@ -1,2 +1,3 @@
+pub mod asks
 pub mod Decimal
 pub mod Words

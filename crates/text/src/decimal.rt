@@ -3,7 +3,8 @@ use crate::words::put_word;
 ghost use mathlib.Core.List.{[], _∷_};
 ghost use Prim.Native.Nat.{_+_};
 ghost use Rattle.text.specs.Words.{Room, Wrote};
-ghost use Rattle.text.specs.Decimal.{DigitAsked, decimal, field};
+ghost use Rattle.text.specs.Decimal.{decimal, fieldText};
+ghost use Rattle.text.specs.asks.Decimal.{DigitAsked};
 
 // Writes a digit.
 fn put_digit(digit: u32, out: &mut [u8], at: usize) -> usize
@@ -28,8 +29,8 @@ pub fn put_number(n: u32, out: &mut [u8], at: usize) -> usize
 
 // Writes a word and a number.
 pub fn put_field(word: &[u8], n: u32, out: &mut [u8], at: usize) -> usize
-    requires { ⌜ Room (now out) at (field (now word) n) ⌝ }
-    ensures { λ r. ⌜ Wrote (now (out .entry)) at (field (now (word .entry)) n) r (now (out .exit)) ⌝ }
+    requires { ⌜ Room (now out) at (fieldText (now word) n) ⌝ }
+    ensures { λ r. ⌜ Wrote (now (out .entry)) at (fieldText (now (word .entry)) n) r (now (out .exit)) ⌝ }
 {
     let next = put_word(word, out, at);
     put_number(n, out, next)

@@ -60,7 +60,7 @@ pub same-false : (a b : ℕ) → (a ≡ b → ⊥) → same a b ≡ 0
 unfolding same
 same-false a b h = bit-false (ℕ-discrete a b) h
 
-pub either? : {A B : Type 0} → Dec A → Dec B → Dec (A ⊎ B)
-either? (yes a) e = yes (inl a)
-either? (no k) (yes b) = yes (inr b)
-either? (no k) (no j) = no (λ s. elim s [ inl a ↦ k a | inr b ↦ j b ])
+pub either-dec : {A B : Type 0} → Dec A → Dec B → Dec (A ⊎ B)
+either-dec (yes a) e = yes (inl a)
+either-dec (no k) (yes b) = yes (inr b)
+either-dec (no k) (no j) = no (λ s. elim s [ inl a ↦ k a | inr b ↦ j b ])

@@ -78,7 +78,7 @@ meet (pt a) r h = subst (λ (u : ℕ). Meet (pt a) u) (same-fact a r h) (record 
 meet (S ▸ T) r h = ⊎-elim (λ k. meet-left S T (meet S r k)) (λ k. meet-right S T (meet T r k)) (positive (cnt r S) (cnt r T) h)
 
 -- S is a single point
-pub record Single {a b : ℕ} (S : Seg a b) : Type 0 where
+pub record SinglePoint {a b : ℕ} (S : Seg a b) : Type 0 where
   pub ends : a ≡ b
   pub counts : (v : ℕ) → cnt v S ≡ same b v
   pub lengths : (l : ℕ → ℕ → ℕ) → Symmetric l → len l S ≡ 0
@@ -90,7 +90,7 @@ pub record Snoc {a b : ℕ} (S : Seg a b) : Type 0 where
   pub counts : (v : ℕ) → cnt v S ≡ cnt v front + same b v
   pub lengths : (l : ℕ → ℕ → ℕ) → Symmetric l → len l S ≡ len l front + l before b
 
-snoc-single : {a b c d : ℕ} (S : Seg a b) (T : Seg c d) → Single T → Snoc (S ▸ T)
+snoc-single : {a b c d : ℕ} (S : Seg a b) (T : Seg c d) → SinglePoint T → Snoc (S ▸ T)
 unfolding cnt len
 snoc-single {b = b} S T X = record { before = b; front = S; counts = λ v. omega (arith, X .counts v); lengths = λ l y. omega (arith, X .lengths l y, ap (l b) (X .ends)) }
 
@@ -98,7 +98,7 @@ snoc-right : {a b c d : ℕ} (S : Seg a b) (T : Seg c d) → Snoc T → Snoc (S 
 unfolding cnt len
 snoc-right S T X = record { before = X .before; front = S ▸ X .front; counts = λ v. omega (arith, X .counts v); lengths = λ l y. omega (arith, X .lengths l y) }
 
-pub snoc : {a b : ℕ} (S : Seg a b) → Single S ⊎ Snoc S
+pub snoc : {a b : ℕ} (S : Seg a b) → SinglePoint S ⊎ Snoc S
 unfolding cnt len
 snoc (pt a) = inl (record { ends = refl; counts = λ v. refl; lengths = λ l y. refl })
 snoc (S ▸ T) = inr (⊎-elim (snoc-single S T) (snoc-right S T) (snoc T))
@@ -110,10 +110,10 @@ pub record Cons {a b : ℕ} (S : Seg a b) : Type 0 where
   pub counts : (v : ℕ) → cnt v S ≡ same a v + cnt v rest
   pub lengths : (l : ℕ → ℕ → ℕ) → Symmetric l → len l S ≡ l a next + len l rest
 
-pub cons : {a b : ℕ} (S : Seg a b) → Single S ⊎ Cons S
+pub cons : {a b : ℕ} (S : Seg a b) → SinglePoint S ⊎ Cons S
 cons {a} {b} S = go (snoc (rev S))
   where
-    go : Single (rev S) ⊎ Snoc (rev S) → Single S ⊎ Cons S
+    go : SinglePoint (rev S) ⊎ Snoc (rev S) → SinglePoint S ⊎ Cons S
     go (inl X) =
         inl
         (record {
@@ -131,10 +131,10 @@ cons {a} {b} S = go (snoc (rev S))
         })
 
 -- a segment that ends where it begins, and has that point once, is a single point
-pub loop-single : {a b : ℕ} (S : Seg a b) → a ≡ b → cnt b S ≤ 1 → Single S
+pub loop-single : {a b : ℕ} (S : Seg a b) → a ≡ b → cnt b S ≤ 1 → SinglePoint S
 loop-single {a} {b} S e h = go (snoc S)
   where
-    go : Single S ⊎ Snoc S → Single S
+    go : SinglePoint S ⊎ Snoc S → SinglePoint S
     go (inl X) = X
     go (inr X) = absurd (omega (arith, X .counts b, same-self b, subst (λ (u : ℕ). 1 ≤ cnt u (X .front)) e (cnt-first (X .front))))
 
@@ -153,7 +153,7 @@ inner {a} {b} S r h ra rb = go (snoc (M .left)) (cons (M .right))
     M : Meet S r
     M = meet S r h
 
-    go : Single (M .left) ⊎ Snoc (M .left) → Single (M .right) ⊎ Cons (M .right) → Inner S r
+    go : SinglePoint (M .left) ⊎ Snoc (M .left) → SinglePoint (M .right) ⊎ Cons (M .right) → Inner S r
     go (inl X) Y = absurd (ra (sym (X .ends)))
     go (inr X) (inl Y) = absurd (rb (Y .ends))
     go (inr X) (inr Y) =

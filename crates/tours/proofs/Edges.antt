@@ -13,7 +13,7 @@ use native.Mathlib.Omega.{arith}
 use Rattle.lengths.specs.Edge.{Edge, edge}
 use Rattle.sets.specs.EdgeSet.{Joins, Has, pathEdges, closedEdges}
 use Rattle.tours.specs.Tour.{total, tourLength, Uses, Symmetric}
-use Rattle.tours.proofs.Bit.{positive, bit, bit-true, bit-false, bit-fact, bit-cong, either?}
+use Rattle.tours.proofs.Bit.{positive, bit, bit-true, bit-false, bit-fact, bit-cong, either-dec}
 
 -- the edges es are edges of fs
 abbrev pub Inside : List Edge → List Edge → Type 0
@@ -42,28 +42,28 @@ inside-cons es fs p q h k a b (inl (inr e)) = subst₂ (λ (u v : ℕ). Has fs u
 inside-cons es fs p q h k a b (inr j) = k a b j
 
 -- whether the edge ab is pq
-pub joins? : (a b p q : ℕ) → Dec (Joins (edge a b) p q)
-joins? a b p q = either? (Dec·and (ℕ-discrete a p) (ℕ-discrete b q)) (Dec·and (ℕ-discrete a q) (ℕ-discrete b p))
+pub joins-dec : (a b p q : ℕ) → Dec (Joins (edge a b) p q)
+joins-dec a b p q = either-dec (Dec·and (ℕ-discrete a p) (ℕ-discrete b q)) (Dec·and (ℕ-discrete a q) (ℕ-discrete b p))
 
 -- the length that is 1 on pq and 0 on every other edge
 unfoldable pub mark : ℕ → ℕ → ℕ → ℕ → ℕ
-mark p q a b = bit (joins? a b p q)
+mark p q a b = bit (joins-dec a b p q)
 
 pub mark-self : (p q : ℕ) → mark p q p q ≡ 1
 unfolding mark
-mark-self p q = bit-true (joins? p q p q) (inl (refl, refl))
+mark-self p q = bit-true (joins-dec p q p q) (inl (refl, refl))
 
 pub mark-true : (p q a b : ℕ) → Joins (edge a b) p q → mark p q a b ≡ 1
 unfolding mark
-mark-true p q a b h = bit-true (joins? a b p q) h
+mark-true p q a b h = bit-true (joins-dec a b p q) h
 
 pub mark-fact : (p q a b : ℕ) → 1 ≤ mark p q a b → Joins (edge a b) p q
 unfolding mark
-mark-fact p q a b h = bit-fact (joins? a b p q) h
+mark-fact p q a b h = bit-fact (joins-dec a b p q) h
 
 pub mark-false : (p q a b : ℕ) → (Joins (edge a b) p q → ⊥) → mark p q a b ≡ 0
 unfolding mark
-mark-false p q a b h = bit-false (joins? a b p q) h
+mark-false p q a b h = bit-false (joins-dec a b p q) h
 
 -- an edge is the same in either order
 turn-joins : (a b p q : ℕ) → Joins (edge a b) p q → Joins (edge b a) p q
@@ -72,7 +72,7 @@ turn-joins a b p q (inr h) = inl (h .1, h .0)
 
 pub mark-symmetric : (p q : ℕ) → Symmetric (mark p q)
 unfolding mark
-mark-symmetric p q a b = bit-cong (joins? a b p q) (joins? b a p q) (turn-joins a b p q) (turn-joins b a p q)
+mark-symmetric p q a b = bit-cong (joins-dec a b p q) (joins-dec b a p q) (turn-joins a b p q) (turn-joins b a p q)
 
 pub has-total : (es : List Edge) (p q : ℕ) → Has es p q → 1 ≤ total (mark p q) es
 unfolding total

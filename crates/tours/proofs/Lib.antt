@@ -6,7 +6,7 @@ pub mod Segment
 pub mod Turn
 pub mod Cut
 pub mod Opened
-pub mod Neighbours
+pub mod TourNeighbours
 pub mod ShortCycle
 pub mod Exchange
 pub mod TwoOpt

@@ -12,7 +12,7 @@ use Rattle.tours.proofs.Count.{tour-once}
 use Rattle.tours.proofs.Edges.{Inside, has-sym, joins-apart, mark, mark-false, mark-symmetric, uses-length}
 use Rattle.tours.proofs.Segment.{pt, _▸_, cnt, len}
 use Rattle.tours.proofs.Cut.{Cut, cut}
-use Rattle.tours.proofs.Neighbours.{Around, around}
+use Rattle.tours.proofs.TourNeighbours.{Around, around}
 use Rattle.tours.proofs.Exchange.{Exchanged, rejoin, inside-three}
 
 -- Without c, the tour is a path from y to x. The edge uv does not touch c, so the path uses it: cut it there. With c between the two

@@ -15,7 +15,7 @@ use Rattle.tours.proofs.Count.{count-cons, tour-once, length-all}
 use Rattle.tours.proofs.Edges.{Inside, has-sym, mark, mark-self, mark-symmetric, length-uses}
 use Rattle.tours.proofs.Segment.{Seg, pt, _▸_, cnt, len, cnt-last}
 use Rattle.tours.proofs.Opened.{Opened, opened}
-use Rattle.tours.proofs.Neighbours.{only-two, uses-count, some-edge, TwoEdges, two-edges}
+use Rattle.tours.proofs.TourNeighbours.{only-two, uses-count, some-edge, TwoEdges, two-edges}
 
 -- what the first point has, and each edge hands on, every point of the segment has
 spread : {a b : ℕ} (S : Seg a b) (P : ℕ → Type 0) → ((u v : ℕ) → 1 ≤ len (mark u v) S → P u → P v) → P a → (v : ℕ) → 1 ≤ cnt v S → P v

@@ -16,7 +16,7 @@ use Rattle.tours.proofs.Edges.{has-sym, mark, mark-self, mark-true, mar
 use Rattle.tours.proofs.Segment.{Seg, pt, _▸_, cnt, len, rev, cnt-rev, len-rev, cnt-first, cnt-last}
 use Rattle.tours.proofs.Cut.{Inner, inner}
 use Rattle.tours.proofs.Opened.{Opened, opened}
-use Rattle.tours.proofs.Neighbours.{same-two, uses-count}
+use Rattle.tours.proofs.TourNeighbours.{same-two, uses-count}
 use Rattle.tours.proofs.Exchange.{Exchanged, rejoin, exchanged-as, inside-three}
 
 -- the tour as a path from p to q with r on it: p .. a, r, b .. q

@@ -7,9 +7,9 @@ use mathlib.Core.List.{List}
 use mathlib.Core.Logic.{_⊎_, inl, inr, ⊎-elim, by-cases}
 use Rattle.lengths.specs.Edge.{Edge}
 use Rattle.sets.specs.EdgeSet.{Has, AtMostTwo, withPair}
-use Rattle.sets.specs.Shape.{Apart}
+use Rattle.sets.specs.asks.Shape.{Apart}
 use Rattle.sets.proofs.Laws.Joined.{pigeon}
-use Rattle.sets.proofs.Laws.Near.{Forks}
+use Rattle.sets.proofs.Laws.Neighbours.{Forks}
 
 -- what K with the pair has
 pub pair-has : (K : List Edge) (c x y a b : ℕ) → Has (withPair K c x y) a b
@@ -47,7 +47,7 @@ old-edge K c x y a b h ac bc =
     ⊎-elim (λ w. absurd (ac (w .0))) (⊎-elim (λ w. absurd (bc (w .0))) (λ k. k)) (pair-has K c x y a b h)
 
 -- what condition 2 asks of K for the pair x, y at c
-pub record Room (K : List Edge) (c x y : ℕ) : Type 0 where
+pub record RoomForPair (K : List Edge) (c x y : ℕ) : Type 0 where
   pub at-c : (u : ℕ) → Has K c u → (u ≡ x) ⊎ (u ≡ y)
   pub at-x : Forks K x c → ⊥
   pub at-y : Forks K y c → ⊥
@@ -74,30 +74,30 @@ one-more K v c nf a b d (inr p) (inl q) (inl r) = inr (inr (q ∙ sym r))
 one-more K v c nf a b d (inr p) (inl q) (inr r) = inr (inl (same K v c a d nf (p .0) (r .0) (p .1) (r .1)))
 
 module _ (K : List Edge) (c x y : ℕ) (ap : Apart c x y) where
-  near-c : ((u : ℕ) → Has K c u → (u ≡ x) ⊎ (u ≡ y)) → (v b : ℕ) → v ≡ c → Has (withPair K c x y) v b → (b ≡ x) ⊎ (b ≡ y)
-  near-c at v b e h =
+  neighbour-c : ((u : ℕ) → Has K c u → (u ≡ x) ⊎ (u ≡ y)) → (v b : ℕ) → v ≡ c → Has (withPair K c x y) v b → (b ≡ x) ⊎ (b ≡ y)
+  neighbour-c at v b e h =
       ⊎-elim (λ w. w .1)
       (⊎-elim (λ w. absurd (⊎-elim (λ f. ap .x-c (sym f ∙ e)) (λ f. ap .y-c (sym f ∙ e)) (w .1)))
       (λ k. at b (subst (λ (t : ℕ). Has K t b) e k))) (pair-has K c x y v b h)
 
-  near-other : (v b : ℕ) → (v ≡ c → ⊥) → Has (withPair K c x y) v b → (b ≡ c) ⊎ Has K v b
-  near-other v b ne h = ⊎-elim (λ w. absurd (ne (w .0))) (⊎-elim (λ w. inl (w .0)) inr) (pair-has K c x y v b h)
+  neighbour-other : (v b : ℕ) → (v ≡ c → ⊥) → Has (withPair K c x y) v b → (b ≡ c) ⊎ Has K v b
+  neighbour-other v b ne h = ⊎-elim (λ w. absurd (ne (w .0))) (⊎-elim (λ w. inl (w .0)) inr) (pair-has K c x y v b h)
 
   far-other : (v b : ℕ) → (v ≡ c → ⊥) → (v ≡ x → ⊥) → (v ≡ y → ⊥) → Has (withPair K c x y) v b → Has K v b
   far-other v b nc nx ny h =
       ⊎-elim (λ w. absurd (nc (w .0))) (⊎-elim (λ w. absurd (⊎-elim nx ny (w .1))) (λ k. k)) (pair-has K c x y v b h)
 
   -- with room for the pair no point gets three edges
-  pub two-of-room : AtMostTwo K → Room K c x y → AtMostTwo (withPair K c x y)
+  pub two-of-room : AtMostTwo K → RoomForPair K c x y → AtMostTwo (withPair K c x y)
   two-of-room two r v a b d ha hb hd = by-cases (ℕ-discrete v c) at-c′ rest
     where
       at-c′ : v ≡ c → (a ≡ b) ⊎ ((a ≡ d) ⊎ (b ≡ d))
-      at-c′ e = pigeon (near-c (r .at-c) v a e ha) (near-c (r .at-c) v b e hb) (near-c (r .at-c) v d e hd)
+      at-c′ e = pigeon (neighbour-c (r .at-c) v a e ha) (neighbour-c (r .at-c) v b e hb) (neighbour-c (r .at-c) v d e hd)
 
       beside : (v ≡ c → ⊥) → (Forks K v c → ⊥) → (a ≡ b) ⊎ ((a ≡ d) ⊎ (b ≡ d))
       beside nc nf =
-          one-more K v c nf a b d (new-or-old K v c a (near-other v a nc ha)) (new-or-old K v c b (near-other v b nc hb))
-          (new-or-old K v c d (near-other v d nc hd))
+          one-more K v c nf a b d (new-or-old K v c a (neighbour-other v a nc ha)) (new-or-old K v c b (neighbour-other v b nc hb))
+          (new-or-old K v c d (neighbour-other v d nc hd))
 
       far : (v ≡ c → ⊥) → (v ≡ x → ⊥) → (v ≡ y → ⊥) → (a ≡ b) ⊎ ((a ≡ d) ⊎ (b ≡ d))
       far nc nx ny = two v a b d (far-other v a nc nx ny ha) (far-other v b nc nx ny hb) (far-other v d nc nx ny hd)
@@ -113,7 +113,7 @@ module _ (K : List Edge) (c x y : ℕ) (ap : Apart c x y) where
       (two v (f .a) (f .b) c (pair-keeps K c x y v (f .a) (f .has-a)) (pair-keeps K c x y v (f .b) (f .has-b)) vc)
 
   -- where no point has three edges, there was room
-  pub room-of-two : AtMostTwo (withPair K c x y) → Room K c x y
+  pub room-of-two : AtMostTwo (withPair K c x y) → RoomForPair K c x y
   room-of-two two =
       record {
         at-c = λ u h.

@@ -13,21 +13,21 @@ use lib.ListN.{length}
 use borrow.Author.Tests.{eqb-true, eqb-false}
 use Rattle.lengths.specs.Edge.{Edge}
 use Rattle.sets.specs.EdgeSet.{Has, AtMostTwo, NoShortCycle, withPair}
-use Rattle.sets.specs.Near.{neighbours, beyond}
+use Rattle.sets.specs.Neighbours.{neighboursOf, beyond}
 use Rattle.sets.specs.Shape.{reaches?, goesOn}
-use Rattle.sets.specs.declared.near.Next.{Next}
-use Rattle.sets.specs.declared.near.Next.the-variants.{Stop, On, Fork}
+use Rattle.sets.specs.declared.neighbours.PathStep.{PathStep}
+use Rattle.sets.specs.declared.neighbours.PathStep.the-variants.{Stop, On, Fork}
 use Rattle.sets.proofs.Laws.Cycle.{Sides}
 use Rattle.sets.proofs.Laws.Degree.{pair-keeps, pair-y, old-edge}
-use Rattle.sets.proofs.Laws.Near.{Onward, onward-exact}
-use Rattle.sets.proofs.Laws.Points.{In, fits}
+use Rattle.sets.proofs.Laws.Neighbours.{Onward, onward-exact}
+use Rattle.sets.proofs.Laws.Points.{In, distinct-fits}
 use Rattle.sets.proofs.Laws.Trail.{Trail, extend, closes, last-in}
 
 module _ (K : List Edge) (c x y : ℕ) (two : AtMostTwo (withPair K c x y)) (plain : (v : ℕ) → Has (withPair K c x y) v v → ⊥) where
   found-step : (n f at from : ℕ) (rest : List ℕ) → Trail (withPair K c x y) c y at from rest → NoShortCycle n (withPair K c x y)
       → suc f ≤ n - length (at ∷ from ∷ rest)
       → ((v : ℕ) → Trail (withPair K c x y) c y v at (from ∷ rest) → reaches? f K at v y ≡ true → ⊥)
-      → (t : Bool) → eqb at y ≡ t → (m : Next) → Onward K at from m → (t || goesOn m (λ v. reaches? f K at v y)) ≡ true → ⊥
+      → (t : Bool) → eqb at y ≡ t → (m : PathStep) → Onward K at from m → (t || goesOn m (λ v. reaches? f K at v y)) ≡ true → ⊥
   unfolding goesOn
   found-step n f at from rest t long fuel rec true e m h r =
       omega (arith, long (at ∷ from ∷ rest) (closes (withPair K c x y) two plain c y (pair-y K c x y) at from rest t (eqb-true at y e)))
@@ -44,7 +44,7 @@ module _ (K : List Edge) (c x y : ℕ) (two : AtMostTwo (withPair K c x y)) (pla
   found n zero at from rest t long fuel r = false≢true r
   found n (suc f) at from rest t long fuel r =
       found-step n f at from rest t long fuel (λ v s. found n f v at (from ∷ rest) s long (omega arith)) (eqb at y) refl
-      (beyond (neighbours K at) from) (onward-exact K at from) r
+      (beyond (neighboursOf K at) from) (onward-exact K at from) r
 
   -- a neighbour other than `from`
   record Away (ws : List ℕ) (at from : ℕ) : Type 0 where
@@ -61,7 +61,7 @@ module _ (K : List Edge) (c x y : ℕ) (two : AtMostTwo (withPair K c x y)) (pla
 
   met-step : (ws : List ℕ) (f at from : ℕ) (rest : List ℕ) → Trail (withPair K c x y) c y at from rest → Away ws at from
       → ((v : ℕ) → Trail (withPair K c x y) c y v at (from ∷ rest) → In v ws → reaches? f K at v y ≡ true)
-      → (t : Bool) → eqb at y ≡ t → (m : Next) → Onward K at from m → (t || goesOn m (λ v. reaches? f K at v y)) ≡ true
+      → (t : Bool) → eqb at y ≡ t → (m : PathStep) → Onward K at from m → (t || goesOn m (λ v. reaches? f K at v y)) ≡ true
   unfolding goesOn
   met-step ws f at from rest t a rec true e m h = refl
   met-step ws f at from rest t a rec false e m h = go m h
@@ -76,7 +76,7 @@ module _ (K : List Edge) (c x y : ℕ) (two : AtMostTwo (withPair K c x y)) (pla
       old =
           old-edge K c x y at (a .w) (a .has) (λ q. t .distinct .0 (rw q c-in)) (λ q. ext .distinct .0 (rw q (inr c-in)))
 
-      go : (m : Next) → Onward K at from m → goesOn m (λ v. reaches? f K at v y) ≡ true
+      go : (m : PathStep) → Onward K at from m → goesOn m (λ v. reaches? f K at v y) ≡ true
       go Stop h = absurd (a .new (h (a .w) old))
       go (On v) h =
           let same : a .w ≡ v = h .only (a .w) old (a .new) in
@@ -84,15 +84,15 @@ module _ (K : List Edge) (c x y : ℕ) (two : AtMostTwo (withPair K c x y)) (pla
       go Fork h =
           absurd
           (⊎-elim (h .a-b) (⊎-elim (h .a-from) (h .b-from))
-          (two at (h .a) (h .b) from (pair-keeps K c x y at (h .a) (h .has-a)) (pair-keeps K c x y at (h .b) (h .has-b)) (t .chain .0)))
+          (two at (h .a) (h .b) from (pair-keeps K c x y at (h .a) (h .has-a)) (pair-keeps K c x y at (h .b) (h .has-b)) (t .path .0)))
 
   -- among the points of a short cycle y is met in time
   pub met : (n : ℕ) (ws : List ℕ) → length ws < n → ((u : ℕ) → In u ws → Sides (withPair K c x y) ws u) → (f at from : ℕ) (rest : List ℕ)
       → Trail (withPair K c x y) c y at from rest → ((u : ℕ) → In u (at ∷ from ∷ rest) → In u ws) → n ≤ length (at ∷ from ∷ rest) + f
       → reaches? f K from at y ≡ true
   unfolding reaches?
-  met n ws short sides zero at from rest t sub fuel = absurd (omega (arith, fits (at ∷ from ∷ rest) ws (t .distinct) sub))
+  met n ws short sides zero at from rest t sub fuel = absurd (omega (arith, distinct-fits (at ∷ from ∷ rest) ws (t .distinct) sub))
   met n ws short sides (suc f) at from rest t sub fuel =
       met-step ws f at from rest t (away ws at from (sides at (sub at (inl refl))))
       (λ v s k. met n ws short sides f v at (from ∷ rest) s (λ u. ⊎-elim (λ e. rw (← e) k) (sub u)) (omega arith)) (eqb at y) refl
-      (beyond (neighbours K at) from) (onward-exact K at from)
+      (beyond (neighboursOf K at) from) (onward-exact K at from)

@@ -81,9 +81,9 @@ remove u (w ∷ ws) (inr h) =
     }
 
 -- a list without repeated points is no longer than a list that has all of them
-pub fits : (us ws : List ℕ) → Distinct us → ((v : ℕ) → In v us → In v ws) → length us ≤ length ws
-fits [] ws d sub = omega arith
-fits (u ∷ us) ws d sub =
+pub distinct-fits : (us ws : List ℕ) → Distinct us → ((v : ℕ) → In v us → In v ws) → length us ≤ length ws
+distinct-fits [] ws d sub = omega arith
+distinct-fits (u ∷ us) ws d sub =
     let r = remove u ws (sub u (inl refl)) in
-    let ih : length us ≤ length (r .rest) = fits us (r .rest) (d .1) (λ v k. r .keeps v (sub v (inr k)) (λ e. d .0 (rw e k))) in
+    let ih : length us ≤ length (r .rest) = distinct-fits us (r .rest) (d .1) (λ v k. r .keeps v (sub v (inr k)) (λ e. d .0 (rw e k))) in
     omega (arith, r .shorter)

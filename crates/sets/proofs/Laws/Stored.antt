@@ -14,8 +14,8 @@ use lib.Seq.{getD-set-same, getD-set-other}
 use Rattle.lengths.specs.Edge.{Edge, edge, Point}
 use Rattle.sets.specs.EdgeSet.{Has, withPair}
 use Rattle.sets.specs.Joined.{joins?, has?}
-use Rattle.sets.specs.Near.{neighbours, seen}
-use Rattle.sets.specs.Stored.{edgesOf, edgeList, Stored, Held, Added, Single, mostKnown}
+use Rattle.sets.specs.Neighbours.{neighboursOf, seen}
+use Rattle.sets.specs.asks.Stored.{edgesOf, edgeList, Stored, Held, Added, Single, mostKnown}
 use Rattle.sets.specs.declared.edge_set.EdgeSet.{EdgeSet}
 
 -- one edge more
@@ -30,8 +30,8 @@ edgesOf-down f t i h =
     ap (λ (m : ℕ). edgesOf f t m) e ∙ edgesOf-up f t (i - 1)
 
 -- v's neighbours in one edge more
-pub neighbours-up : (f t : List ℕ) (i v : ℕ) → neighbours (edgesOf f t (i + 1)) v ≡ seen (getD f i 0) (getD t i 0) v (neighbours (edgesOf f t i) v)
-unfolding neighbours
+pub neighbours-up : (f t : List ℕ) (i v : ℕ) → neighboursOf (edgesOf f t (i + 1)) v ≡ seen (getD f i 0) (getD t i 0) v (neighboursOf (edgesOf f t i) v)
+unfolding neighboursOf
 neighbours-up f t i v = rw edgesOf-up
 
 -- an edge that is there

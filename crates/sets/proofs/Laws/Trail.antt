@@ -12,9 +12,9 @@ use Rattle.sets.proofs.Laws.Points.{In, Distinct, once-of-distinct}
 use Rattle.sets.proofs.Laws.Joined.{has-sym}
 
 -- E has each point's edge to the next
-abbrev pub Chain : List Edge → ℕ → List ℕ → Type 0
-Chain E a [] = Unit {0}
-Chain E a (b ∷ vs) = Has E a b × Chain E b vs
+abbrev pub PathIn : List Edge → ℕ → List ℕ → Type 0
+PathIn E a [] = Unit {0}
+PathIn E a (b ∷ vs) = Has E a b × PathIn E b vs
 
 -- the last point of a list that starts with a
 abbrev pub lastOf : ℕ → List ℕ → ℕ
@@ -23,7 +23,7 @@ lastOf a (b ∷ vs) = lastOf b vs
 
 -- the test stands at `at` and came over `from` and `rest`, from c, and has not met y before `at`
 pub record Trail (E : List Edge) (c y at from : ℕ) (rest : List ℕ) : Type 0 where
-  pub chain : Chain E at (from ∷ rest)
+  pub path : PathIn E at (from ∷ rest)
   pub distinct : Distinct (at ∷ from ∷ rest)
   pub ends : lastOf from rest ≡ c
   pub no-y : In y (from ∷ rest) → ⊥
@@ -33,7 +33,7 @@ pub last-in : (c a : ℕ) (vs : List ℕ) → lastOf a vs ≡ c → In c (a ∷ 
 last-in c a [] e = inl e
 last-in c a (b ∷ vs) e = inr (last-in c b vs e)
 
-path-inside : (E : List Edge) (a : ℕ) (vs : List ℕ) (z : ℕ) → Chain E a vs → Has E (lastOf a vs) z → (p q : ℕ) → Has (pathEdges a vs z) p q → Has E p q
+path-inside : (E : List Edge) (a : ℕ) (vs : List ℕ) (z : ℕ) → PathIn E a vs → Has E (lastOf a vs) z → (p q : ℕ) → Has (pathEdges a vs z) p q → Has E p q
 unfolding pathEdges
 path-inside E a [] z ch h p q (inl (inl e)) = subst₂ (Has E) (e .0) (e .1) h
 path-inside E a [] z ch h p q (inl (inr e)) = subst₂ (Has E) (e .1) (e .0) (has-sym E a z h)
@@ -45,7 +45,7 @@ path-inside E a (b ∷ vs) z ch h p q (inr k) = path-inside E b vs z (ch .1) h p
 module _ (E : List Edge) (two : AtMostTwo E) (plain : (v : ℕ) → Has E v v → ⊥) (c y : ℕ) (cy : Has E c y) where
   -- v, a neighbour of `at`, is none of the points before the last but one: each of these has its two neighbours on the trail,
   -- and c has its two in the trail's second point and in y
-  fresh : (at v w : ℕ) (us : List ℕ) → Has E v at → Chain E w us → Distinct (w ∷ us) → (In at (w ∷ us) → ⊥) → lastOf w us ≡ c
+  fresh : (at v w : ℕ) (us : List ℕ) → Has E v at → PathIn E w us → Distinct (w ∷ us) → (In at (w ∷ us) → ⊥) → lastOf w us ≡ c
       → (In y (w ∷ us) → ⊥) → (at ≡ y → ⊥) → In v us → ⊥
   fresh at v w [] va ch d na l ny ay h = h
   fresh at v w (u ∷ []) va ch d na l ny ay (inl e) =
@@ -63,7 +63,7 @@ module _ (E : List Edge) (two : AtMostTwo E) (plain : (v : ℕ) → Has E v v �
       → Trail E c y v at (from ∷ rest)
   extend at from v rest t ay av vf =
       record {
-        chain = (has-sym E at v av, t .chain);
+        path = (has-sym E at v av, t .path);
         distinct = (new, t .distinct);
         ends = t .ends;
         no-y = ⊎-elim ay (t .no-y);
@@ -74,7 +74,7 @@ module _ (E : List Edge) (two : AtMostTwo E) (plain : (v : ℕ) → Has E v v �
       new =
           ⊎-elim (λ e. plain v (subst (λ (w : ℕ). Has E w v) e av))
           (⊎-elim (λ e. vf (sym e))
-          (fresh at v from rest (has-sym E at v av) (t .chain .1) (t .distinct .1) (t .distinct .0) (t .ends) (t .no-y) ay))
+          (fresh at v from rest (has-sym E at v av) (t .path .1) (t .distinct .1) (t .distinct .0) (t .ends) (t .no-y) ay))
 
   -- a trail that has met y closes to a cycle
   pub closes : (at from : ℕ) (rest : List ℕ) → Trail E c y at from rest → at ≡ y → Cycle E (at ∷ from ∷ rest)
@@ -83,5 +83,5 @@ module _ (E : List Edge) (two : AtMostTwo E) (plain : (v : ℕ) → Has E v v �
       record {
         three = omega (arith, t .some);
         once = once-of-distinct (at ∷ from ∷ rest) (t .distinct);
-        inside = path-inside E at (from ∷ rest) at (t .chain) (rw (t .ends, e) cy);
+        inside = path-inside E at (from ∷ rest) at (t .path) (rw (t .ends, e) cy);
       }

@@ -14,11 +14,11 @@ abbrev μ-loop : tie.MeasureT-loop
 loop-holds : tie.Need-loop-holds Inv-loop μ-loop
 loop-holds c = search needs
 
-shared-slice-read-number8 : tie.Need-shared-slice-read-number8 Inv-loop μ-loop
-shared-slice-read-number8 c = search needs
+shared-slice-read-mark : tie.Need-shared-slice-read-mark Inv-loop μ-loop
+shared-slice-read-mark c = search needs
 
-number8-requires : tie.Need-number8-requires Inv-loop μ-loop
-number8-requires c κs = search needs
+mark-requires : tie.Need-mark-requires Inv-loop μ-loop
+mark-requires c κs = search needs
 
 add-i : tie.Need-add-i Inv-loop μ-loop
 add-i c = search needs
@@ -39,8 +39,8 @@ marks-spec =
     Inv-loop
     μ-loop
     loop-holds
-    shared-slice-read-number8
-    number8-requires
+    shared-slice-read-mark
+    mark-requires
     add-i
     loop-less
     loop-again

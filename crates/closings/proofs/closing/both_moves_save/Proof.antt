@@ -1,5 +1,5 @@
 -- `closings::closing::both_moves_save` meets its contract: the first move decides whether the second is looked at. Assumes nothing.
-use Rattle.closings.proofs.Crossings.{first-saves, first-fails}
+use Rattle.closings.proofs.ClosingTests.{first-saves, first-fails}
 use borrow.Author.Needs.{needs}
 use Rattle.closings.proofs.closing.both_moves_save.Statement.{statement}
 use Rattle.closings.proofs.closing.both_moves_save.Tie as tie

@@ -1,6 +1,6 @@
 -- `closings::closing::end_by` meets its contract. Assumes nothing.
 use borrow.Author.Tests.{eq-eqb, ne-eqb}
-use Rattle.closings.specs.ClosingTest.{pick}
+use Rattle.closings.specs.asks.ClosingTest.{pick}
 use Rattle.closings.proofs.closing.end_by.Statement.{statement}
 use Rattle.closings.proofs.closing.end_by.Tie as tie
 

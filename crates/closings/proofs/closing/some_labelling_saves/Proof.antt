@@ -7,20 +7,21 @@ use native.Mathlib.Omega.{arith}
 use denote.Ref.{now}
 use borrow.Author.Count.{below-none, below-more}
 use borrow.Author.Needs.{needs}
+use Rattle.endian.specs.Bytes.{whole32}
 use Rattle.lengths.specs.Table.{lengthOf}
-use Rattle.closings.proofs.Crossings.{cell, NoneBelow, cell-at, row-done, cell-saves, none-saves, swapped}
+use Rattle.closings.proofs.ClosingTests.{cell, NoneBelow, cell-at, row-done, cell-saves, none-saves, swapped}
 use Rattle.closings.proofs.closing.some_labelling_saves.Statement.{statement}
 use Rattle.closings.proofs.closing.some_labelling_saves.Tie as tie
 
 abbrev Inv-loop : tie.InvT-loop
 Inv-loop n table p q r s x y z w saves₀ i a b j₀ saves j =
-    (j ≤ 2) × (saves ≡ false) × ((k : ℕ) → k < j → cell (lengthOf n table) p q r s x y z w i k ≡ false)
+    (j ≤ 2) × (saves ≡ false) × ((k : ℕ) → k < j → cell (lengthOf n (whole32 table)) p q r s x y z w i k ≡ false)
 
 abbrev μ-loop : tie.MeasureT-loop
 μ-loop n table p q r s x y z w saves₀ i a b j₀ saves j = 2 - j
 
 abbrev Inv-swaps : tie.InvT-swaps
-Inv-swaps n table p q r s x y z w saves₀ i₀ saves i = (i ≤ 2) × (saves ≡ false) × NoneBelow (lengthOf n table) p q r s x y z w i
+Inv-swaps n table p q r s x y z w saves₀ i₀ saves i = (i ≤ 2) × (saves ≡ false) × NoneBelow (lengthOf n (whole32 table)) p q r s x y z w i
 
 abbrev μ-swaps : tie.MeasureT-swaps
 μ-swaps n table p q r s x y z w saves₀ i₀ saves i = 2 - i
@@ -29,7 +30,7 @@ abbrev μ-swaps : tie.MeasureT-swaps
 abbrev cell-of : tie.Start Inv-loop μ-loop Inv-swaps μ-swaps → ℕ → ℕ → Bool
 cell-of c =
     let a = c .args in
-    cell (lengthOf (a .n) (now (a .table))) (a .p) (a .q) (a .r) (a .s) (a .x) (a .y) (a .z) (a .w)
+    cell (lengthOf (a .n) (whole32 (now (a .table)))) (a .p) (a .q) (a .r) (a .s) (a .x) (a .y) (a .z) (a .w)
 
 abbrev inner : tie.After-both-moves-save Inv-loop μ-loop Inv-swaps μ-swaps → tie.At-loop Inv-loop μ-loop Inv-swaps μ-swaps
 inner c = c .before .before .before .before

@@ -1,6 +1,6 @@
 -- `enumeration::find::barred_in` meets its contract, by the cases of its test. Assumes nothing.
 use borrow.Author.Tests.{eq-eqb, ne-eqb}
-use Rattle.enumeration.specs.Find.{barredIn}
+use Rattle.enumeration.specs.asks.Find.{barredIn}
 use Rattle.enumeration.proofs.find.barred_in.Statement.{statement}
 use Rattle.enumeration.proofs.find.barred_in.Tie as tie
 

@@ -3,13 +3,14 @@ use Prim.Native.Nat.{_+_, _-_, _*_}
 use native.Mathlib.Omega.{arith}
 use lib.Seq.{lt-length-set}
 use borrow.Author.Needs.{needs}
+use Rattle.endian.specs.Bytes.{whole32}
 use Rattle.enumeration.proofs.Rows.{row-far, Rowing, row-edge, rowing-start, rowing-on, rowing-end, in-table, place-small, has-room, one-more}
 use Rattle.enumeration.proofs.find.find_in_row.Statement.{statement}
 use Rattle.enumeration.proofs.find.find_in_row.Tie as tie
 
 abbrev Inv-loop : tie.InvT-loop
 Inv-loop n table legs bound x barred found₀ before leg cost first start left skip count₀ i₀ found count i =
-    Rowing n table legs bound x barred found₀ before cost first found count i
+    Rowing n (whole32 table) legs bound x barred found₀ before cost first found count i
 
 abbrev μ-loop : tie.MeasureT-loop
 μ-loop n table legs bound x barred found₀ before leg cost first start left skip count₀ i₀ found count i = n - x - i
@@ -24,7 +25,7 @@ returns : tie.Need-returns Inv-loop μ-loop
 returns c = row-far (c .before .before .before .before .args .barred) (c .before .before .before .before .pre) (c .if1 .taken)
 
 add-cost : tie.Need-add-cost Inv-loop μ-loop
-add-cost c = omega (arith, c .before .before .before .before .pre .bounded .list .near (c .before .before .before .before .args .x))
+add-cost c = omega (arith, c .before .before .before .before .pre .bounded .list .at-most-far (c .before .before .before .before .args .x))
 
 add-place : tie.Need-add-place Inv-loop μ-loop
 add-place c = search needs
@@ -75,25 +76,22 @@ element-copy-out-kept : tie.Need-element-copy-out-kept Inv-loop μ-loop
 element-copy-out-kept c = search needs
 
 add-kept : tie.Need-add-kept Inv-loop μ-loop
-add-kept c = omega (arith, c .before .before .before .before .before .before .before .before .pre .bounded .list .near (c .before .before .before .before .before .before .before .before .args .x), c .before .before .before .before .before .before .before .before .pre .bounded .list .near (c .before .before .before .before .before .before .before .before .args .x + 1 + c .before .before .loop .i))
+add-kept c = omega (arith, c .before .before .before .before .before .before .before .before .pre .bounded .list .at-most-far (c .before .before .before .before .before .before .before .before .args .x), c .before .before .before .before .before .before .before .before .pre .bounded .list .at-most-far (c .before .before .before .before .before .before .before .before .args .x + 1 + c .before .before .loop .i))
+
+add-number32 : tie.Need-add-number32 Inv-loop μ-loop
+add-number32 c = omega (arith, place-small (c .before .before .loop .inv) (c .before .loop-test .taken))
+
+number32-requires : tie.Need-number32-requires Inv-loop μ-loop
+number32-requires c κs = in-table (c .before .before .loop .inv) (c .before .loop-test .taken)
 
 add-kept-2 : tie.Need-add-kept-2 Inv-loop μ-loop
-add-kept-2 c = omega (arith, place-small (c .before .before .loop .inv) (c .before .loop-test .taken))
-
-mul-kept-2 : tie.Need-mul-kept-2 Inv-loop μ-loop
-mul-kept-2 c = omega (arith, place-small (c .before .before .loop .inv) (c .before .loop-test .taken))
-
-shared-slice-read-kept : tie.Need-shared-slice-read-kept Inv-loop μ-loop
-shared-slice-read-kept c = in-table (c .before .before .before .loop .inv) (c .before .before .loop-test .taken)
-
-add-kept-3 : tie.Need-add-kept-3 Inv-loop μ-loop
-add-kept-3 c = omega (arith, c .before .before .before .before .before .before .before .before .before .pre .lengths .small (c .before .before .before .before .place .result + c .before .before .before .loop .i), c .before .before .before .before .before .before .before .before .before .pre .bounded .tight)
+add-kept-2 c = omega (arith, c .number32 .ensures, c .before .before .before .before .before .before .before .before .before .pre .lengths .small (c .before .before .before .before .place .result + c .before .before .before .loop .i), c .before .before .before .before .before .before .before .before .before .pre .bounded .tight)
 
 kept-requires : tie.Need-kept-requires Inv-loop μ-loop
 kept-requires c κs = search needs
 
 add-count : tie.Need-add-count Inv-loop μ-loop
-add-count c = omega (arith, has-room (c .before .before .before .before .loop .inv) (c .before .before .before .loop-test .taken), one-more (c .before .before .before .before .loop .inv) (c .before .before .before .loop-test .taken) (c .kept .ensures))
+add-count c = omega (arith, has-room (c .before .before .before .before .loop .inv) (c .before .before .before .loop-test .taken), one-more (c .before .before .before .before .loop .inv) (c .before .before .before .loop-test .taken) (c .before .number32 .result) (c .kept .ensures))
 
 add-i : tie.Need-add-i Inv-loop μ-loop
 add-i c = search needs
@@ -102,7 +100,7 @@ loop-less : tie.Need-loop-less Inv-loop μ-loop
 loop-less c = search needs
 
 loop-again : tie.Need-loop-again Inv-loop μ-loop
-loop-again c = rowing-on (c .before .before .before .before .loop .inv) (c .before .before .before .loop-test .taken) (c .kept .ensures)
+loop-again c = rowing-on (c .before .before .before .before .loop .inv) (c .before .before .before .loop-test .taken) (c .before .number32 .ensures) (c .kept .ensures)
 
 same-length : tie.Need-same-length Inv-loop μ-loop
 same-length c = c .before .loop .inv .size
@@ -137,10 +135,9 @@ find-in-row-spec =
     mul-kept
     element-copy-out-kept
     add-kept
+    add-number32
+    number32-requires
     add-kept-2
-    mul-kept-2
-    shared-slice-read-kept
-    add-kept-3
     kept-requires
     add-count
     add-i

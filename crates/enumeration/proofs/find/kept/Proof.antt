@@ -2,7 +2,7 @@
 use mathlib.Core.Bool.{_&&_, not}
 use lib.Dec.{eqb, leb}
 use borrow.Author.Needs.{needs}
-use Rattle.enumeration.proofs.Rows.{byte-ones}
+use Rattle.enumeration.proofs.Writing.{byte-ones}
 use Rattle.enumeration.proofs.find.kept.Statement.{statement}
 use Rattle.enumeration.proofs.find.kept.Tie as tie
 

@@ -1,25 +1,26 @@
 -- `lengths::limit::all_at_most` meets its contract: what is found so far and the test of what is left are the test of all. Assumes nothing.
 use Prim.Native.Nat.{_-_}
 use borrow.Author.Needs.{needs}
-use lib.ListN.{length}
-use Rattle.lengths.proofs.Limits.{Looked, look-start, look-on, look-done}
+use native.Mathlib.Omega.{arith}
+use Rattle.endian.specs.Bytes.{whole32}
+use Rattle.lengths.proofs.Limits.{Limiting, limiting-start, limiting-on, limiting-done}
 use Rattle.lengths.proofs.limit.all_at_most.Statement.{statement}
 use Rattle.lengths.proofs.limit.all_at_most.Tie as tie
 
 abbrev Inv-loop : tie.InvT-loop
-Inv-loop numbers limit within₀ i₀ within i = Looked limit numbers within i
+Inv-loop bytes limit count within₀ i₀ within i = Limiting limit (whole32 bytes) within i
 
 abbrev μ-loop : tie.MeasureT-loop
-μ-loop numbers limit within₀ i₀ within i = length numbers - i
+μ-loop bytes limit count within₀ i₀ within i = count - i
+
+count32-requires : tie.Need-count32-requires Inv-loop μ-loop
+count32-requires c κs = search needs
 
 loop-holds : tie.Need-loop-holds Inv-loop μ-loop
-loop-holds c = look-start _ _
+loop-holds c = limiting-start _ _
 
-mul-if1 : tie.Need-mul-if1 Inv-loop μ-loop
-mul-if1 c = search needs
-
-shared-slice-read-if1 : tie.Need-shared-slice-read-if1 Inv-loop μ-loop
-shared-slice-read-if1 c = search needs
+number32-requires : tie.Need-number32-requires Inv-loop μ-loop
+number32-requires c κs = omega (arith, c .before .before .count32 .ensures, c .loop-test .taken)
 
 add-i : tie.Need-add-i Inv-loop μ-loop
 add-i c = search needs
@@ -28,10 +29,10 @@ loop-less : tie.Need-loop-less Inv-loop μ-loop
 loop-less c = search needs
 
 loop-again : tie.Need-loop-again Inv-loop μ-loop
-loop-again c = look-on (c .before .before .before .loop .inv) (c .before .before .loop-test .taken) (λ w. w .taken) (λ w. w .left) (c .if1 .came)
+loop-again c = limiting-on (c .before .before .before .loop .inv) (omega (arith, c .before .before .before .before .count32 .ensures, c .before .before .loop-test .taken)) (c .before .number32 .ensures) (λ w. w .taken) (λ w. w .left) (c .if1 .came)
 
 returns : tie.Need-returns Inv-loop μ-loop
-returns c = look-done (c .before .loop .inv) (c .loop-test .left)
+returns c = limiting-done (c .before .loop .inv) (omega (arith, c .before .before .count32 .ensures, c .loop-test .left))
 
 pub all-at-most-spec : {M : Type 1} → statement M
 all-at-most-spec =
@@ -39,9 +40,9 @@ all-at-most-spec =
     (tie.spec
     Inv-loop
     μ-loop
+    count32-requires
     loop-holds
-    mul-if1
-    shared-slice-read-if1
+    number32-requires
     add-i
     loop-less
     loop-again

@@ -22,38 +22,14 @@ sub-j c = search needs
 mul-j : tie.Need-mul-j
 mul-j c = search needs
 
-mul-gap : tie.Need-mul-gap
-mul-gap c = search needs
-
-shared-slice-read-gap : tie.Need-shared-slice-read-gap
-shared-slice-read-gap c = search needs
-
-mul-gap-2 : tie.Need-mul-gap-2
-mul-gap-2 c = search needs
-
-shared-slice-read-gap-2 : tie.Need-shared-slice-read-gap-2
-shared-slice-read-gap-2 c = search needs
-
 gap-requires : tie.Need-gap-requires
 gap-requires c κs = search needs
 
 add-gap : tie.Need-add-gap
 add-gap c = search needs
 
-mul-gap-3 : tie.Need-mul-gap-3
-mul-gap-3 c = search needs
-
-shared-slice-read-gap-3 : tie.Need-shared-slice-read-gap-3
-shared-slice-read-gap-3 c = search needs
-
 add-gap-2 : tie.Need-add-gap-2
 add-gap-2 c = search needs
-
-mul-gap-4 : tie.Need-mul-gap-4
-mul-gap-4 c = search needs
-
-shared-slice-read-gap-4 : tie.Need-shared-slice-read-gap-4
-shared-slice-read-gap-4 c = search needs
 
 gap-requires-2 : tie.Need-gap-requires-2
 gap-requires-2 c κs = search needs
@@ -61,26 +37,26 @@ gap-requires-2 c κs = search needs
 mul-s : tie.Need-mul-s
 unfolding xOf yOf
 mul-s c =
-    let g = gaps (c .before .before .before .before .before .before .before .pre) (c .before .before .before .gap .ensures) (c .gap2 .ensures) in
+    let g = gaps (c .before .before .before .pre .0) (c .before .gap .ensures) (c .gap2 .ensures) in
     product-fits mostCoordinate mostCoordinate (g .x) (g .x) tt
 
 mul-s-2 : tie.Need-mul-s-2
 unfolding xOf yOf
 mul-s-2 c =
-    let g = gaps (c .before .before .before .before .before .before .before .pre) (c .before .before .before .gap .ensures) (c .gap2 .ensures) in
+    let g = gaps (c .before .before .before .pre .0) (c .before .gap .ensures) (c .gap2 .ensures) in
     product-fits mostCoordinate mostCoordinate (g .y) (g .y) tt
 
 add-s : tie.Need-add-s
 unfolding xOf yOf
-add-s c = record { fits = omega (arith, gaps (c .before .before .before .before .before .before .before .pre) (c .before .before .before .gap .ensures) (c .gap2 .ensures)) }
+add-s c = record { fits = omega (arith, gaps (c .before .before .before .pre .0) (c .before .gap .ensures) (c .gap2 .ensures)) }
 
 guess-requires : tie.Need-guess-requires
 unfolding xOf yOf
-guess-requires c κs = gaps (c .before .before .before .before .before .before .before .pre) (c .before .before .before .gap .ensures) (c .gap2 .ensures)
+guess-requires c κs = gaps (c .before .before .before .pre .0) (c .before .gap .ensures) (c .gap2 .ensures)
 
 distance-requires : tie.Need-distance-requires
 unfolding xOf yOf
-distance-requires c κs = gaps (c .before .before .before .before .before .before .before .before .pre) (c .before .before .before .before .gap .ensures) (c .before .gap2 .ensures) .sum
+distance-requires c κs = gaps (c .before .before .before .before .pre .0) (c .before .before .gap .ensures) (c .before .gap2 .ensures) .sum
 
 cast-result : tie.Need-cast-result
 cast-result c = search needs
@@ -89,7 +65,7 @@ returns : tie.Need-returns
 unfolding xOf yOf
 returns c =
     c .distance .ensures .at
-    ∙ ap (distanceBy _) (squares-is (c .before .before .before .before .before .before .before .before .before .pre) (c .before .before .before .before .before .gap .ensures) (c .before .before .gap2 .ensures))
+    ∙ ap (distanceBy _) (squares-is (c .before .before .before .before .before .pre .0) (c .before .before .before .gap .ensures) (c .before .before .gap2 .ensures))
 
 pub between-spec : {M : Type 1} → statement M
 between-spec =
@@ -99,17 +75,9 @@ between-spec =
     mul-i
     sub-j
     mul-j
-    mul-gap
-    shared-slice-read-gap
-    mul-gap-2
-    shared-slice-read-gap-2
     gap-requires
     add-gap
-    mul-gap-3
-    shared-slice-read-gap-3
     add-gap-2
-    mul-gap-4
-    shared-slice-read-gap-4
     gap-requires-2
     mul-s
     mul-s-2

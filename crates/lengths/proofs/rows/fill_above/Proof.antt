@@ -1,12 +1,15 @@
 -- `lengths::rows::fill_above` meets its contract: `Above` holds at the loop's head. Assumes nothing.
 use Prim.Native.Nat.{_-_}
+use native.Mathlib.Omega.{arith}
 use borrow.Author.Needs.{needs}
+use Rattle.endian.specs.Bytes.{whole32}
+use Rattle.lengths.proofs.Edges.{edges-few}
 use Rattle.lengths.proofs.RowFilling.{Above, none-above, above-edge, above-start, above-inside, above-room, above-more, above-done}
 use Rattle.lengths.proofs.rows.fill_above.Statement.{statement}
 use Rattle.lengths.proofs.rows.fill_above.Tie as tie
 
 abbrev Inv-loop : tie.InvT-loop
-Inv-loop n table v rows₀ at above first start i₀ rows i = Above n table rows₀ at v rows i
+Inv-loop n table v rows₀ at above first start i₀ rows i = Above n (whole32 table) rows₀ at v rows i
 
 abbrev μ-loop : tie.MeasureT-loop
 μ-loop n table v rows₀ at above first start i₀ rows i = n - v - i
@@ -35,20 +38,17 @@ add-start-2 c = search needs
 loop-holds : tie.Need-loop-holds Inv-loop μ-loop
 loop-holds c = above-start (c .before .before .before .before .pre)
 
+add-number32 : tie.Need-add-number32 Inv-loop μ-loop
+add-number32 c = omega (arith, above-inside (c .before .before .before .before .before .before .pre) (c .before .loop .inv) (c .before .before .place .ensures) (c .loop-test .taken), c .before .before .before .before .before .before .pre .whole, edges-few _ (c .before .before .before .before .before .before .pre .few))
+
+number32-requires : tie.Need-number32-requires Inv-loop μ-loop
+number32-requires c κs = above-inside (c .before .before .before .before .before .before .pre) (c .before .loop .inv) (c .before .before .place .ensures) (c .loop-test .taken)
+
 add-rows : tie.Need-add-rows Inv-loop μ-loop
 add-rows c = search needs
 
 mul-rows : tie.Need-mul-rows Inv-loop μ-loop
 mul-rows c = search needs
-
-shared-slice-read-rows : tie.Need-shared-slice-read-rows Inv-loop μ-loop
-shared-slice-read-rows c = above-inside (c .before .before .before .before .before .before .before .pre) (c .before .before .loop .inv) (c .before .before .before .place .ensures) (c .before .loop-test .taken)
-
-add-rows-2 : tie.Need-add-rows-2 Inv-loop μ-loop
-add-rows-2 c = search needs
-
-mul-rows-2 : tie.Need-mul-rows-2 Inv-loop μ-loop
-mul-rows-2 c = search needs
 
 slice-write-rows : tie.Need-slice-write-rows Inv-loop μ-loop
 slice-write-rows c = above-room (c .before .before .before .before .before .before .before .pre) (c .before .before .loop .inv) (c .before .before .before .place .ensures) (c .before .loop-test .taken)
@@ -60,7 +60,7 @@ loop-less : tie.Need-loop-less Inv-loop μ-loop
 loop-less c = search needs
 
 loop-again : tie.Need-loop-again Inv-loop μ-loop
-loop-again c = above-more (c .before .before .before .before .before .before .before .pre) (c .before .before .loop .inv) (c .before .before .before .place .ensures) (c .before .loop-test .taken)
+loop-again c = above-more (c .before .before .before .before .before .before .before .pre) (c .before .before .loop .inv) (c .before .before .before .place .ensures) (c .before .loop-test .taken) (c .number32 .ensures)
 
 same-length : tie.Need-same-length Inv-loop μ-loop
 same-length c = search needs
@@ -82,11 +82,10 @@ fill-above-spec =
     add-start
     add-start-2
     loop-holds
+    add-number32
+    number32-requires
     add-rows
     mul-rows
-    shared-slice-read-rows
-    add-rows-2
-    mul-rows-2
     slice-write-rows
     add-i
     loop-less

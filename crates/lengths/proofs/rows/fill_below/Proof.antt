@@ -2,12 +2,14 @@
 use Prim.Native.Nat.{_-_}
 use native.Mathlib.Omega.{arith}
 use borrow.Author.Needs.{needs}
+use Rattle.endian.specs.Bytes.{whole32}
+use Rattle.lengths.proofs.Edges.{edges-few}
 use Rattle.lengths.proofs.RowFilling.{Below, below-start, below-place, below-inside, below-room, below-more, below-done}
 use Rattle.lengths.proofs.rows.fill_below.Statement.{statement}
 use Rattle.lengths.proofs.rows.fill_below.Tie as tie
 
 abbrev Inv-loop : tie.InvT-loop
-Inv-loop n table v rows₀ at points last from₀ x₀ rows from x = Below n table rows₀ at v rows from x
+Inv-loop n table v rows₀ at points last from₀ x₀ rows from x = Below n (whole32 table) rows₀ at v rows from x
 
 abbrev μ-loop : tie.MeasureT-loop
 μ-loop n table v rows₀ at points last from₀ x₀ rows from x = v - x
@@ -16,25 +18,22 @@ sub-from : tie.Need-sub-from Inv-loop μ-loop
 sub-from c = search needs
 
 loop-holds : tie.Need-loop-holds Inv-loop μ-loop
-loop-holds c = below-start (c .pre)
+loop-holds c = below-start (c .before .before .pre)
 
-sub-rows : tie.Need-sub-rows Inv-loop μ-loop
-sub-rows c = omega (arith, below-place (c .before .before .pre) (c .before .loop .inv) (c .loop-test .taken))
+sub-number32 : tie.Need-sub-number32 Inv-loop μ-loop
+sub-number32 c = omega (arith, below-place (c .before .before .before .before .pre) (c .before .loop .inv) (c .loop-test .taken))
 
-mul-rows : tie.Need-mul-rows Inv-loop μ-loop
-mul-rows c = search (needs, below-inside (c .before .before .pre) (c .before .loop .inv) (c .loop-test .taken))
-
-shared-slice-read-rows : tie.Need-shared-slice-read-rows Inv-loop μ-loop
-shared-slice-read-rows c = below-inside (c .before .before .before .pre) (c .before .before .loop .inv) (c .before .loop-test .taken)
+number32-requires : tie.Need-number32-requires Inv-loop μ-loop
+number32-requires c κs = below-inside (c .before .before .before .before .pre) (c .before .loop .inv) (c .loop-test .taken)
 
 add-rows : tie.Need-add-rows Inv-loop μ-loop
 add-rows c = search needs
 
-mul-rows-2 : tie.Need-mul-rows-2 Inv-loop μ-loop
-mul-rows-2 c = search needs
+mul-rows : tie.Need-mul-rows Inv-loop μ-loop
+mul-rows c = search needs
 
 slice-write-rows : tie.Need-slice-write-rows Inv-loop μ-loop
-slice-write-rows c = below-room (c .before .before .before .pre) (c .before .before .loop .inv) (c .before .loop-test .taken)
+slice-write-rows c = below-room (c .before .before .before .before .before .pre) (c .before .before .loop .inv) (c .before .loop-test .taken)
 
 sub-from-2 : tie.Need-sub-from-2 Inv-loop μ-loop
 sub-from-2 c = search needs
@@ -43,7 +42,7 @@ sub-from-3 : tie.Need-sub-from-3 Inv-loop μ-loop
 sub-from-3 c = search needs
 
 add-from : tie.Need-add-from Inv-loop μ-loop
-add-from c = search (needs, below-inside (c .before .before .before .pre) (c .before .before .loop .inv) (c .before .loop-test .taken))
+add-from c = omega (arith, below-inside (c .before .before .before .before .before .pre) (c .before .before .loop .inv) (c .before .loop-test .taken), c .before .before .before .before .before .pre .whole, edges-few _ (c .before .before .before .before .before .pre .few))
 
 add-x : tie.Need-add-x Inv-loop μ-loop
 add-x c = search needs
@@ -52,7 +51,7 @@ loop-less : tie.Need-loop-less Inv-loop μ-loop
 loop-less c = search needs
 
 loop-again : tie.Need-loop-again Inv-loop μ-loop
-loop-again c = below-more (c .before .before .before .pre) (c .before .before .loop .inv) (c .before .loop-test .taken)
+loop-again c = below-more (c .before .before .before .before .before .pre) (c .before .before .loop .inv) (c .before .loop-test .taken) (c .number32 .ensures)
 
 same-length : tie.Need-same-length Inv-loop μ-loop
 same-length c = search needs
@@ -68,11 +67,10 @@ fill-below-spec =
     μ-loop
     sub-from
     loop-holds
-    sub-rows
-    mul-rows
-    shared-slice-read-rows
+    sub-number32
+    number32-requires
     add-rows
-    mul-rows-2
+    mul-rows
     slice-write-rows
     sub-from-2
     sub-from-3

@@ -1,12 +1,13 @@
 -- `lengths::rows::fill_rows` meets its contract: `RowsTo` holds at the loop's head. Assumes nothing.
 use Prim.Native.Nat.{_+_, _-_}
 use borrow.Author.Needs.{needs}
+use Rattle.endian.specs.Bytes.{whole32}
 use Rattle.lengths.proofs.RowFilling.{RowsTo, rows-start, next-row-fits, row-fillable, rows-more, rows-done}
 use Rattle.lengths.proofs.rows.fill_rows.Statement.{statement}
 use Rattle.lengths.proofs.rows.fill_rows.Tie as tie
 
 abbrev Inv-loop : tie.InvT-loop
-Inv-loop n table rows₀ width v₀ at₀ rows v at = RowsTo n table rows₀ rows v at
+Inv-loop n table rows₀ width v₀ at₀ rows v at = RowsTo n (whole32 table) rows₀ rows v at
 
 abbrev μ-loop : tie.MeasureT-loop
 μ-loop n table rows₀ width v₀ at₀ rows v at = n + 1 - v

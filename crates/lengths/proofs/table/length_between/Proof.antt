@@ -4,6 +4,7 @@ use mathlib.Core.Path.{sym, _∙_, ap}
 use native.Mathlib.Omega.{arith}
 use lib.ListN.{getD}
 use denote.Ref.{now}
+use Rattle.endian.specs.Bytes.{whole32}
 use Rattle.lengths.specs.Table.{lengthOf}
 use Rattle.lengths.proofs.Tables.{length-self, length-apart}
 use borrow.Author.Needs.{needs}
@@ -11,16 +12,13 @@ use Rattle.lengths.proofs.table.length_between.Statement.{statement}
 use Rattle.lengths.proofs.table.length_between.Tie as tie
 
 returns : tie.Need-returns
-returns c = record { at = sym (length-self _ (now (c .before .before .args .table)) _) ∙ ap (lengthOf _ _ _) (c .if1 .taken); bits = search needs }
+returns c = record { at = sym (length-self _ (whole32 (now (c .before .before .args .table))) _) ∙ ap (lengthOf _ _ _) (c .if1 .taken); bits = search needs }
 
 place-requires : tie.Need-place-requires
 place-requires c κs = search needs
 
-mul-wide : tie.Need-mul-wide
-mul-wide c = search needs
-
-shared-slice-read-wide : tie.Need-shared-slice-read-wide
-shared-slice-read-wide c = search needs
+number32-requires : tie.Need-number32-requires
+number32-requires c κs = search needs
 
 wide-requires : tie.Need-wide-requires
 wide-requires c κs = search needs
@@ -29,12 +27,12 @@ returns-2 : tie.Need-returns-2
 returns-2 c = record {
   at =
       c .wide .ensures
-      ∙ ap (λ (i : ℕ). getD (now (c .before .before .before .before .before .args .table)) i 0) (c .before .before .place .ensures .at)
+      ∙ c .before .number32 .ensures
+      ∙ ap (λ (i : ℕ). getD (whole32 (now (c .before .before .before .before .before .args .table))) i 0) (c .before .before .place .ensures .at)
       ∙ sym (length-apart _ _ _ _ (c .before .before .before .if1 .left));
-  bits = omega (arith, c .wide .ensures, c .before .shared-slice-known2 .given (c .before .before .place .result));
+  bits = omega (arith, c .wide .ensures);
 }
 
 pub length-between-spec : {M : Type 1} → statement M
 length-between-spec =
-    tie.close
-    (tie.spec returns place-requires mul-wide shared-slice-read-wide wide-requires returns-2)
+    tie.close (tie.spec returns place-requires number32-requires wide-requires returns-2)

@@ -1,18 +1,18 @@
 -- `marking::listing::list_into` meets its contract: both ways out have their lemma in `ListingAnswers`. Assumes nothing.
 use native.Mathlib.Omega.{arith}
 use borrow.Author.Needs.{needs}
-use Rattle.marking.proofs.ListingAnswers.{into-refused, into-pairs}
+use Rattle.marking.proofs.ListingAnswers.{found-length, encodable, into-refused, into-pairs}
 use Rattle.marking.proofs.listing.list_into.Statement.{statement}
 use Rattle.marking.proofs.listing.list_into.Tie as tie
 
 find-pairs-requires : tie.Need-find-pairs-requires
-find-pairs-requires c κs = c .before .before .before .before .before .pre
+find-pairs-requires c κs = search needs
 
 cast-size : tie.Need-cast-size
-cast-size c = omega (arith, c .before .before .find-pairs .ensures .few)
+cast-size c = search needs
 
 mul-size : tie.Need-mul-size
-mul-size c = omega (arith, c .before .before .find-pairs .ensures .few)
+mul-size c = search needs
 
 same-length : tie.Need-same-length
 same-length c = search needs
@@ -20,8 +20,14 @@ same-length c = search needs
 returns : tie.Need-returns
 returns c = into-refused (c .before .before .before .find-pairs .ensures) (c .if1 .taken)
 
-copy-requires : tie.Need-copy-requires
-copy-requires c κs = record { few = c .before .before .before .before .before .find-pairs .ensures .room; room = c .before .before .if1 .left }
+slice-reshare-prefix-encode16 : tie.Need-slice-reshare-prefix-encode16
+slice-reshare-prefix-encode16 c = omega (arith, c .before .before .before .find-pairs .ensures .room)
+
+slice-aggregate-encode16 : tie.Need-slice-aggregate-encode16
+slice-aggregate-encode16 c = found-length (c .before .before .before .before .find-pairs .ensures)
+
+encode16-requires : tie.Need-encode16-requires
+encode16-requires c κs = encodable (c .before .before .before .before .before .find-pairs .ensures) (c .before .before .if1 .left)
 
 same-length-2 : tie.Need-same-length-2
 same-length-2 c = search needs
@@ -30,7 +36,20 @@ same-length-3 : tie.Need-same-length-3
 same-length-3 c = search needs
 
 returns-2 : tie.Need-returns-2
-returns-2 c = into-pairs (c .before .before .before .before .before .before .before .before .find-pairs .ensures) (c .before .before .before .before .before .if1 .left) (c .before .before .copy .ensures)
+returns-2 c = into-pairs (c .before .before .before .before .before .before .before .before .find-pairs .ensures) (c .before .before .before .before .before .if1 .left) (c .before .before .encode16 .ensures)
 
 pub list-into-spec : {M : Type 1} → statement M
-list-into-spec = tie.close (tie.spec find-pairs-requires cast-size mul-size same-length returns copy-requires same-length-2 same-length-3 returns-2)
+list-into-spec =
+    tie.close
+    (tie.spec
+    find-pairs-requires
+    cast-size
+    mul-size
+    same-length
+    returns
+    slice-reshare-prefix-encode16
+    slice-aggregate-encode16
+    encode16-requires
+    same-length-2
+    same-length-3
+    returns-2)

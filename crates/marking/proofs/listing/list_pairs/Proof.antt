@@ -3,6 +3,7 @@ use mathlib.Core.Path.{sym, _∙_}
 use denote.Ref.{now}
 use Prim.Native.Nat.{ℕ, _*_}
 use lib.ListN.{length-replicate}
+use Rattle.endian.specs.Bytes.{whole32}
 use Rattle.lengths.specs.Instance.{fewEdges, mostEdges}
 use Rattle.marking.proofs.ListingAnswers.{Listable, tests-passed, findable-small, findable-large, refused-tests, listed-as}
 use borrow.Author.Needs.{needs}
@@ -11,7 +12,7 @@ use Rattle.marking.proofs.listing.list_pairs.Tie as tie
 
 -- the tests are passed
 listable : (c : tie.After-known-told) → let s = c .before .before .before .before .before .before .before in
-    Listable (s .args .n) (now (s .args .table)) (now (s .args .marks)) (c .before .tested .given .0 .0) (s .args .a) (s .args .b) (s .args .c)
+    Listable (s .args .n) (whole32 (now (s .args .table))) (now (s .args .marks)) (c .before .tested .given .0 .0) (s .args .a) (s .args .b) (s .args .c)
 listable c = tests-passed _ _ _ _ _ _ (sym (c .before .before .before .test-listing .ensures) ∙ c .before .tested .given .1)
 
 test-listing-requires : tie.Need-test-listing-requires

@@ -2,7 +2,8 @@
 use mathlib.Core.Path.{sym, _∙_}
 use denote.Ref.{now}
 use borrow.Author.Tests.{not-true, not-false}
-use Rattle.marking.proofs.Tested.{Passed, passed}
+use Rattle.endian.specs.Bytes.{whole32}
+use Rattle.marking.proofs.Tested.{InstancePassed, passed}
 use Rattle.marking.proofs.ListingAnswers.{Fitted, markable, tests-shared, tests-points, tests-struck, tests-all}
 use borrow.Author.Needs.{needs}
 use Rattle.marking.proofs.listing.test_listing.Statement.{statement}
@@ -10,12 +11,12 @@ use Rattle.marking.proofs.listing.test_listing.Tie as tie
 
 -- tests 1, 2, 5 and 6 are passed
 passed-at : (c : tie.After-known-told) → let s = c .before .before .before .before .before .before in
-    Passed (s .args .n) (now (s .args .table)) (now (s .args .marks)) (c .before .tested .given .0 .0)
+    InstancePassed (s .args .n) (whole32 (now (s .args .table))) (now (s .args .marks)) (c .before .tested .given .0 .0)
 passed-at c = passed (sym (c .before .before .before .test-instance .ensures) ∙ c .before .tested .given .1)
 
 -- and test 11
 fitted : (c : tie.Else1) → let s = c .before .before .before .before .before .before .before .before in
-    Fitted (s .args .n) (now (s .args .table)) (now (s .args .marks)) (c .before .before .before .tested .given .0 .0) (s .args .a) (s .args .b) (s .args .c)
+    Fitted (s .args .n) (whole32 (now (s .args .table))) (now (s .args .marks)) (c .before .before .before .tested .given .0 .0) (s .args .a) (s .args .b) (s .args .c)
 fitted c = record { passed = passed-at (c .before .before); fit = sym (c .before .points-fit .ensures) ∙ not-false _ (c .if1 .left) }
 
 test-instance-requires : tie.Need-test-instance-requires

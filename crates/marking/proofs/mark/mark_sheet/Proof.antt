@@ -1,4 +1,6 @@
 -- `marking::mark::mark_sheet` meets its contract: each return is a way out of `markSheet`. Assumes nothing.
+use mathlib.Core.Path.{_∙_, ap}
+use Rattle.sheets.specs.asks.Sheet.{sheetAdmission}
 use Rattle.marking.proofs.MarkingSheets.{sheet-untested, sheet-not-whole, sheet-admits, sheet-marked}
 use borrow.Author.Needs.{needs}
 use Rattle.marking.proofs.mark.mark_sheet.Statement.{statement}
@@ -22,6 +24,9 @@ same-length c = search needs
 returns : tie.Need-returns
 returns c = sheet-untested _ _ _ _ (c .before .before .before .before .test-instance .ensures) (c .before .before .number .given .1) (c .turned-down .ensures)
 
+count16-requires : tie.Need-count16-requires
+count16-requires c κs = search needs
+
 admit-requires : tie.Need-admit-requires
 admit-requires c κs = search needs
 
@@ -35,19 +40,19 @@ same-length-2 : tie.Need-same-length-2
 same-length-2 c = search needs
 
 returns-2 : tie.Need-returns-2
-returns-2 c = sheet-not-whole _ _ _ _ (c .before .before .before .before .before .before .before .test-instance .ensures) (c .before .before .before .before .before .points .given .1) (c .before .before .before .admit .ensures) (c .before .enum-told .given .1) (c .turned-down2 .ensures)
+returns-2 c = sheet-not-whole _ _ _ _ (c .before .before .before .before .before .before .before .before .test-instance .ensures) (c .before .before .before .before .before .before .points .given .1) (c .before .before .before .admit .ensures ∙ ap sheetAdmission (c .before .before .before .before .count16 .ensures)) (c .before .enum-told .given .1) (c .turned-down2 .ensures)
 
 enum-known-admitted : tie.Need-enum-known-admitted
 enum-known-admitted c = search needs
 
 mark-admitted-requires : tie.Need-mark-admitted-requires
-mark-admitted-requires c κs = sheet-admits _ _ _ _ (c .before .before .before .before .before .before .before .before .test-instance .ensures) (c .before .before .before .before .before .before .points .given .1) (c .before .before .before .before .admit .ensures) (c .before .before .admitted .given .1)
+mark-admitted-requires c κs = sheet-admits _ _ _ _ (c .before .before .before .before .before .before .before .before .before .test-instance .ensures) (c .before .before .before .before .before .before .before .points .given .1) (c .before .before .before .before .admit .ensures ∙ ap sheetAdmission (c .before .before .before .before .before .count16 .ensures)) (c .before .before .admitted .given .1)
 
 same-length-3 : tie.Need-same-length-3
 same-length-3 c = search needs
 
 returns-3 : tie.Need-returns-3
-returns-3 c = sheet-marked _ _ _ _ (c .before .before .before .before .before .before .before .before .before .before .before .test-instance .ensures) (c .before .before .before .before .before .before .before .before .before .points .given .1) (c .before .before .before .before .before .before .before .admit .ensures) (c .before .before .before .before .before .admitted .given .1) (c .before .before .mark-admitted .ensures)
+returns-3 c = sheet-marked _ _ _ _ (c .before .before .before .before .before .before .before .before .before .before .before .before .test-instance .ensures) (c .before .before .before .before .before .before .before .before .before .before .points .given .1) (c .before .before .before .before .before .before .before .admit .ensures ∙ ap sheetAdmission (c .before .before .before .before .before .before .before .before .count16 .ensures)) (c .before .before .before .before .before .admitted .given .1) (c .before .before .mark-admitted .ensures)
 
 pub mark-sheet-spec : {M : Type 1} → statement M
 mark-sheet-spec =
@@ -59,6 +64,7 @@ mark-sheet-spec =
     turned-down-requires
     same-length
     returns
+    count16-requires
     admit-requires
     enum-told
     turned-down-requires-2

@@ -4,6 +4,7 @@ use mathlib.Core.Bool.{true}
 use lib.ListN.{length}
 use borrow.Author.Tests.{not-true, not-false}
 use denote.Ref.{now}
+use Rattle.endian.specs.Bytes.{whole32}
 use Rattle.lengths.specs.Edge.{edgeCount}
 use Rattle.lists.specs.Test.{allAtMost}
 use Rattle.lengths.proofs.Instances.{Admits, admitted}
@@ -18,18 +19,18 @@ admits : (c : tie.After-known-told) → Admits (c .before .before .before .befor
 admits c = admitted (sym (c .before .before .before .admit .ensures) ∙ c .before .instance .given .1)
 
 -- and the table has its size
-whole : (c : tie.Else1) → let i = c .before .before .before in
-    length (now (i .before .before .before .before .before .args .table)) ≡ edgeCount (i .instance .given .0 .0 .points)
-whole c = c .if1 .left ∙ c .before .count .ensures
+whole : (c : tie.Else1) → let i = c .before .before .before .before in
+    length (whole32 (now (i .before .before .before .before .before .args .table))) ≡ edgeCount (i .instance .given .0 .0 .points)
+whole c = sym (c .before .count32 .ensures) ∙ c .if1 .left ∙ c .before .before .count .ensures
 
 -- and no length is above the limit
-small : (c : tie.Else2) → allAtMost mostLength (now (c .before .before .before .before .before .before .before .before .before .before .args .table)) ≡ true
+small : (c : tie.Else2) → allAtMost mostLength (whole32 (now (c .before .before .before .before .before .before .before .before .before .before .before .args .table))) ≡ true
 small c = sym (c .before .all-at-most .ensures) ∙ not-false _ (c .if2 .left)
 
 -- and there are as many marks
-marked : (c : tie.Else3) → let i = c .before .before .before .before .before .before in
+marked : (c : tie.Else3) → let i = c .before .before .before .before .before .before .before in
     length (now (i .before .before .before .before .before .args .marks)) ≡ edgeCount (i .instance .given .0 .0 .points)
-marked c = c .if3 .left ∙ c .before .before .before .before .count .ensures
+marked c = c .if3 .left ∙ c .before .before .before .before .before .count .ensures
 
 admit-requires : tie.Need-admit-requires
 admit-requires c κs = search needs
@@ -46,8 +47,11 @@ returns c = refused-points _ _ _ (sym (c .before .before .admit .ensures) ∙ c 
 count-requires : tie.Need-count-requires
 count-requires c κs = search needs
 
+count32-requires : tie.Need-count32-requires
+count32-requires c κs = search needs
+
 returns-2 : tie.Need-returns-2
-returns-2 c = refused-size _ _ _ (admits (c .before .before)) (λ e. c .if1 .taken (e ∙ sym (c .before .count .ensures)))
+returns-2 c = refused-size _ _ _ (admits (c .before .before .before)) (λ e. c .if1 .taken (c .before .count32 .ensures ∙ e ∙ sym (c .before .before .count .ensures)))
 
 all-at-most-requires : tie.Need-all-at-most-requires
 all-at-most-requires c κs = search needs
@@ -55,12 +59,12 @@ all-at-most-requires c κs = search needs
 returns-3 : tie.Need-returns-3
 returns-3 c =
     let t = c .before .before in
-    refused-length _ _ _ (admits (t .before .before)) (whole t) (sym (c .before .all-at-most .ensures) ∙ not-true _ (c .if2 .taken))
+    refused-length _ _ _ (admits (t .before .before .before)) (whole t) (sym (c .before .all-at-most .ensures) ∙ not-true _ (c .if2 .taken))
 
 returns-4 : tie.Need-returns-4
 returns-4 c =
     let t = c .before .before .before in
-    refused-marks _ _ _ (admits (t .before .before)) (whole t) (small (c .before)) (λ e. c .if3 .taken (e ∙ sym (t .before .count .ensures)))
+    refused-marks _ _ _ (admits (t .before .before .before)) (whole t) (small (c .before)) (λ e. c .if3 .taken (e ∙ sym (t .before .before .count .ensures)))
 
 marks-within-requires : tie.Need-marks-within-requires
 marks-within-requires c κs = search needs
@@ -69,13 +73,13 @@ returns-5 : tie.Need-returns-5
 returns-5 c =
     let m = c .before .before in
     let t = m .before .before .before in
-    refused-mark _ _ _ (admits (t .before .before)) (whole t) (small (m .before)) (marked m) (sym (c .before .marks-within .ensures) ∙ not-true _ (c .if4 .taken))
+    refused-mark _ _ _ (admits (t .before .before .before)) (whole t) (small (m .before)) (marked m) (sym (c .before .marks-within .ensures) ∙ not-true _ (c .if4 .taken))
 
 returns-6 : tie.Need-returns-6
 returns-6 c =
     let m = c .before .before in
     let t = m .before .before .before in
-    passed-tests _ _ _ (admits (t .before .before)) (whole t) (small (m .before)) (marked m) (sym (c .before .marks-within .ensures) ∙ not-false _ (c .if4 .left))
+    passed-tests _ _ _ (admits (t .before .before .before)) (whole t) (small (m .before)) (marked m) (sym (c .before .marks-within .ensures) ∙ not-false _ (c .if4 .left))
 
 pub test-instance-spec : {M : Type 1} → statement M
 test-instance-spec =
@@ -86,6 +90,7 @@ test-instance-spec =
     enum-told
     returns
     count-requires
+    count32-requires
     returns-2
     all-at-most-requires
     returns-3

@@ -2,7 +2,8 @@
 use mathlib.Core.Path.{sym, _∙_}
 use denote.Ref.{now}
 use borrow.Author.Tests.{not-true, not-false}
-use Rattle.marking.proofs.Tested.{Passed, passed}
+use Rattle.endian.specs.Bytes.{whole16, whole32}
+use Rattle.marking.proofs.Tested.{InstancePassed, passed}
 use Rattle.marking.proofs.TourAnswers.{Toured, refused-tests, refused-tour, asked-table, asked-marks, checked-tour}
 use borrow.Author.Needs.{needs}
 use Rattle.marking.proofs.tour.check_tour.Statement.{statement}
@@ -10,12 +11,12 @@ use Rattle.marking.proofs.tour.check_tour.Tie as tie
 
 -- the tests are passed
 passed-at : (c : tie.After-known-told) → let s = c .before .before .before .before .before .before .before in
-    Passed (s .args .n) (now (s .args .table)) (now (s .args .marks)) (c .before .tested .given .0 .0)
+    InstancePassed (s .args .n) (whole32 (now (s .args .table))) (now (s .args .marks)) (c .before .tested .given .0 .0)
 passed-at c = passed (sym (c .before .before .before .test-instance .ensures) ∙ c .before .tested .given .1)
 
 -- and the numbers are a tour
 toured : (c : tie.Else1) → let s = c .before .before .before .before .before .before .before .before .before in
-    Toured (s .args .n) (now (s .args .table)) (now (s .args .marks)) (c .before .before .before .tested .given .0 .0) (now (s .args .tour))
+    Toured (s .args .n) (whole32 (now (s .args .table))) (now (s .args .marks)) (c .before .before .before .tested .given .0 .0) (whole16 (now (s .args .tour)))
 toured c = record { passed = passed-at (c .before .before); tour = sym (c .before .each-once .ensures) ∙ not-false _ (c .if1 .left) }
 
 test-instance-requires : tie.Need-test-instance-requires

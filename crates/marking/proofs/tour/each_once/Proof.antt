@@ -3,46 +3,46 @@ use Prim.Native.Nat.{_-_, _<_}
 use mathlib.Core.Path.{_≡_, sym, _∙_}
 use mathlib.Core.Bool.{true}
 use native.Mathlib.Omega.{arith}
-use lib.ListN.{length, getD}
 use denote.Ref.{now}
 use borrow.Author.Tests.{not-true, not-false}
 use borrow.Author.Needs.{needs}
 use Rattle.argument.specs.Record.{isPoint}
+use Rattle.endian.specs.Bytes.{whole16}
 use Rattle.lengths.specs.Instance.{pointPlaces}
 use Rattle.marking.proofs.TourSeen.{Seeing, wrong-length, seeing-start, not-point, flag-inside, seen-twice, seeing-on, all-seen}
 use Rattle.marking.proofs.tour.each_once.Statement.{statement}
 use Rattle.marking.proofs.tour.each_once.Tie as tie
 
 abbrev Inv-loop : tie.InvT-loop
-Inv-loop n tour seen₀ i₀ seen i = Seeing n tour seen i
+Inv-loop n tour count seen₀ i₀ seen i = Seeing n (whole16 tour) seen i
 
 abbrev μ-loop : tie.MeasureT-loop
-μ-loop n tour seen₀ i₀ seen i = length tour - i
+μ-loop n tour count seen₀ i₀ seen i = count - i
 
 -- the number at hand is a point
-point : (c : tie.Else2 Inv-loop μ-loop) → isPoint (c .before .before .before .before .before .before .before .args .n) (getD (now (c .before .before .before .before .before .before .before .args .tour)) (c .before .before .before .before .loop .i) 0) ≡ true
+point : (c : tie.Else2 Inv-loop μ-loop) → isPoint (c .before .before .before .before .before .before .before .before .args .n) (c .before .before .number16 .result) ≡ true
 point c = sym (c .before .is-point .ensures) ∙ not-false _ (c .if2 .left)
 
-inside : (c : tie.Else2 Inv-loop μ-loop) → getD (now (c .before .before .before .before .before .before .before .args .tour)) (c .before .before .before .before .loop .i) 0 < pointPlaces
-inside c = flag-inside (c .before .before .before .before .loop .inv) (c .before .before .before .before .before .before .before .pre) (c .before .before .before .loop-test .taken) (point c)
+inside : (c : tie.Else2 Inv-loop μ-loop) → c .before .before .number16 .result < pointPlaces
+inside c = flag-inside (c .before .before .before .before .loop .inv) (c .before .before .before .before .before .before .before .before .pre) (omega (arith, c .before .before .before .before .before .before .count16 .ensures, c .before .before .before .loop-test .taken)) (c .before .before .number16 .ensures) (point c)
+
+count16-requires : tie.Need-count16-requires Inv-loop μ-loop
+count16-requires c κs = search needs
 
 returns : tie.Need-returns Inv-loop μ-loop
-returns c = wrong-length (c .before .before .args .n) (now (c .before .before .args .tour)) (c .if1 .taken)
+returns c = wrong-length (c .before .before .before .args .n) (whole16 (now (c .before .before .before .args .tour))) (λ e. c .if1 .taken (c .before .count16 .ensures ∙ e))
 
 loop-holds : tie.Need-loop-holds Inv-loop μ-loop
-loop-holds c = seeing-start (c .if1 .left)
+loop-holds c = seeing-start (sym (c .before .count16 .ensures) ∙ c .if1 .left)
 
-mul-v : tie.Need-mul-v Inv-loop μ-loop
-mul-v c = search needs
-
-shared-slice-read-v : tie.Need-shared-slice-read-v Inv-loop μ-loop
-shared-slice-read-v c = search needs
+number16-requires : tie.Need-number16-requires Inv-loop μ-loop
+number16-requires c κs = omega (arith, c .before .before .before .count16 .ensures, c .loop-test .taken)
 
 is-point-requires : tie.Need-is-point-requires Inv-loop μ-loop
 is-point-requires c κs = search needs
 
 returns-2 : tie.Need-returns-2 Inv-loop μ-loop
-returns-2 c = not-point (c .before .before .before .before .loop .inv) (c .before .before .before .before .before .before .before .pre) (c .before .before .before .loop-test .taken) (sym (c .before .is-point .ensures) ∙ not-true _ (c .if2 .taken))
+returns-2 c = not-point (c .before .before .before .before .loop .inv) (c .before .before .before .before .before .before .before .before .pre) (omega (arith, c .before .before .before .before .before .before .count16 .ensures, c .before .before .before .loop-test .taken)) (c .before .before .number16 .ensures) (sym (c .before .is-point .ensures) ∙ not-true _ (c .if2 .taken))
 
 cast-if3 : tie.Need-cast-if3 Inv-loop μ-loop
 cast-if3 c = record { fits = omega (arith, inside c) }
@@ -51,7 +51,7 @@ array-read-if3 : tie.Need-array-read-if3 Inv-loop μ-loop
 array-read-if3 c = inside c
 
 returns-3 : tie.Need-returns-3 Inv-loop μ-loop
-returns-3 c = seen-twice (c .before .before .before .before .before .loop .inv) (c .before .before .before .before .before .before .before .before .pre) (c .before .before .before .before .loop-test .taken) (point (c .before)) (c .if3 .taken)
+returns-3 c = seen-twice (c .before .before .before .before .before .loop .inv) (c .before .before .before .before .before .before .before .before .before .pre) (omega (arith, c .before .before .before .before .before .before .before .count16 .ensures, c .before .before .before .before .loop-test .taken)) (c .before .before .before .number16 .ensures) (point (c .before)) (c .if3 .taken)
 
 cast-seen : tie.Need-cast-seen Inv-loop μ-loop
 cast-seen c = record { fits = omega (arith, inside (c .before)) }
@@ -66,10 +66,10 @@ loop-less : tie.Need-loop-less Inv-loop μ-loop
 loop-less c = search needs
 
 loop-again : tie.Need-loop-again Inv-loop μ-loop
-loop-again c = seeing-on (c .before .before .before .before .before .loop .inv) (c .before .before .before .before .before .before .before .before .pre) (c .before .before .before .before .loop-test .taken) (point (c .before)) (c .if3 .left)
+loop-again c = seeing-on (c .before .before .before .before .before .loop .inv) (c .before .before .before .before .before .before .before .before .before .pre) (omega (arith, c .before .before .before .before .before .before .before .count16 .ensures, c .before .before .before .before .loop-test .taken)) (c .before .before .before .number16 .ensures) (point (c .before)) (c .if3 .left)
 
 returns-4 : tie.Need-returns-4 Inv-loop μ-loop
-returns-4 c = all-seen (c .before .loop .inv) (c .loop-test .left)
+returns-4 c = all-seen (c .before .loop .inv) (omega (arith, c .before .before .before .count16 .ensures, c .loop-test .left))
 
 pub each-once-spec : {M : Type 1} → statement M
 each-once-spec =
@@ -77,10 +77,10 @@ each-once-spec =
     (tie.spec
     Inv-loop
     μ-loop
+    count16-requires
     returns
     loop-holds
-    mul-v
-    shared-slice-read-v
+    number16-requires
     is-point-requires
     returns-2
     cast-if3

@@ -1,34 +1,32 @@
 -- `marking::tour::length_of` meets its contract: `Summing` holds at the loop's head. Assumes nothing.
 use Prim.Native.Nat.{_-_}
-use lib.ListN.{length}
+use native.Mathlib.Omega.{arith}
 use borrow.Author.Needs.{needs}
-use Rattle.marking.proofs.TourLoops.{first-there, spans-on, spans-end, Summing, summing-start, sum-fits, last-fits, summing-on, all-summed}
+use Rattle.endian.specs.Bytes.{whole16, whole32}
+use Rattle.marking.proofs.TourLoops.{first-there, tour-size, spans-on, spans-end, Summing, summing-start, sum-fits, last-fits, summing-on, all-summed}
 use Rattle.marking.proofs.tour.length_of.Statement.{statement}
 use Rattle.marking.proofs.tour.length_of.Tie as tie
 
 abbrev Inv-loop : tie.InvT-loop
-Inv-loop n table tour first sum₀ from₀ i₀ sum from i = Summing n table tour sum from i
+Inv-loop n table tour count first sum₀ from₀ i₀ sum from i = Summing n (whole32 table) (whole16 tour) sum from i
 
 abbrev μ-loop : tie.MeasureT-loop
-μ-loop n table tour first sum₀ from₀ i₀ sum from i = length tour - i
+μ-loop n table tour count first sum₀ from₀ i₀ sum from i = count - i
 
-shared-slice-read-first : tie.Need-shared-slice-read-first Inv-loop μ-loop
-shared-slice-read-first c = first-there (c .before .before .before .pre)
+number16-requires : tie.Need-number16-requires Inv-loop μ-loop
+number16-requires c κs = first-there (c .before .before .pre)
 
 loop-holds : tie.Need-loop-holds Inv-loop μ-loop
-loop-holds c = summing-start (c .before .before .before .pre)
+loop-holds c = summing-start (c .before .before .before .pre) (c .number16 .ensures)
 
-mul-to : tie.Need-mul-to Inv-loop μ-loop
-mul-to c = search needs
-
-shared-slice-read-to : tie.Need-shared-slice-read-to Inv-loop μ-loop
-shared-slice-read-to c = search needs
+number16-requires-2 : tie.Need-number16-requires-2 Inv-loop μ-loop
+number16-requires-2 c κs = omega (arith, tour-size (c .before .before .before .before .before .pre), c .loop-test .taken)
 
 length-between-requires : tie.Need-length-between-requires Inv-loop μ-loop
-length-between-requires c κs = spans-on (c .before .before .before .before .before .before .pre) (c .before .before .loop .inv .around) (c .before .loop-test .taken)
+length-between-requires c κs = spans-on (c .before .before .before .before .before .before .pre) (c .before .before .loop .inv .preceding) (omega (arith, tour-size (c .before .before .before .before .before .before .pre), c .before .loop-test .taken)) (c .number162 .ensures)
 
 add-sum : tie.Need-add-sum Inv-loop μ-loop
-add-sum c = record { fits = sum-fits (c .before .before .before .before .before .before .before .pre) (c .before .before .before .loop .inv) (c .before .before .loop-test .taken) (c .length-between .ensures .bits) }
+add-sum c = record { fits = sum-fits (c .before .before .before .before .before .before .before .pre) (c .before .before .before .loop .inv) (omega (arith, tour-size (c .before .before .before .before .before .before .before .pre), c .before .before .loop-test .taken)) (c .length-between .ensures .bits) }
 
 add-i : tie.Need-add-i Inv-loop μ-loop
 add-i c = search needs
@@ -37,16 +35,16 @@ loop-less : tie.Need-loop-less Inv-loop μ-loop
 loop-less c = search needs
 
 loop-again : tie.Need-loop-again Inv-loop μ-loop
-loop-again c = summing-on (c .before .before .before .before .before .before .before .pre) (c .before .before .before .loop .inv) (c .before .before .loop-test .taken) (c .length-between .ensures)
+loop-again c = summing-on (c .before .before .before .before .before .before .before .pre) (c .before .before .before .loop .inv) (omega (arith, tour-size (c .before .before .before .before .before .before .before .pre), c .before .before .loop-test .taken)) (c .before .number162 .ensures) (c .length-between .ensures)
 
 length-between-requires-2 : tie.Need-length-between-requires-2 Inv-loop μ-loop
-length-between-requires-2 c κs = spans-end (c .before .before .before .before .before .pre) (c .before .loop .inv .around)
+length-between-requires-2 c κs = spans-end (c .before .before .before .before .before .pre) (c .before .loop .inv .preceding) (c .before .before .number16 .ensures)
 
 add-result : tie.Need-add-result Inv-loop μ-loop
 add-result c = record { fits = last-fits (c .before .before .before .before .before .before .pre) (c .before .before .loop .inv) (c .length-between2 .ensures .bits) }
 
 returns : tie.Need-returns Inv-loop μ-loop
-returns c = all-summed (c .before .before .before .before .before .before .pre) (c .before .before .loop .inv) (c .before .loop-test .left) (c .length-between2 .ensures)
+returns c = all-summed (c .before .before .before .before .before .before .pre) (c .before .before .loop .inv) (omega (arith, tour-size (c .before .before .before .before .before .before .pre), c .before .loop-test .left)) (c .before .before .before .number16 .ensures) (c .length-between2 .ensures)
 
 pub length-of-spec : {M : Type 1} → statement M
 length-of-spec =
@@ -54,10 +52,9 @@ length-of-spec =
     (tie.spec
     Inv-loop
     μ-loop
-    shared-slice-read-first
+    number16-requires
     loop-holds
-    mul-to
-    shared-slice-read-to
+    number16-requires-2
     length-between-requires
     add-sum
     add-i

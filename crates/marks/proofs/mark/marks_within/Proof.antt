@@ -1,20 +1,21 @@
 -- `marks::mark::marks_within` meets its contract: what is found so far and the test of what is left are the test of all. Assumes nothing.
 use Prim.Native.Nat.{_-_}
 use native.Mathlib.Omega.{arith}
+use mathlib.Core.Path.{refl}
 use borrow.Author.Needs.{needs}
 use lib.ListN.{length}
-use Rattle.lengths.proofs.Limits.{Looked, look-start, look-on, look-done}
+use Rattle.lengths.proofs.Limits.{Limiting, limiting-start, limiting-on, limiting-done}
 use Rattle.marks.proofs.mark.marks_within.Statement.{statement}
 use Rattle.marks.proofs.mark.marks_within.Tie as tie
 
 abbrev Inv-loop : tie.InvT-loop
-Inv-loop marks within₀ i₀ within i = Looked 1 marks within i
+Inv-loop marks within₀ i₀ within i = Limiting 1 marks within i
 
 abbrev μ-loop : tie.MeasureT-loop
 μ-loop marks within₀ i₀ within i = length marks - i
 
 loop-holds : tie.Need-loop-holds Inv-loop μ-loop
-loop-holds c = look-start 1 _
+loop-holds c = limiting-start 1 _
 
 shared-slice-read-if1 : tie.Need-shared-slice-read-if1 Inv-loop μ-loop
 shared-slice-read-if1 c = search needs
@@ -26,10 +27,10 @@ loop-less : tie.Need-loop-less Inv-loop μ-loop
 loop-less c = search needs
 
 loop-again : tie.Need-loop-again Inv-loop μ-loop
-loop-again c = look-on (c .before .before .before .loop .inv) (c .before .before .loop-test .taken) (λ w. omega (arith, w .taken)) (λ w. w .left) (c .if1 .came)
+loop-again c = limiting-on (c .before .before .before .loop .inv) (c .before .before .loop-test .taken) refl (λ w. omega (arith, w .taken)) (λ w. w .left) (c .if1 .came)
 
 returns : tie.Need-returns Inv-loop μ-loop
-returns c = look-done (c .before .loop .inv) (c .loop-test .left)
+returns c = limiting-done (c .before .loop .inv) (c .loop-test .left)
 
 pub marks-within-spec : {M : Type 1} → statement M
 marks-within-spec =

@@ -2,15 +2,16 @@
 use Prim.Native.Nat.{_+_, _-_}
 use native.Mathlib.Omega.{arith}
 use borrow.Author.Needs.{needs}
+use Rattle.endian.specs.Bytes.{whole32}
 use Rattle.search.proofs.RowSearch.{Scanning, row-far, row-over, row-rank, scan-start, scan-below, scan-inside, scan-small, scan-room, scan-rises, scan-found, scan-on, scan-end}
 use Rattle.search.proofs.pairs.next_in_row.Statement.{statement}
 use Rattle.search.proofs.pairs.next_in_row.Tie as tie
 
 abbrev Inv-loop : tie.InvT-loop
-Inv-loop n table legs near rank bound x y leg cost after first at₀ z₀ at z = Scanning n table legs near rank bound x y cost first at z
+Inv-loop n table legs candidates rank bound x y leg cost after first at₀ z₀ at z = Scanning n (whole32 table) legs candidates rank bound x y cost first at z
 
 abbrev μ-loop : tie.MeasureT-loop
-μ-loop n table legs near rank bound x y leg cost after first at₀ z₀ at z = n + 1 - z
+μ-loop n table legs candidates rank bound x y leg cost after first at₀ z₀ at z = n + 1 - z
 
 mul-leg : tie.Need-mul-leg Inv-loop μ-loop
 mul-leg c = search needs
@@ -31,7 +32,7 @@ returns-2 : tie.Need-returns-2 Inv-loop μ-loop
 returns-2 c = row-over (c .before .before .before .before .pre) (c .if2 .taken)
 
 add-cost : tie.Need-add-cost Inv-loop μ-loop
-add-cost c = omega (arith, c .before .before .before .before .pre .bounded .list .near (c .before .before .before .before .args .x))
+add-cost c = omega (arith, c .before .before .before .before .pre .bounded .list .at-most-far (c .before .before .before .before .args .x))
 
 add-after : tie.Need-add-after Inv-loop μ-loop
 add-after c = search needs
@@ -72,31 +73,28 @@ element-copy-out-if3 c = search needs
 add-if3 : tie.Need-add-if3 Inv-loop μ-loop
 add-if3 c =
     let start = c .before .before .before .before .before .before .before .before .before .before in
-    let near = start .pre .bounded .list .near in
-    omega (arith, near (start .args .x), near (c .before .before .loop .z))
+    let at-most-far = start .pre .bounded .list .at-most-far in
+    omega (arith, at-most-far (start .args .x), at-most-far (c .before .before .loop .z))
 
-sub-if3 : tie.Need-sub-if3 Inv-loop μ-loop
-sub-if3 c = scan-below (c .before .before .loop .inv)
+sub-number32 : tie.Need-sub-number32 Inv-loop μ-loop
+sub-number32 c = search needs
 
-cast-if3-2 : tie.Need-cast-if3-2 Inv-loop μ-loop
-cast-if3-2 c = search needs
+cast-number32 : tie.Need-cast-number32 Inv-loop μ-loop
+cast-number32 c = search needs
+
+add-number32 : tie.Need-add-number32 Inv-loop μ-loop
+add-number32 c = omega (arith, scan-small (c .before .before .loop .inv) (c .before .loop-test .taken))
+
+number32-requires : tie.Need-number32-requires Inv-loop μ-loop
+number32-requires c κs = scan-inside (c .before .before .loop .inv) (c .before .loop-test .taken)
 
 add-if3-2 : tie.Need-add-if3-2 Inv-loop μ-loop
-add-if3-2 c = omega (arith, scan-small (c .before .before .loop .inv) (c .before .loop-test .taken))
-
-mul-if3-2 : tie.Need-mul-if3-2 Inv-loop μ-loop
-mul-if3-2 c = omega (arith, scan-small (c .before .before .loop .inv) (c .before .loop-test .taken))
-
-shared-slice-read-if3 : tie.Need-shared-slice-read-if3 Inv-loop μ-loop
-shared-slice-read-if3 c = scan-inside (c .before .before .before .loop .inv) (c .before .before .loop-test .taken)
-
-add-if3-3 : tie.Need-add-if3-3 Inv-loop μ-loop
-add-if3-3 c =
+add-if3-2 c =
     let start = c .before .before .before .before .before .before .before .before .before .before .before in
-    omega (arith, start .pre .lengths .small (c .before .before .before .before .before .before .place .result + (c .before .before .before .loop .z - (start .args .x + 1))), start .pre .bounded .tight)
+    omega (arith, c .number32 .ensures, start .pre .lengths .small (c .before .before .before .before .before .before .place .result + (c .before .before .before .loop .z - (start .args .x + 1))), start .pre .bounded .tight)
 
 returns-3 : tie.Need-returns-3 Inv-loop μ-loop
-returns-3 c = scan-found (c .before .before .before .before .loop .inv) (c .before .before .before .loop-test .taken) (c .if3 .taken)
+returns-3 c = scan-found (c .before .before .before .before .loop .inv) (c .before .before .before .loop-test .taken) (c .before .number32 .ensures) (c .if3 .taken)
 
 add-at-2 : tie.Need-add-at-2 Inv-loop μ-loop
 add-at-2 c = omega (arith, scan-room (c .before .before .before .before .loop .inv) (c .before .before .before .loop-test .taken))
@@ -111,7 +109,7 @@ loop-less : tie.Need-loop-less Inv-loop μ-loop
 loop-less c = omega (arith, scan-rises (c .before .before .before .before .before .loop .inv) (c .before .before .before .before .loop-test .taken), c .before .before .before .before .loop-test .taken)
 
 loop-again : tie.Need-loop-again Inv-loop μ-loop
-loop-again c = scan-on (c .before .before .before .before .before .loop .inv) (c .before .before .before .before .loop-test .taken) (c .before .if3 .left)
+loop-again c = scan-on (c .before .before .before .before .before .loop .inv) (c .before .before .before .before .loop-test .taken) (c .before .before .number32 .ensures) (c .before .if3 .left)
 
 returns-4 : tie.Need-returns-4 Inv-loop μ-loop
 returns-4 c = scan-end (c .before .loop .inv) (c .loop-test .left)
@@ -142,12 +140,11 @@ next-in-row-spec =
     mul-if3
     element-copy-out-if3
     add-if3
-    sub-if3
-    cast-if3-2
+    sub-number32
+    cast-number32
+    add-number32
+    number32-requires
     add-if3-2
-    mul-if3-2
-    shared-slice-read-if3
-    add-if3-3
     returns-3
     add-at-2
     mul-z-2

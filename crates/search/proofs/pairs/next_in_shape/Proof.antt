@@ -4,16 +4,17 @@ use mathlib.Core.Bool.{not}
 use mathlib.Core.Path.{sym, _∙_, ap}
 use native.Mathlib.Omega.{arith}
 use borrow.Author.Needs.{needs}
+use Rattle.endian.specs.Bytes.{whole32}
 use Rattle.sets.proofs.BeyondNumbers.{beyond-asked}
 use Rattle.search.proofs.RowShapes.{Trying, try-start, try-none, try-fork, try-shuts, try-asked, try-found, try-on, try-rises, try-end}
 use Rattle.search.proofs.pairs.next_in_shape.Statement.{statement}
 use Rattle.search.proofs.pairs.next_in_shape.Tie as tie
 
 abbrev Inv-loop : tie.InvT-loop
-Inv-loop n table legs near rank bound c centre k x y z₀ ahead z = Trying n table legs near rank bound c centre k x y ahead z
+Inv-loop n table legs candidates rank bound c centre k x y z₀ ahead z = Trying n (whole32 table) legs candidates rank bound c centre k x y ahead z
 
 abbrev μ-loop : tie.MeasureT-loop
-μ-loop n table legs near rank bound c centre k x y z₀ ahead z = n + 1 - z
+μ-loop n table legs candidates rank bound c centre k x y z₀ ahead z = n + 1 - z
 
 next-beside-requires : tie.Need-next-beside-requires Inv-loop μ-loop
 next-beside-requires c κs = c .before .pre .beside

@@ -1,16 +1,17 @@
 -- `search::pairs::next_pair` meets its contract: the loop's invariant is `Walking`, the measure the rows left. Assumes nothing.
 use Prim.Native.Nat.{_-_}
 use native.Mathlib.Omega.{arith}
+use Rattle.endian.specs.Bytes.{whole32}
 use Rattle.search.proofs.PairSearch.{Walking, walk-start, walk-asked, walk-rank, walk-rises, walk-found, walk-row, walk-end}
 use borrow.Author.Needs.{needs}
 use Rattle.search.proofs.pairs.next_pair.Statement.{statement}
 use Rattle.search.proofs.pairs.next_pair.Tie as tie
 
 abbrev Inv-loop : tie.InvT-loop
-Inv-loop n table legs near rank bound c centre k x y a₀ b₀ a b = Walking n table legs near rank bound c centre k x y a b
+Inv-loop n table legs candidates rank bound c centre k x y a₀ b₀ a b = Walking n (whole32 table) legs candidates rank bound c centre k x y a b
 
 abbrev μ-loop : tie.MeasureT-loop
-μ-loop n table legs near rank bound c centre k x y a₀ b₀ a b = n - a
+μ-loop n table legs candidates rank bound c centre k x y a₀ b₀ a b = n - a
 
 loop-holds : tie.Need-loop-holds Inv-loop μ-loop
 loop-holds c = walk-start (c .before .pre)

@@ -30,7 +30,7 @@ element-copy-out-cost : tie.Need-element-copy-out-cost
 element-copy-out-cost c = search needs
 
 add-cost : tie.Need-add-cost
-add-cost c = omega (arith, c .before .before .before .before .before .pre .bounded .list .near (c .before .before .before .before .before .args .x))
+add-cost c = omega (arith, c .before .before .before .before .before .pre .bounded .list .at-most-far (c .before .before .before .before .before .args .x))
 
 mul-cost-2 : tie.Need-mul-cost-2
 mul-cost-2 c = search needs
@@ -39,10 +39,10 @@ element-copy-out-cost-2 : tie.Need-element-copy-out-cost-2
 element-copy-out-cost-2 c = search needs
 
 add-cost-2 : tie.Need-add-cost-2
-add-cost-2 c = omega (arith, c .before .before .before .before .before .before .pre .bounded .list .near (c .before .before .before .before .before .before .args .x), c .before .before .before .before .before .before .pre .bounded .list .near (c .before .before .before .before .before .before .args .a))
+add-cost-2 c = omega (arith, c .before .before .before .before .before .before .pre .bounded .list .at-most-far (c .before .before .before .before .before .before .args .x), c .before .before .before .before .before .before .pre .bounded .list .at-most-far (c .before .before .before .before .before .before .args .a))
 
 cast-if4 : tie.Need-cast-if4
-cast-if4 c = omega (arith, c .before .before .before .before .before .before .pre .bounded .list .near (c .before .before .before .before .before .before .args .x), c .before .before .before .before .before .before .pre .bounded .list .near (c .before .before .before .before .before .before .args .a))
+cast-if4 c = omega (arith, c .before .before .before .before .before .before .pre .bounded .list .at-most-far (c .before .before .before .before .before .before .args .x), c .before .before .before .before .before .before .pre .bounded .list .at-most-far (c .before .before .before .before .before .before .args .a))
 
 length-between-requires : tie.Need-length-between-requires
 length-between-requires c κs = search needs

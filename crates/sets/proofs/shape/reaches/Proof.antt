@@ -4,7 +4,7 @@ use Prim.Native.Nat.{_-_}
 use mathlib.Core.Path.{_≡_, refl, _∙_, sym}
 use borrow.Author.Needs.{needs}
 use Rattle.sets.specs.Shape.{reaches?, goesOn}
-use Rattle.sets.specs.Stored.{edgeList}
+use Rattle.sets.specs.asks.Stored.{edgeList}
 use Rattle.sets.proofs.Laws.Walk.{reaches-end, reaches-here, reaches-step}
 use Rattle.sets.proofs.shape.reaches.Statement.{statement}
 use Rattle.sets.proofs.shape.reaches.Tie as tie

@@ -4,6 +4,7 @@ use Prim.Native.Nat.{_-_}
 use mathlib.Core.Path.{_∙_}
 use native.Mathlib.Omega.{arith}
 use borrow.Author.Needs.{needs}
+use Rattle.endian.specs.Bytes.{whole16, whole32}
 use Rattle.argument.specs.Record.{records}
 use Rattle.sheets.proofs.Lining.{Proceeding, lines-start, lines-accepted, lines-refused, lines-few, lines-fall, lines-on}
 use Rattle.sheets.proofs.line.mark_lines.Statement.{statement}
@@ -11,10 +12,10 @@ use Rattle.sheets.proofs.line.mark_lines.Tie as tie
 
 abbrev Inv-loop : tie.InvT-loop
 Inv-loop n table rows marks₀ sheet count lines₀ last₀ index₀ high₀ marks lines last index high =
-    Proceeding n table rows marks₀ sheet count marks lines last index high
+    Proceeding n (whole32 table) rows marks₀ (whole16 sheet) count marks lines last index high
 
 abbrev μ-loop : tie.MeasureT-loop
-μ-loop n table rows marks₀ sheet count lines₀ last₀ index₀ high₀ marks lines last index high = records sheet - high
+μ-loop n table rows marks₀ sheet count lines₀ last₀ index₀ high₀ marks lines last index high = records (whole16 sheet) - high
 
 loop-holds : tie.Need-loop-holds Inv-loop μ-loop
 loop-holds c = lines-start (c .before .before .before .before .pre)

@@ -7,8 +7,9 @@ use native.Mathlib.Omega.{arith}
 use borrow.Author.Needs.{needs}
 use borrow.Fn.Kinds.{In}
 use borrow.Fn.PlainCycle.{Measures, is, falls, and}
+use Rattle.endian.specs.Bytes.{whole16, whole32}
 use Rattle.argument.specs.Record.{records}
-use Rattle.sheets.proofs.Walking.{Following, chain-split, follow-start, follow-search, follow-few, follow-ends, follow-stops, follow-case, follow-case-stops, follow-falls, follow-on, close-too-deep, close-chain, close-walks, close-crossable, close-settled, close-no-crossing, close-no-saving}
+use Rattle.sheets.proofs.Walking.{Following, chain-split, follow-start, follow-search, follow-few, follow-ends, follow-stops, follow-case, follow-case-stops, follow-falls, follow-on, close-too-deep, close-chain, close-walks, close-three-opt-asked, close-settled, close-no-moves, close-no-saving}
 use Rattle.sheets.proofs.walk.chain.Reads as chain
 use Rattle.sheets.proofs.walk.chain.Kinds as chain-kinds
 use Rattle.sheets.proofs.walk.+chain+close_case.Lts-chain as chain-lts
@@ -16,10 +17,10 @@ use Rattle.sheets.proofs.walk.close_case.Reads as close-case
 use Rattle.sheets.proofs.walk.close_case.Kinds as close-case-kinds
 use Rattle.sheets.proofs.walk.+chain+close_case.Lts-close_case as close-case-lts
 use Rattle.sheets.proofs.walk.look.Reads as look-reads
-use Rattle.closings.proofs.closing.crossing.Reads as crossing-reads
+use Rattle.closings.proofs.closing.close_by_three_opt.Reads as close-by-three-opt-reads
 use Rattle.sets.proofs.edge_set.EdgeSet.with_pair.Reads as with-pair-reads
-use Rattle.sets.proofs.near.neighbours.Reads as neighbours-reads
-use Rattle.search.proofs.nearby.list_nearby.Reads as list-nearby-reads
+use Rattle.sets.proofs.neighbours.neighbours_of.Reads as neighbours-of-reads
+use Rattle.search.proofs.candidates.list_candidates.Reads as list-candidates-reads
 use Rattle.search.proofs.pairs.next_pair.Reads as next-pair-reads
 use Rattle.search.proofs.split.prepare.Reads as prepare-reads
 use Rattle.sheets.proofs.walk.+chain+close_case.{statement}
@@ -47,30 +48,30 @@ close-case-below t =
 
 -- the readings of the callees of each
 abbrev chain-calls : ℕ → chain-lts.Claims
-chain-calls t = (prepare-reads.Asked, prepare-reads.Learnt, neighbours-reads.Asked, neighbours-reads.Learnt, list-nearby-reads.Asked, list-nearby-reads.Learnt, next-pair-reads.Asked, next-pair-reads.Learnt, look-reads.Asked, look-reads.Learnt, with-pair-reads.Asked, with-pair-reads.Learnt, close-case-below t, close-case.Post)
+chain-calls t = (prepare-reads.Asked, prepare-reads.Learnt, neighbours-of-reads.Asked, neighbours-of-reads.Learnt, list-candidates-reads.Asked, list-candidates-reads.Learnt, next-pair-reads.Asked, next-pair-reads.Learnt, look-reads.Asked, look-reads.Learnt, with-pair-reads.Asked, with-pair-reads.Learnt, close-case-below t, close-case.Post)
 
 abbrev close-case-calls : ℕ → close-case-lts.Claims
-close-case-calls t = (chain-below t, chain.Post, crossing-reads.Asked, crossing-reads.Learnt)
+close-case-calls t = (chain-below t, chain.Post, close-by-three-opt-reads.Asked, close-by-three-opt-reads.Learnt)
 
 abbrev chain-Inv-loop : chain-lts.InvT-loop
-chain-Inv-loop n table rows marks sheet count k left i c first legs bound centre near rank x₀ y₀ last₀ index₀ high₀ x y last index high =
-    Following n table rows marks sheet count k left i c first legs near rank bound centre x y last index high
+chain-Inv-loop n table rows marks sheet count k left i c first legs bound centre candidates rank x₀ y₀ last₀ index₀ high₀ x y last index high =
+    Following n (whole32 table) rows marks (whole16 sheet) count k left i c first legs candidates rank bound centre x y last index high
 
 abbrev chain-μ-loop : chain-lts.MeasureT-loop
-chain-μ-loop n table rows marks sheet count k left i c first legs bound centre near rank x₀ y₀ last₀ index₀ high₀ x y last index high =
-    records sheet - high
+chain-μ-loop n table rows marks sheet count k left i c first legs bound centre candidates rank x₀ y₀ last₀ index₀ high₀ x y last index high =
+    records (whole16 sheet) - high
 
 chain-prepare-requires : (t : ℕ) → chain-lts.Need-prepare-requires (chain-calls t) (chain-at t) chain.Post chain-Inv-loop chain-μ-loop
 chain-prepare-requires t c κs = (chain-split (c .before .before .before .before .before .pre .1), refl)
 
-chain-neighbours-requires : (t : ℕ) → chain-lts.Need-neighbours-requires (chain-calls t) (chain-at t) chain.Post chain-Inv-loop chain-μ-loop
-chain-neighbours-requires t c κs = c .before .before .before .before .before .before .pre .1 .held .stored
+chain-neighbours-of-requires : (t : ℕ) → chain-lts.Need-neighbours-of-requires (chain-calls t) (chain-at t) chain.Post chain-Inv-loop chain-μ-loop
+chain-neighbours-of-requires t c κs = c .before .before .before .before .before .before .pre .1 .held .stored
 
-chain-list-nearby-requires : (t : ℕ) → chain-lts.Need-list-nearby-requires (chain-calls t) (chain-at t) chain.Post chain-Inv-loop chain-μ-loop
-chain-list-nearby-requires t c κs = record { few = c .before .before .before .before .before .before .before .before .before .before .pre .1 .tried .admitted .lengths .few; near-room = refl; rank-room = refl }
+chain-list-candidates-requires : (t : ℕ) → chain-lts.Need-list-candidates-requires (chain-calls t) (chain-at t) chain.Post chain-Inv-loop chain-μ-loop
+chain-list-candidates-requires t c κs = record { few = c .before .before .before .before .before .before .before .before .before .before .pre .1 .tried .admitted .lengths .few; candidates-room = refl; rank-room = refl }
 
 chain-loop-holds : (t : ℕ) → chain-lts.Need-loop-holds (chain-calls t) (chain-at t) chain.Post chain-Inv-loop chain-μ-loop
-chain-loop-holds t c = follow-start (c .before .before .before .before .before .before .before .before .before .before .before .pre .1) _ _ (c .before .before .before .before .before .prepare .ensures) (c .before .before .before .before .neighbours .ensures) (c .list-nearby .ensures)
+chain-loop-holds t c = follow-start (c .before .before .before .before .before .before .before .before .before .before .before .pre .1) _ _ (c .before .before .before .before .before .prepare .ensures) (c .before .before .before .before .neighbours-of .ensures) (c .list-candidates .ensures)
 
 chain-next-pair-requires : (t : ℕ) → chain-lts.Need-next-pair-requires (chain-calls t) (chain-at t) chain.Post chain-Inv-loop chain-μ-loop
 chain-next-pair-requires t c κs = follow-search (c .before .before .before .loop .inv)
@@ -129,8 +130,8 @@ close-case-chain-requires t c κs = (omega (arith, c .before .before .before .be
 close-case-enum-known-closing-2 : (t : ℕ) → close-case-lts.Need-enum-known-closing-2 (close-case-calls t) (close-case-at t) close-case.Post
 close-case-enum-known-closing-2 t c = search needs
 
-close-case-crossing-requires : (t : ℕ) → close-case-lts.Need-crossing-requires (close-case-calls t) (close-case-at t) close-case.Post
-close-case-crossing-requires t c κs = close-crossable (c .before .before .before .before .before .before .before .pre .1) (c .before .closing2 .given .1)
+close-case-close-by-three-opt-requires : (t : ℕ) → close-case-lts.Need-close-by-three-opt-requires (close-case-calls t) (close-case-at t) close-case.Post
+close-case-close-by-three-opt-requires t c κs = close-three-opt-asked (c .before .before .before .before .before .before .before .pre .1) (c .before .closing2 .given .1)
 
 close-case-enum-told : (t : ℕ) → close-case-lts.Need-enum-told (close-case-calls t) (close-case-at t) close-case.Post
 close-case-enum-told t c = search needs
@@ -145,13 +146,13 @@ close-case-returns-2 : (t : ℕ) → close-case-lts.Need-returns-2 (close-case-c
 close-case-returns-2 t c = close-walks (c .before .before .before .before .before .before .before .before .before .pre .1) (c .before .before .before .closing .given .1) _ (c .before .if1 .left) (c .chain .ensures)
 
 close-case-returns-3 : (t : ℕ) → close-case-lts.Need-returns-3 (close-case-calls t) (close-case-at t) close-case.Post
-close-case-returns-3 t c = close-settled (c .before .before .before .before .before .before .before .before .before .before .pre .1) (c .before .before .before .before .closing2 .given .1) _ (c .before .before .crossing .ensures) (c .enum-told .given .1)
+close-case-returns-3 t c = close-settled (c .before .before .before .before .before .before .before .before .before .before .pre .1) (c .before .before .before .before .closing2 .given .1) _ (c .before .before .close-by-three-opt .ensures) (c .enum-told .given .1)
 
 close-case-returns-4 : (t : ℕ) → close-case-lts.Need-returns-4 (close-case-calls t) (close-case-at t) close-case.Post
-close-case-returns-4 t c = close-no-crossing (c .before .before .before .before .before .before .before .before .before .before .pre .1) (c .before .before .before .before .closing2 .given .1) _ (c .before .before .crossing .ensures) (c .enum-told2 .given .1)
+close-case-returns-4 t c = close-no-moves (c .before .before .before .before .before .before .before .before .before .before .pre .1) (c .before .before .before .before .closing2 .given .1) _ (c .before .before .close-by-three-opt .ensures) (c .enum-told2 .given .1)
 
 close-case-returns-5 : (t : ℕ) → close-case-lts.Need-returns-5 (close-case-calls t) (close-case-at t) close-case.Post
-close-case-returns-5 t c = close-no-saving (c .before .before .before .before .before .before .before .before .before .before .pre .1) (c .before .before .before .before .closing2 .given .1) _ (c .before .before .crossing .ensures) (c .enum-told3 .given .1)
+close-case-returns-5 t c = close-no-saving (c .before .before .before .before .before .before .before .before .before .before .pre .1) (c .before .before .before .before .closing2 .given .1) _ (c .before .before .close-by-three-opt .ensures) (c .enum-told3 .given .1)
 
 pub +chain+close-case-spec : {M : Type 1} → statement M
 +chain+close-case-spec = close μ-chain μ-close-case (λ t. chain-lts.spec (chain-calls t)
@@ -160,8 +161,8 @@ pub +chain+close-case-spec : {M : Type 1} → statement M
     chain-Inv-loop
     chain-μ-loop
     (chain-prepare-requires t)
-    (chain-neighbours-requires t)
-    (chain-list-nearby-requires t)
+    (chain-neighbours-of-requires t)
+    (chain-list-candidates-requires t)
     (chain-loop-holds t)
     (chain-next-pair-requires t)
     (chain-look-requires t)
@@ -186,7 +187,7 @@ pub +chain+close-case-spec : {M : Type 1} → statement M
     (close-case-sub-chain t)
     (close-case-chain-requires t)
     (close-case-enum-known-closing-2 t)
-    (close-case-crossing-requires t)
+    (close-case-close-by-three-opt-requires t)
     (close-case-enum-told t)
     (close-case-enum-told-2 t)
     (close-case-enum-told-3 t)

@@ -7,14 +7,14 @@ use Rattle.report.proofs.header.Header.read.Statement.{statement}
 use Rattle.report.proofs.header.Header.read.Tie as tie
 
 -- test 1 is passed
-admits : (c : tie.After-known-told) → Admits (c .before .before .before .before .number32 .result) (c .before .instance .given .0 .0)
+admits : (c : tie.After-known-told) → Admits (c .before .before .before .before .number-in .result) (c .before .instance .given .0 .0)
 admits c = admitted (sym (c .before .before .before .admit .ensures) ∙ c .before .instance .given .1)
 
 returns : tie.Need-returns
 returns c = header-short _ (c .if1 .taken)
 
-number32-requires : tie.Need-number32-requires
-number32-requires c κs = search needs
+number-in-requires : tie.Need-number-in-requires
+number-in-requires c κs = search needs
 
 admit-requires : tie.Need-admit-requires
 admit-requires c κs = search needs
@@ -26,7 +26,7 @@ enum-told : tie.Need-enum-told
 enum-told c = search needs
 
 returns-2 : tie.Need-returns-2
-returns-2 c = header-points _ (c .before .before .before .number32 .ensures) (c .before .before .before .before .if1 .left) (sym (c .before .before .admit .ensures) ∙ c .enum-told .given .1)
+returns-2 c = header-points _ (c .before .before .before .number-in .ensures) (c .before .before .before .before .if1 .left) (sym (c .before .before .admit .ensures) ∙ c .enum-told .given .1)
 
 cast-if2 : tie.Need-cast-if2
 cast-if2 c = search needs
@@ -38,29 +38,29 @@ add-if2 : tie.Need-add-if2
 add-if2 c = search needs
 
 returns-3 : tie.Need-returns-3
-returns-3 c = header-cut _ (c .before .before .before .before .before .number32 .ensures) (c .before .before .before .before .before .before .if1 .left) (admits (c .before)) (c .if2 .taken)
+returns-3 c = header-cut _ (c .before .before .before .before .before .number-in .ensures) (c .before .before .before .before .before .before .if1 .left) (admits (c .before)) (c .if2 .taken)
 
 returns-4 : tie.Need-returns-4
 returns-4 c =
     let k = c .before .before in
     let n = k .before .before .before .before in
-    header-long _ (n .number32 .ensures) (n .before .if1 .left) (admits k) (c .before .if2 .left) (c .if3 .taken)
+    header-long _ (n .number-in .ensures) (n .before .if1 .left) (admits k) (c .before .if2 .left) (c .if3 .taken)
 
-number32-requires-2 : tie.Need-number32-requires-2
-number32-requires-2 c κs = search needs
+number-in-requires-2 : tie.Need-number-in-requires-2
+number-in-requires-2 c κs = search needs
 
 returns-5 : tie.Need-returns-5
 returns-5 c =
     let k = c .before .before .before in
     let n = k .before .before .before .before in
-    header-read _ (n .number32 .ensures) (n .before .if1 .left) (admits k) (c .before .before .if2 .left) (c .before .if3 .left) (c .number322 .ensures)
+    header-read _ (n .number-in .ensures) (n .before .if1 .left) (admits k) (c .before .before .if2 .left) (c .before .if3 .left) (c .number-in2 .ensures)
 
 pub read-spec : {M : Type 1} → statement M
 read-spec =
     tie.close
     (tie.spec
     returns
-    number32-requires
+    number-in-requires
     admit-requires
     enum-known-instance
     enum-told
@@ -70,5 +70,5 @@ read-spec =
     add-if2
     returns-3
     returns-4
-    number32-requires-2
+    number-in-requires-2
     returns-5)

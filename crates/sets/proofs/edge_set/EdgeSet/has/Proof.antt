@@ -4,7 +4,7 @@ use Prim.Native.Nat.{_≤_}
 use mathlib.Core.Path.{_≡_, refl, _∙_, sym}
 use borrow.Author.Needs.{needs}
 use Rattle.sets.specs.Joined.{has?}
-use Rattle.sets.specs.Stored.{edgesOf, edgeList, mostKnown}
+use Rattle.sets.specs.asks.Stored.{edgesOf, edgeList, mostKnown}
 use Rattle.sets.proofs.Laws.Stored.{has-here, has-below, has-none}
 use Rattle.sets.proofs.edge_set.EdgeSet.has.Statement.{statement}
 use Rattle.sets.proofs.edge_set.EdgeSet.has.Tie as tie

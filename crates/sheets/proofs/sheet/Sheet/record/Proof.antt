@@ -1,8 +1,7 @@
--- `sheets::sheet::Sheet::record` meets its contract: the eight numbers lie in the sheet, and each way out is `recordAt` at its kind, u and v.
--- Assumes nothing.
+-- `sheets::sheet::Sheet::record` meets its contract: the eight numbers lie in the sheet, and what they mean is the record. Assumes nothing.
+use mathlib.Core.Path.{_∙_}
 use native.Mathlib.Omega.{arith}
-use Rattle.argument.specs.Record.{field}
-use Rattle.sheets.proofs.Records.{record-inside, crossing-record, other-u, other-v, line-record, split-record, other-kind}
+use Rattle.sheets.proofs.Records.{record-inside, record-read}
 use borrow.Author.Needs.{needs}
 use Rattle.sheets.proofs.sheet.Sheet.record.Statement.{statement}
 use Rattle.sheets.proofs.sheet.Sheet.record.Tie as tie
@@ -13,98 +12,56 @@ sub-at c = search needs
 mul-at : tie.Need-mul-at
 mul-at c = search needs
 
-mul-kind : tie.Need-mul-kind
-mul-kind c = search needs
+number16-requires : tie.Need-number16-requires
+number16-requires c κs = omega (arith, record-inside (c .before .pre))
 
-shared-slice-read-kind : tie.Need-shared-slice-read-kind
-shared-slice-read-kind c = omega (arith, record-inside (c .before .pre))
+add-number16 : tie.Need-add-number16
+add-number16 c = search needs
 
-add-a : tie.Need-add-a
-add-a c = search needs
+number16-requires-2 : tie.Need-number16-requires-2
+number16-requires-2 c κs = omega (arith, record-inside (c .before .before .pre))
 
-mul-a : tie.Need-mul-a
-mul-a c = search needs
+add-number16-2 : tie.Need-add-number16-2
+add-number16-2 c = search needs
 
-shared-slice-read-a : tie.Need-shared-slice-read-a
-shared-slice-read-a c = omega (arith, record-inside (c .before .before .pre))
+number16-requires-3 : tie.Need-number16-requires-3
+number16-requires-3 c κs = omega (arith, record-inside (c .before .before .before .pre))
 
-add-b : tie.Need-add-b
-add-b c = search needs
+add-number16-3 : tie.Need-add-number16-3
+add-number16-3 c = search needs
 
-mul-b : tie.Need-mul-b
-mul-b c = search needs
+number16-requires-4 : tie.Need-number16-requires-4
+number16-requires-4 c κs = omega (arith, record-inside (c .before .before .before .before .pre))
 
-shared-slice-read-b : tie.Need-shared-slice-read-b
-shared-slice-read-b c = omega (arith, record-inside (c .before .before .before .pre))
+add-number16-4 : tie.Need-add-number16-4
+add-number16-4 c = search needs
 
-add-u : tie.Need-add-u
-add-u c = search needs
+number16-requires-5 : tie.Need-number16-requires-5
+number16-requires-5 c κs = omega (arith, record-inside (c .before .before .before .before .before .pre))
 
-mul-u : tie.Need-mul-u
-mul-u c = search needs
+add-number16-5 : tie.Need-add-number16-5
+add-number16-5 c = search needs
 
-shared-slice-read-u : tie.Need-shared-slice-read-u
-shared-slice-read-u c = omega (arith, record-inside (c .before .before .before .before .pre))
+number16-requires-6 : tie.Need-number16-requires-6
+number16-requires-6 c κs = omega (arith, record-inside (c .before .before .before .before .before .before .pre))
 
-add-v : tie.Need-add-v
-add-v c = search needs
+add-number16-6 : tie.Need-add-number16-6
+add-number16-6 c = search needs
 
-mul-v : tie.Need-mul-v
-mul-v c = search needs
+number16-requires-7 : tie.Need-number16-requires-7
+number16-requires-7 c κs = omega (arith, record-inside (c .before .before .before .before .before .before .before .pre))
 
-shared-slice-read-v : tie.Need-shared-slice-read-v
-shared-slice-read-v c = omega (arith, record-inside (c .before .before .before .before .before .pre))
+add-number16-7 : tie.Need-add-number16-7
+add-number16-7 c = search needs
 
-add-c : tie.Need-add-c
-add-c c = search needs
+number16-requires-8 : tie.Need-number16-requires-8
+number16-requires-8 c κs = omega (arith, record-inside (c .before .before .before .before .before .before .before .before .pre))
 
-mul-c : tie.Need-mul-c
-mul-c c = search needs
-
-shared-slice-read-c : tie.Need-shared-slice-read-c
-shared-slice-read-c c = omega (arith, record-inside (c .before .before .before .before .before .before .pre))
-
-add-d : tie.Need-add-d
-add-d c = search needs
-
-mul-d : tie.Need-mul-d
-mul-d c = search needs
-
-shared-slice-read-d : tie.Need-shared-slice-read-d
-shared-slice-read-d c = omega (arith, record-inside (c .before .before .before .before .before .before .before .pre))
-
-add-next : tie.Need-add-next
-add-next c = search needs
-
-mul-next : tie.Need-mul-next
-mul-next c = search needs
-
-shared-slice-read-next : tie.Need-shared-slice-read-next
-shared-slice-read-next c = omega (arith, record-inside (c .before .before .before .before .before .before .before .before .pre))
+meaning-requires : tie.Need-meaning-requires
+meaning-requires c κs = search needs
 
 returns : tie.Need-returns
-unfolding field
-returns c = crossing-record _ _ (c .if1 .taken)
-
-returns-2 : tie.Need-returns-2
-unfolding field
-returns-2 c = other-u _ _ (c .before .if1 .left) (c .if2 .taken)
-
-returns-3 : tie.Need-returns-3
-unfolding field
-returns-3 c = other-v _ _ (c .before .before .if1 .left) (c .before .if2 .left) (c .if3 .taken)
-
-returns-4 : tie.Need-returns-4
-unfolding field
-returns-4 c = line-record _ _ (c .before .before .if2 .left) (c .before .if3 .left) (c .if4 .taken)
-
-returns-5 : tie.Need-returns-5
-unfolding field
-returns-5 c = split-record _ _ (c .before .before .before .if2 .left) (c .before .before .if3 .left) (c .if5 .taken)
-
-returns-6 : tie.Need-returns-6
-unfolding field
-returns-6 c = other-kind _ _ (c .before .if4 .left) (c .if5 .left) (c .before .before .before .before .if1 .left)
+returns c = c .meaning .ensures ∙ record-read _ _ (c .before .before .before .before .before .before .before .before .number16 .ensures) (c .before .before .before .before .before .before .before .number162 .ensures) (c .before .before .before .before .before .before .number163 .ensures) (c .before .before .before .before .before .number164 .ensures) (c .before .before .before .before .number165 .ensures) (c .before .before .before .number166 .ensures) (c .before .before .number167 .ensures) (c .before .number168 .ensures)
 
 pub record-spec : {M : Type 1} → statement M
 record-spec =
@@ -112,32 +69,20 @@ record-spec =
     (tie.spec
     sub-at
     mul-at
-    mul-kind
-    shared-slice-read-kind
-    add-a
-    mul-a
-    shared-slice-read-a
-    add-b
-    mul-b
-    shared-slice-read-b
-    add-u
-    mul-u
-    shared-slice-read-u
-    add-v
-    mul-v
-    shared-slice-read-v
-    add-c
-    mul-c
-    shared-slice-read-c
-    add-d
-    mul-d
-    shared-slice-read-d
-    add-next
-    mul-next
-    shared-slice-read-next
-    returns
-    returns-2
-    returns-3
-    returns-4
-    returns-5
-    returns-6)
+    number16-requires
+    add-number16
+    number16-requires-2
+    add-number16-2
+    number16-requires-3
+    add-number16-3
+    number16-requires-4
+    add-number16-4
+    number16-requires-5
+    add-number16-5
+    number16-requires-6
+    add-number16-6
+    number16-requires-7
+    add-number16-7
+    number16-requires-8
+    meaning-requires
+    returns)

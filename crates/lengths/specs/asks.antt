@@ -1,0 +1,5 @@
+pub mod Distance
+pub mod Edge
+pub mod Measure
+pub mod Rows
+pub mod Table

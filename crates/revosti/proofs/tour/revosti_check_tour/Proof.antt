@@ -1,0 +1,19 @@
+-- `revosti::tour::revosti_check_tour` meets its contract: the number of what checking answers. Assumes nothing.
+use mathlib.Core.Path.{_∙_, ap}
+use Rattle.revosti.specs.Tour.{checkedNumber, tourInC}
+use borrow.Author.Needs.{needs}
+use Rattle.revosti.proofs.tour.revosti_check_tour.Statement.{statement}
+use Rattle.revosti.proofs.tour.revosti_check_tour.Tie as tie
+
+check-tour-requires : tie.Need-check-tour-requires
+check-tour-requires c κs = search needs
+
+checked-number-requires : tie.Need-checked-number-requires
+checked-number-requires c κs = search needs
+
+returns : tie.Need-returns
+unfolding tourInC
+returns c = c .checked-number .ensures ∙ ap checkedNumber (c .before .check-tour .ensures .answered)
+
+pub revosti-check-tour-spec : {M : Type 1} → statement M
+revosti-check-tour-spec = tie.close (tie.spec check-tour-requires checked-number-requires returns)

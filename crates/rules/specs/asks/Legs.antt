@@ -1,0 +1,83 @@
+-- The length of each leg at a split point. A leg that conditions 1 and 4 rule out is `far`: more than any pair may cost.
+use Prim.Native.Nat.{ℕ, _+_, _*_, _≤_, _<_, max}
+use mathlib.Core.Path.{_≡_}
+use mathlib.Core.Bool.{Bool, cond}
+use mathlib.Core.List.{List, []}
+use lib.Dec.{leb}
+use lib.ListN.{length, getD}
+use Rattle.lengths.specs.Edge.{Edge, Point, edgeCount}
+use Rattle.lengths.specs.Instance.{mostLength, mostPoints, pointPlaces}
+use Rattle.rules.specs.PairTest.{leg?}
+use Rattle.marks.specs.Mark.{openIn}
+use Rattle.rules.specs.asks.Bound.{Short}
+
+-- more than any pair may cost
+abbrev pub far : ℕ
+far = 5 * mostLength
+
+-- the length from c to x where cx meets conditions 1 and 4, else far
+unfoldable pub legOf : (ℕ → ℕ → ℕ) → (ℕ → ℕ → Bool) → List Edge → ℕ → ℕ → ℕ
+legOf l open? K c x = cond (leg? l open? K c x) (l c x) far
+
+-- the leg m of x with the edge pq taken in: far where the two are not compatible
+unfoldable pub narrowed : (ℕ → ℕ → ℕ) → ℕ → ℕ → ℕ → ℕ → ℕ → ℕ
+narrowed l c p q x m = cond (leb (m + l p q) (max (l c p + l x q) (l c q + l x p))) m far
+
+-- the same by numbers: a leg m that is `both` with the edge, and the two exchanges
+unfoldable pub narrowedBy : ℕ → ℕ → ℕ → ℕ → ℕ
+narrowedBy m both one other = cond (leb both (max one other)) m far
+
+-- the legs are those of 1 to n
+abbrev pub LegsOf : ℕ → (ℕ → ℕ → ℕ) → (ℕ → ℕ → Bool) → List Edge → ℕ → List ℕ → Type 0
+LegsOf n l open? K c legs = (x : ℕ) → Point n x → getD legs x 0 ≡ legOf l open? K c x
+
+-- an array of legs: a place for each point and for 0, none above far
+pub record LegList (legs : List ℕ) : Type 0 where
+  pub size : length legs ≡ pointPlaces
+  pub at-most-far : (x : ℕ) → getD legs x 0 ≤ far
+
+-- a row of lengths stands in `rows` from `at` on, none above the limit
+pub record RowLent (n : ℕ) (rows : List ℕ) (at : ℕ) : Type 0 where
+  pub room : at + n < length rows
+  pub small : (x : ℕ) → Point n x → getD rows (at + x) 0 ≤ mostLength
+
+-- the lengths to the points by the row that stands at `at`
+unfoldable pub rowOf : List ℕ → ℕ → ℕ → ℕ → ℕ
+rowOf rows at c x = getD rows (at + x) 0
+
+-- what the legs are asked about where K is empty: the marks, and c with its row
+pub record OpenAsked (n : ℕ) (marks rows : List ℕ) (c at : ℕ) : Type 0 where
+  pub few : n ≤ mostPoints
+  pub marked : length marks ≡ edgeCount n
+  pub centre : Point n c
+  pub row : RowLent n rows at
+
+-- the legs of the points below x are those where K is empty, the others are far
+pub record OpenBelow (n : ℕ) (marks rows : List ℕ) (c at : ℕ) (legs : List ℕ) (x : ℕ) : Type 0 where
+  pub list : LegList legs
+  pub done : (i : ℕ) → 1 ≤ i → i < x → getD legs i 0 ≡ legOf (rowOf rows at) (openIn n marks) [] c i
+  pub rest : (i : ℕ) → x ≤ i → i ≤ mostPoints → getD legs i 0 ≡ far
+
+-- what filling in the legs from x on is asked about
+pub record OpenFrom (n : ℕ) (marks rows : List ℕ) (c at : ℕ) (legs : List ℕ) (x : ℕ) : Type 0 where
+  pub asked : OpenAsked n marks rows c at
+  pub below : OpenBelow n marks rows c at legs x
+
+-- what `open_legs` answers: the legs where K is empty
+pub record OpenLegs (n : ℕ) (marks rows : List ℕ) (c at : ℕ) (legs : List ℕ) : Type 0 where
+  pub list : LegList legs
+  pub each : LegsOf n (rowOf rows at) (openIn n marks) [] c legs
+
+-- what taking pq into all legs is asked about: the rows of p and q, which begin at ps and qs, and the lengths pq, cp and cq
+pub record NarrowAsked (n : ℕ) (rows legs : List ℕ) (ps qs pq cp cq : ℕ) : Type 0 where
+  pub few : n ≤ mostPoints
+  pub list : LegList legs
+  pub row-p : RowLent n rows ps
+  pub row-q : RowLent n rows qs
+  pub short : Short pq cp cq
+
+-- what `narrow` leaves: the legs with pq taken in
+pub record Narrowed (n : ℕ) (rows legs : List ℕ) (ps qs pq cp cq : ℕ) (r : List ℕ) : Type 0 where
+  pub list : LegList r
+  pub each : (x : ℕ) → Point n x
+      → getD r x 0 ≡ narrowedBy (getD legs x 0) (getD legs x 0 + pq) (cp + getD rows (qs + x) 0) (cq + getD rows (ps + x) 0)

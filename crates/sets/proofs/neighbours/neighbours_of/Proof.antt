@@ -1,0 +1,73 @@
+-- `sets::neighbours::neighbours_of` meets its contract. The invariant: `found` has v's neighbours in the first i edges; the measure is what is left
+-- of the count. Assumes nothing.
+use Prim.Native.Nat.{_≤_, _-_}
+use native.Mathlib.Omega.{arith}
+use mathlib.Core.Path.{_≡_, refl, _∙_}
+use borrow.Author.Needs.{needs}
+use Rattle.sets.specs.Neighbours.{neighboursOf}
+use Rattle.sets.specs.asks.Stored.{edgesOf, edgeList, mostKnown}
+use Rattle.sets.proofs.Laws.Stored.{neighbours-up}
+use Rattle.sets.proofs.neighbours.neighbours_of.Statement.{statement}
+use Rattle.sets.proofs.neighbours.neighbours_of.Tie as tie
+
+abbrev Inv-loop : tie.InvT-loop
+Inv-loop v from to count found₀ i₀ found i =
+    (i ≤ count) × (count ≤ mostKnown) × (found ≡ neighboursOf (edgesOf from to i) v)
+
+abbrev μ-loop : tie.MeasureT-loop
+μ-loop v from to count found₀ i₀ found i = count - i
+
+loop-holds : tie.Need-loop-holds Inv-loop μ-loop
+unfolding neighboursOf edgesOf
+loop-holds c = (search needs, c .before .before .pre .few, refl)
+
+mul-seeing : tie.Need-mul-seeing Inv-loop μ-loop
+mul-seeing c = search needs
+
+array-read-seeing : tie.Need-array-read-seeing Inv-loop μ-loop
+array-read-seeing c = search needs
+
+mul-seeing-2 : tie.Need-mul-seeing-2 Inv-loop μ-loop
+mul-seeing-2 c = search needs
+
+array-read-seeing-2 : tie.Need-array-read-seeing-2 Inv-loop μ-loop
+array-read-seeing-2 c = search needs
+
+seeing-requires : tie.Need-seeing-requires Inv-loop μ-loop
+seeing-requires c κs = search needs
+
+add-i : tie.Need-add-i Inv-loop μ-loop
+add-i c = search needs
+
+loop-less : tie.Need-loop-less Inv-loop μ-loop
+loop-less c = search needs
+
+loop-again : tie.Need-loop-again Inv-loop μ-loop
+loop-again c =
+    let l = c .before .before .loop in
+    (search needs, l .inv .1, c .seeing .ensures ∙ rw (neighbours-up, l .inv .2))
+
+returns : tie.Need-returns Inv-loop μ-loop
+unfolding edgeList
+returns c =
+    let k = c .before .before .before .before .args .k in
+    let i = c .before .loop .i in
+    let e : i ≡ k .count = omega arith in
+    c .before .loop .inv .2 ∙ rw e
+
+pub neighbours-of-spec : {M : Type 1} → statement M
+neighbours-of-spec =
+    tie.close
+    (tie.spec
+    Inv-loop
+    μ-loop
+    loop-holds
+    mul-seeing
+    array-read-seeing
+    mul-seeing-2
+    array-read-seeing-2
+    seeing-requires
+    add-i
+    loop-less
+    loop-again
+    returns)

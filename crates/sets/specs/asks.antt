@@ -1,0 +1,3 @@
+pub mod Beyond
+pub mod Shape
+pub mod Stored

@@ -1,0 +1,50 @@
+-- One line and the lines of a sheet: the declared answers in terms of the argument layer's verdicts, and what the functions ask.
+use Prim.Native.Nat.{ℕ, suc, _+_, _*_, _≤_}
+use mathlib.Core.Path.{_≡_}
+use mathlib.Core.List.{List}
+use lib.ListN.{length}
+use Rattle.argument.specs.Verdict.{Verdict, accepted, refused}
+use Rattle.argument.specs.Line.{Struck, strikes}
+use Rattle.argument.specs.Sheet.{Place, Turn, over, onward, turn}
+use Rattle.sheets.specs.Rules.{markingOf}
+use Rattle.sheets.specs.Sheet.{Readable}
+use Rattle.sheets.specs.asks.Walk.{Admitted, Tried}
+use Rattle.sheets.specs.declared.line.Judged.{Judged}
+use Rattle.sheets.specs.declared.line.Judged.the-variants as judged
+use Rattle.sheets.specs.declared.line.Turned.{Turned}
+use Rattle.sheets.specs.declared.line.Turned.the-variants as turned
+
+abbrev pub judgedOf : Judged → Verdict Struck
+judgedOf (judged.Strikes a b next high) = accepted (strikes a b next high)
+judgedOf (judged.Refused number rec) = refused number rec
+
+-- what is asked of a line that was entered as record i
+pub record LineAsked (n : ℕ) (table rows marks sheet : List ℕ) (count i : ℕ) : Type 0 where
+  pub tried : Tried n table rows marks sheet count
+  pub readable : Readable sheet i
+
+-- where the lines stand: the marks, the lines accepted, the record that has the index, the index, the highest record entered
+abbrev pub placeOf : List ℕ → (lines last index high : ℕ) → Place (List ℕ)
+placeOf marks lines last index high = record { marks = marks; lines = lines; last = last; index = index; high = high }
+
+-- the declared answer for a line, with the marks that are left, as what a turn from p comes to
+abbrev pub turnedOf : Place (List ℕ) → Turned → List ℕ → Verdict (Turn (List ℕ))
+turnedOf p turned.Over left = accepted over
+turnedOf p (turned.Struck next high) left = accepted (onward (placeOf left (suc (p .lines)) (p .index) next high))
+turnedOf p (turned.Refused number rec) left = refused number rec
+
+-- the marks after a turn from p: changed only where a line was accepted
+abbrev pub marksAfter : Place (List ℕ) → Verdict (Turn (List ℕ)) → List ℕ
+marksAfter p (accepted over) = p .marks
+marksAfter p (accepted (onward q)) = q .marks
+marksAfter p (refused number rec) = p .marks
+
+-- what `mark_line` ensures, however many lines were accepted before
+pub record TurnedAs (n : ℕ) (table marks sheet : List ℕ) (last index high : ℕ) (r : Turned) (left : List ℕ) : Type 0 where
+  pub answered : (lines : ℕ) → turnedOf (placeOf marks lines last index high) r left ≡ turn (markingOf n table) sheet (placeOf marks lines last index high)
+  pub marks-left : (lines : ℕ) → left ≡ marksAfter (placeOf marks lines last index high) (turn (markingOf n table) sheet (placeOf marks lines last index high))
+
+-- what marking by rows that are still to be written is asked about: there is room for them
+pub record RowsAsked (n : ℕ) (table rows marks sheet : List ℕ) (count : ℕ) : Type 0 where
+  pub admitted : Admitted n table marks sheet count
+  pub room : (n + 1) * (n + 1) ≤ length rows
