@@ -1,6 +1,6 @@
--- Laws of `&&` and `||` on Bools. Assumes nothing.
+-- Laws of `&&`, `||` and `cond` on Bools. Assumes nothing.
 use mathlib.Core.Path.{_≡_, refl, sym}
-use mathlib.Core.Bool.{Bool, true, false, _&&_, _||_, true≢false, false≢true}
+use mathlib.Core.Bool.{Bool, true, false, _&&_, _||_, cond, true≢false, false≢true}
 use mathlib.Core.Logic.{_⊎_, inl, inr}
 
 pub and-left : (a b : Bool) → (a && b) ≡ true → a ≡ true
@@ -34,3 +34,15 @@ and-yes false = refl
 pub and-no : (t : Bool) → t && false ≡ false
 and-no true = refl
 and-no false = refl
+
+-- a test that failed, and one that passed, in front of others
+pub and-stop : {a : Bool} (b : Bool) → a ≡ false → false ≡ (a && b)
+and-stop b e = rw e
+
+pub and-go : {a b r : Bool} → a ≡ true → r ≡ b → r ≡ (a && b)
+and-go e h = rw (e, h)
+
+-- the same either way
+pub cond-same : {A : Type 0} (t : Bool) (x : A) → cond t x x ≡ x
+cond-same true x = refl
+cond-same false x = refl

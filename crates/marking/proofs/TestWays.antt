@@ -5,6 +5,7 @@ use mathlib.Core.Bool.{Bool, true, false}
 use mathlib.Core.List.{List}
 use lib.ListN.{length}
 use borrow.Author.Tests.{eq-eqb, ne-eqb}
+use Rattle.marks.specs.Mark.{areMarks}
 use Rattle.lengths.specs.Edge.{edgeCount}
 use Rattle.lengths.specs.Instance.{inRange, admission, mostLength}
 use Rattle.lists.specs.Test.{allAtMost, unless}
@@ -45,7 +46,7 @@ module _ (n : ℕ) (table marks : List ℕ) where
         )
 
         module _ (marked : length marks ≡ edgeCount (i .points)) where
-          pub refused-mark : allAtMost 1 marks ≡ false → Refused 6 ≡ tested n table marks
+          pub refused-mark : areMarks marks ≡ false → Refused 6 ≡ tested n table marks
           unfolding tested
           refused-mark h = rw (
             tested,
@@ -56,7 +57,7 @@ module _ (n : ℕ) (table marks : List ℕ) where
             h,
           )
 
-          pub passed-tests : allAtMost 1 marks ≡ true → Points (i .points) ≡ tested n table marks
+          pub passed-tests : areMarks marks ≡ true → Points (i .points) ≡ tested n table marks
           unfolding tested
           passed-tests h = ap Points (a .points) ∙ rw (
             tested,

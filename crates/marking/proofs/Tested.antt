@@ -8,6 +8,8 @@ use native.Mathlib.Omega.{arith}
 use lib.Dec.{eqb}
 use lib.ListN.{length, getD, List·getD-eq-default}
 use borrow.Author.Tests.{eqb-true}
+use Rattle.marks.specs.Mark.{areMarks}
+use Rattle.lists.proofs.Tests.{answered}
 use Rattle.lengths.specs.Edge.{edgeCount}
 use Rattle.lengths.specs.Instance.{inRange, leastPoints, admission, mostLength}
 use Rattle.lists.specs.Test.{allAtMost, unless}
@@ -28,10 +30,8 @@ pub record InstancePassed (n : ℕ) (table marks : List ℕ) (m : ℕ) : Type 0 
   pub marked : length marks ≡ edgeCount m
   pub bytes : (i : ℕ) → getD marks i 0 ≤ 1
 
--- a test that stands before an answer was passed
-unless-passed : (t : Bool) (k : ℕ) (rest : Tested) (m : ℕ) → unless t (Refused k) rest ≡ Points m → (t ≡ true) × (rest ≡ Points m)
-unless-passed true k rest m h = (refl, h)
-unless-passed false k rest m h = absurd (let z : _≡_ {A = ℕ} 0 1 = cc in omega arith)
+not-points : {k m : ℕ} → Refused k ≡ Points m → ⊥
+not-points e = let z : _≡_ {A = ℕ} 0 1 = cc in omega arith
 
 -- what is past the end is 0
 within : (limit : ℕ) (xs : List ℕ) → allAtMost limit xs ≡ true → (i : ℕ) → getD xs i 0 ≤ limit
@@ -48,11 +48,11 @@ range-admits n h = admitted (rw (admission, h))
 pub passed : {n : ℕ} {table marks : List ℕ} {m : ℕ} → tested n table marks ≡ Points m → InstancePassed n table marks m
 unfolding tested
 passed {n} {table} {marks} {m} h =
-    let p1 = unless-passed (inRange n) 1 _ m h in
-    let p2 = unless-passed (eqb (length table) (edgeCount n)) 2 _ m (p1 .1) in
-    let p3 = unless-passed (allAtMost mostLength table) 5 _ m (p2 .1) in
-    let p4 = unless-passed (eqb (length marks) (edgeCount n)) 6 _ m (p3 .1) in
-    let p5 = unless-passed (allAtMost 1 marks) 6 _ m (p4 .1) in
+    let p1 = answered (inRange n) _ _ (Points m) not-points h in
+    let p2 = answered (eqb (length table) (edgeCount n)) _ _ (Points m) not-points (p1 .1) in
+    let p3 = answered (allAtMost mostLength table) _ _ (Points m) not-points (p2 .1) in
+    let p4 = answered (eqb (length marks) (edgeCount n)) _ _ (Points m) not-points (p3 .1) in
+    let p5 = answered (areMarks marks) _ _ (Points m) not-points (p4 .1) in
     let q : Points n ≡ Points m = p5 .1 in
     let e : m ≡ n = cc in
     let a = range-admits n (p1 .0) in

@@ -8,6 +8,7 @@ use native.Mathlib.Numerals.{add-one}
 use native.Mathlib.Omega.{arith}
 use lib.ListN.{length, getD, drop, drop-of-length-le}
 use lib.Seq.{drop-cons}
+use Rattle.lists.proofs.Bools.{and-go, and-stop, and-yes}
 use Rattle.lengths.specs.Edge.{Edge, edge, Point}
 use Rattle.lengths.specs.Table.{lengthOf}
 use Rattle.lengths.specs.asks.Table.{Spans, LengthIs}
@@ -139,17 +140,6 @@ pub record CheckingOpen (n : ℕ) (marks t : List ℕ) (a i : ℕ) : Type 0 wher
 pub checking-start : {n : ℕ} {marks t : List ℕ} {v : ℕ} → TourAsked n marks t → v ≡ getD t 0 0 → CheckingOpen n marks t v 1
 checking-start {n} {marks} {t} g is = record { preceding = preceding-start g is; opened = ap (every (openIn n marks)) (left-start t (first-there g) is) }
 
--- a test that failed, and one that passed, before the rest
-and-false : (s t : Bool) → s ≡ false → (s && t) ≡ false
-and-false s t h = rw h
-
-and-true : (s t : Bool) → s ≡ true → (s && t) ≡ t
-and-true s t h = rw h
-
-last-and : (s : Bool) → (s && true) ≡ s
-last-and true = refl
-last-and false = refl
-
 module _ {n : ℕ} {marks t : List ℕ} {a i : ℕ} (g : TourAsked n marks t) (o : CheckingOpen n marks t a i) where
   module _ {v : ℕ} (h : i < length t) (to : v ≡ getD t i 0) where
     edge-on : every (openIn n marks) (left t a i) ≡ (openIn n marks a v && every (openIn n marks) (left t v (i + 1)))
@@ -159,12 +149,12 @@ module _ {n : ℕ} {marks t : List ℕ} {a i : ℕ} (g : TourAsked n marks t) (o
     pub checking-on : {b : Bool} → b ≡ openIn n marks a v → b ≡ true → CheckingOpen n marks t v (i + 1)
     checking-on is e = record {
       preceding = preceding-on g (o .preceding) h to;
-      opened = sym (and-true (openIn n marks a v) _ (sym is ∙ e)) ∙ sym edge-on ∙ o .opened;
+      opened = and-go (sym is ∙ e) refl ∙ sym edge-on ∙ o .opened;
     }
 
     pub struck-on : {b : Bool} → b ≡ openIn n marks a v → b ≡ false → false ≡ every (openIn n marks) (closedEdges t)
-    struck-on is e = sym (and-false (openIn n marks a v) _ (sym is ∙ e)) ∙ sym edge-on ∙ o .opened
+    struck-on is e = and-stop _ (sym is ∙ e) ∙ sym edge-on ∙ o .opened
 
   pub all-opened : {b : Bool} {v : ℕ} → length t ≤ i → v ≡ getD t 0 0 → b ≡ openIn n marks a v → b ≡ every (openIn n marks) (closedEdges t)
   unfolding every
-  all-opened {v = v} h to is = is ∙ sym (last-and (openIn n marks a v)) ∙ ap (every (openIn n marks)) (sym (left-end t a i h to)) ∙ o .opened
+  all-opened {v = v} h to is = is ∙ sym (and-yes (openIn n marks a v)) ∙ ap (every (openIn n marks)) (sym (left-end t a i h to)) ∙ o .opened

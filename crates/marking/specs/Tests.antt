@@ -3,6 +3,7 @@ use Prim.Native.Nat.{ℕ}
 use mathlib.Core.List.{List}
 use lib.Dec.{eqb}
 use lib.ListN.{length}
+use Rattle.marks.specs.Mark.{areMarks}
 use Rattle.lengths.specs.Edge.{edgeCount}
 use Rattle.lengths.specs.Instance.{inRange, mostLength}
 use Rattle.lists.specs.Test.{allAtMost, unless}
@@ -16,5 +17,5 @@ tested n table marks =
     (unless (eqb (length table) (edgeCount n)) (Refused 2)
     (unless (allAtMost mostLength table) (Refused 5)
     (unless (eqb (length marks) (edgeCount n)) (Refused 6)
-    (unless (allAtMost 1 marks) (Refused 6)
+    (unless (areMarks marks) (Refused 6)
     (Points n)))))

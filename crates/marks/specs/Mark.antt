@@ -5,6 +5,7 @@ use mathlib.Core.List.{List}
 use lib.Dec.{eqb}
 use lib.ListN.{getD, set}
 use Rattle.lengths.specs.Edge.{place}
+use Rattle.lists.specs.Test.{allAtMost}
 
 -- "1 open, 0 struck"
 abbrev pub openMark : ℕ
@@ -12,6 +13,10 @@ openMark = 1
 
 abbrev pub struckMark : ℕ
 struckMark = 0
+
+-- each byte is a mark
+abbrev pub areMarks : List ℕ → Bool
+areMarks marks = allAtMost openMark marks
 
 -- the edge at this place is open
 abbrev pub openAt : List ℕ → ℕ → Bool

@@ -3,8 +3,7 @@ use lengths::edge;
 ghost use Prim.Native.Nat.{_<_};
 ghost use mathlib.Core.Path.{_≡_};
 ghost use lib.ListN.{length};
-ghost use Rattle.lists.specs.Test.{allAtMost};
-ghost use Rattle.marks.specs.Mark.{openMark, openAt, openIn, strikeIn};
+ghost use Rattle.marks.specs.Mark.{areMarks, openAt, openIn, strikeIn};
 ghost use Rattle.marks.specs.asks.Mark.{MarkAsked};
 
 // An edge that is struck.
@@ -40,7 +39,7 @@ pub fn strike(n: u16, marks: &mut [u8], a: u16, b: u16)
 
 // Is each byte a mark, 0 or 1?
 pub fn marks_within(marks: &[u8]) -> bool
-    ensures { λ r. ⌜ r ≡ allAtMost openMark (now (marks .entry)) ⌝ }
+    ensures { λ r. ⌜ r ≡ areMarks (now (marks .entry)) ⌝ }
 {
     let mut within = true;
     let mut i = 0;

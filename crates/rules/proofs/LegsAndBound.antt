@@ -6,6 +6,7 @@ use mathlib.Core.List.{List, [], _∷_}
 use native.Mathlib.Omega.{arith}
 use lib.Dec.{eqb, leb, ltb}
 use borrow.Author.Tests.{eq-eqb, ne-eqb, le-leb, lt-leb, leb-true, leb-false, ltb-true, ltb-false}
+use Rattle.lists.proofs.Bools.{cond-same}
 use Rattle.lengths.specs.Edge.{Edge, edge}
 use Rattle.lengths.specs.Instance.{mostLength}
 use Rattle.rules.specs.PairTest.{every, compatible?, leg?, stays?, unmoved?}
@@ -32,20 +33,16 @@ pub legOf-by : (l m : ℕ → ℕ → ℕ) (open? : ℕ → ℕ → Bool) (c x :
 unfolding legOf leg? every
 legOf-by l m open? c x e = ap (λ (d : ℕ). cond (not (eqb x c) && (open? c x && true)) d far) e
 
-same : (t : Bool) (m : ℕ) → cond t m m ≡ m
-same true m = refl
-same false m = refl
-
 narrow-tests : (a b e : Bool) (f : ℕ → Bool) (m far : ℕ) →
     cond (not a && (b && (f m && e))) m far ≡ cond (f (cond (not a && (b && e)) m far)) (cond (not a && (b && e)) m far) far
-narrow-tests true b e f m far = sym (same (f far) far)
-narrow-tests false false e f m far = sym (same (f far) far)
+narrow-tests true b e f m far = sym (cond-same (f far) far)
+narrow-tests false false e f m far = sym (cond-same (f far) far)
 narrow-tests false true true f m far = go (f m)
   where
     go : (t : Bool) → cond (t && true) m far ≡ cond t m far
     go true = refl
     go false = refl
-narrow-tests false true false f m far = go (f m) ∙ sym (same (f far) far)
+narrow-tests false true false f m far = go (f m) ∙ sym (cond-same (f far) far)
   where
     go : (t : Bool) → cond (t && false) m far ≡ far
     go true = refl

@@ -10,6 +10,7 @@ use native.Mathlib.Numerals.{add-one}
 use lib.Dec.{eqb, leb}
 use lib.ListN.{getD}
 use borrow.Author.Tests.{eq-eqb, le-leb}
+use Rattle.lists.proofs.Bools.{cond-same}
 use Rattle.lengths.specs.Edge.{Edge, edge, Point}
 use Rattle.lengths.specs.Table.{lengthOf}
 use Rattle.lengths.specs.asks.Rows.{RowAt, RowFilled}
@@ -116,11 +117,7 @@ touched l symmetric open? K c p q t x = go (leg? l open? K c x) t
     go : (s : Bool) → (p ≡ c) ⊎ (q ≡ c) → cond (leb (cond s (l c x) far + l p q) (max (l c p + l x q) (l c q + l x p))) (cond s (l c x) far) far ≡ cond s (l c x) far
     go true (inl e) = rw (le-leb (l c x + l p q) (max (l c p + l x q) (l c q + l x p)) (omega (arith, symmetric c x, ap (λ (y : ℕ). l y q) e, ap (λ (y : ℕ). l x y) e)))
     go true (inr e) = rw (le-leb (l c x + l p q) (max (l c p + l x q) (l c q + l x p)) (omega (arith, symmetric c x, symmetric c p, ap (λ (y : ℕ). l p y) e, ap (λ (y : ℕ). l x y) e)))
-    go false t = either far (leb (far + l p q) (max (l c p + l x q) (l c q + l x p)))
-      where
-        either : (m : ℕ) (s : Bool) → cond s m m ≡ m
-        either m true = refl
-        either m false = refl
+    go false t = cond-same (leb (far + l p q) (max (l c p + l x q) (l c q + l x p))) far
 
 untightened : (l : ℕ → ℕ → ℕ) (c u v b : ℕ) → (u ≡ c) ⊎ (v ≡ c) → tightened l c u v b ≡ b
 unfolding tightened

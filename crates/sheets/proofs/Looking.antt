@@ -7,6 +7,7 @@ use mathlib.Core.List.{List, [], _∷_}
 use native.Mathlib.Omega.{arith}
 use lib.Dec.{leb, eqb}
 use borrow.Author.Tests.{lt-leb, le-leb, eq-eqb, ne-eqb}
+use Rattle.lists.proofs.Bools.{and-go, and-stop}
 use Rattle.lengths.specs.Edge.{Edge, edge}
 use Rattle.search.specs.asks.Pairs.{firstOf}
 use Rattle.search.specs.declared.pairs.NextPair.{NextPair}
@@ -27,14 +28,6 @@ use Rattle.sheets.specs.declared.sheet.Case.{Case}
 use Rattle.sheets.specs.declared.sheet.Line.{Line}
 use Rattle.sheets.specs.declared.sheet.Record as declared
 use Rattle.sheets.specs.declared.sheet.Record.the-variants as variant
-
--- tests one after another
-
-and-stop : {a : Bool} (b : Bool) → a ≡ false → false ≡ (a && b)
-and-stop b e = rw e
-
-and-go : {a b r : Bool} → a ≡ true → r ≡ b → r ≡ (a && b)
-and-go e h = rw (e, h)
 
 -- points
 
