@@ -1,5 +1,4 @@
 -- Each test of the walk against what it means: points, records that fit, the next pair, indices that may be entered.
-pub use Rattle.lists.proofs.Bools.{and-true as both}
 use Prim.Native.Nat.{ℕ, _≤_, _<_}
 use mathlib.Core.Path.{_≡_, refl, _∙_, ap, ap₂}
 use mathlib.Core.Bool.{true, not, false≢true}
@@ -7,7 +6,7 @@ use mathlib.Core.List.{List, [], _∷_}
 use lib.Dec.{leb}
 use borrow.Author.Tests.{leb-true, le-leb, lt-leb, ltb-true, lt-ltb, le-ltb, eqb-true, eqb-false, eq-eqb, ne-eqb, not-true}
 use Rattle.lengths.specs.Edge.{Edge, edge, Point}
-use Rattle.lists.proofs.Bools.{and-both}
+use Rattle.lists.proofs.Bools.{and-both, and-true}
 use Rattle.argument.specs.Verdict.{Verdict, accepted, refused}
 use Rattle.argument.specs.Record.{How, splits, threeOpts, records, isPoint, howFits, fits}
 use Rattle.argument.specs.Layout.{Enters}
@@ -16,7 +15,7 @@ use Rattle.argument.proofs.Verdicts.{guard-passed, pass-guard, fail-gua
 
 pub is-point : (n a : ℕ) → isPoint n a ≡ true → Point n a
 unfolding isPoint
-is-point n a e = let h = both (leb 1 a) (leb a n) e in record { low = leb-true 1 a (h .0); high = leb-true a n (h .1) }
+is-point n a e = let h = and-true (leb 1 a) (leb a n) e in record { low = leb-true 1 a (h .0); high = leb-true a n (h .1) }
 
 pub point-is : {n a : ℕ} → Point n a → isPoint n a ≡ true
 unfolding isPoint
@@ -37,9 +36,9 @@ how-fits : (n : ℕ) (how : How) → howFits n how ≡ true → HowFits n how
 unfolding howFits
 how-fits n (splits c first) e = is-point n c e
 how-fits n (threeOpts p q r s) e =
-    let h = both _ _ e in
-    let k = both _ _ (h .1) in
-    let l = both _ _ (k .1) in
+    let h = and-true _ _ e in
+    let k = and-true _ _ (h .1) in
+    let l = and-true _ _ (k .1) in
     (is-point n p (h .0), is-point n q (k .0), is-point n r (l .0), is-point n s (l .1))
 
 fits-how : (n : ℕ) (how : How) → HowFits n how → howFits n how ≡ true
@@ -50,9 +49,9 @@ fits-how n (threeOpts p q r s) h = and-both _ _ (point-is (h .0)) (and-both _ _ 
 pub fits-means : (n a b : ℕ) (how : How) → fits n a b how ≡ true → Fits n a b how
 unfolding fits
 fits-means n a b how e =
-    let h = both _ _ e in
-    let k = both _ _ (h .1) in
-    let l = both _ _ (k .1) in
+    let h = and-true _ _ e in
+    let k = and-true _ _ (h .1) in
+    let l = and-true _ _ (k .1) in
     record { point-a = is-point n a (h .0); point-b = is-point n b (k .0); apart = eqb-false a b (not-true _ (l .0)); how-fits = how-fits n how (l .1) }
 
 pub means-fits : {n a b : ℕ} {how : How} → Fits n a b how → fits n a b how ≡ true
@@ -72,7 +71,7 @@ left-none ps e = rw e
 pub next-is : (ps : List Edge) (a b : ℕ) → isNext ps a b ≡ true → ps ≡ edge a b ∷ rest ps
 unfolding isNext rest
 next-is [] a b e = absurd (false≢true e)
-next-is (edge x y ∷ ps) a b e = let h = both _ _ e in ap (λ (p : Edge). p ∷ ps) (ap₂ edge (eqb-true x a (h .0)) (eqb-true y b (h .1)))
+next-is (edge x y ∷ ps) a b e = let h = and-true _ _ e in ap (λ (p : Edge). p ∷ ps) (ap₂ edge (eqb-true x a (h .0)) (eqb-true y b (h .1)))
 
 pub is-next : (ps : List Edge) (a b : ℕ) (es : List Edge) → ps ≡ edge a b ∷ es → isNext ps a b ≡ true
 unfolding isNext

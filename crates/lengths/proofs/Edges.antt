@@ -5,8 +5,7 @@ use mathlib.Core.Path.{_≡_, refl, sym, _∙_, ap, ap₂}
 use mathlib.Core.Logic.{_⊎_, inl, inr, ⊎-elim}
 use mathlib.Core.List.{_++_}
 use native.Mathlib.Nat.{mul-suc, suc-mul, div-eq-of-eq-mul-left, le-of-suc-le-suc, eq-or-lt-of-le, mul-le-mul, le-of-lt}
-use native.Mathlib.Decide.{le-ind}
-use native.Mathlib.Decide.{decLt}
+use native.Mathlib.Decide.{le-ind, decLt}
 use native.Mathlib.Omega.{arith}
 use lib.ListN.{length, getD, length-append, List·getD-append}
 use lib.Seq.{getD-append-add}

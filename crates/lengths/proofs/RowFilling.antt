@@ -161,9 +161,6 @@ module _ {n at v : ℕ} {table rows r : List ℕ} (f : RowFillable n table rows 
   with-self : RowPart n table rows at v 1 (v + 1) (set r (at + v) 0)
   with-self = part-more p (f .point .low) self-room (sym (length-self n table v))
 
-  pub self-fillable : RowFillable n table (set r (at + v) 0) at v
-  self-fillable = record { few = f .few; whole = f .whole; point = f .point; room = omega (arith, with-self .size, f .room) }
-
   pub row-done : {s : List ℕ} → RowPart n table (set r (at + v) 0) at v (v + 1) (n + 1) s → RowFilled n table rows at v s
   row-done {s} q = record {
     size = whole .size;

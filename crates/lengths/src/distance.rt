@@ -2,7 +2,7 @@
 use crate::instance::Instance;
 ghost use mathlib.Core.Path.{_≡_};
 ghost use mathlib.Core.Bool.{true};
-ghost use Prim.Native.Nat.{_≤_, _<_, max};
+ghost use Prim.Native.Nat.{_≤_, max};
 ghost use Rattle.lengths.specs.Instance.{mostSquares};
 ghost use Rattle.lengths.specs.Distance.{passes, ruleOf};
 ghost use Rattle.lengths.specs.asks.Distance.{Measurable, Distance, stepFrom, Close, Gaps};

@@ -1,7 +1,7 @@
 -- What the shared tests say of an instance that they pass: each test is taken off in its order. Assumes nothing.
 use Prim.Native.Nat.{ℕ, _≤_}
-use mathlib.Core.Path.{_≡_, refl}
-use mathlib.Core.Bool.{Bool, true, false}
+use mathlib.Core.Path.{_≡_}
+use mathlib.Core.Bool.{true}
 use mathlib.Core.List.{List}
 use native.Mathlib.Decide.{decLt}
 use native.Mathlib.Omega.{arith}
@@ -12,12 +12,11 @@ use Rattle.marks.specs.Mark.{areMarks}
 use Rattle.lists.proofs.Tests.{answered}
 use Rattle.lengths.specs.Edge.{edgeCount}
 use Rattle.lengths.specs.Instance.{inRange, leastPoints, admission, mostLength}
-use Rattle.lists.specs.Test.{allAtMost, unless}
+use Rattle.lists.specs.Test.{allAtMost}
 use Rattle.lengths.proofs.Instances.{Admits, admitted}
 use Rattle.lengths.proofs.Limits.{limit-each}
 use Rattle.lengths.specs.Table.{Lengths}
 use Rattle.marking.specs.Tests.{tested}
-use Rattle.marking.specs.declared.tests.Tested.{Tested}
 use Rattle.marking.specs.declared.tests.Tested.the-variants.{Points, Refused}
 
 -- the tests pass an instance of n points, and answer n

@@ -14,8 +14,7 @@ use Rattle.text.specs.Words.{Room, Wrote}
 use Rattle.text.specs.Decimal.{fieldText}
 use Rattle.text.proofs.Writing.{length-three}
 use Rattle.text.proofs.Decimals.{field-length}
-use Rattle.report.specs.Lines.{pointsWord, edgesWord, struckWord, space, verdictWord, recordWord, openWord, lineEnd}
-use Rattle.report.specs.Lines.{pointsLine, struckLine, markLine, markLines, struckLines, verdictLine, allLines}
+use Rattle.report.specs.Lines.{pointsWord, edgesWord, struckWord, space, verdictWord, recordWord, openWord, lineEnd, pointsLine, struckLine, markLine, markLines, struckLines, verdictLine, allLines}
 use Rattle.report.specs.asks.Lines.{Large, LinesAsked, StrikesAsked}
 
 struck-length : (a b : ℕ) → a ≤ mostPoints → b ≤ mostPoints → length (struckLine a b) ≤ 15

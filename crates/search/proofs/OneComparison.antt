@@ -1,22 +1,20 @@
 -- One comparison of the legs with the bound decides conditions 1, 4 and 5 (`legs-bound`), so a pair is feasible exactly when it passes it and
 -- meets conditions 2 and 3. Assumes nothing.
-use Prim.Native.Nat.{ℕ, _+_, _-_}
+use Prim.Native.Nat.{ℕ, _+_}
 use mathlib.Core.Path.{_≡_, refl, sym, _∙_, ap}
 use mathlib.Core.Bool.{Bool, true, false, _&&_}
 use mathlib.Core.List.{List}
 use lib.Dec.{leb}
 use lib.ListN.{getD}
 use Rattle.lengths.specs.Edge.{Edge, Point}
-use Rattle.lengths.specs.Table.{lengthOf}
-use Rattle.lengths.proofs.Tables.{length-symmetric}
+use Rattle.lengths.specs.Table.{lengthOf, Lengths}
+use Rattle.lengths.proofs.Tables.{length-symmetric, length-small}
 use Rattle.lengths.specs.Instance.{mostLength}
 use Rattle.rules.specs.PairTest.{leg?, unmoved?, feasible?}
 use Rattle.sets.specs.Shape.{shape?}
-use Rattle.lengths.specs.Table.{Lengths}
 use Rattle.search.specs.asks.Split.{Prepared}
 use Rattle.search.specs.asks.Pairs.{passes?}
 use Rattle.rules.proofs.LegsAndBound.{legs-bound}
-use Rattle.lengths.proofs.Tables.{length-small}
 
 regroup : (a b u s : Bool) → a && (b && (u && s)) ≡ a && (b && u) && s
 regroup true true u s = refl

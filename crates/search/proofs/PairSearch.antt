@@ -10,7 +10,7 @@ use native.Mathlib.Numerals.{add-one}
 use lib.ListN.{getD}
 use Rattle.lengths.specs.Edge.{Edge, edge, Point, row, rows}
 use Rattle.lengths.specs.Instance.{mostPoints}
-use Rattle.lengths.specs.Table.{lengthOf}
+use Rattle.lengths.specs.Table.{lengthOf, Lengths}
 use Rattle.rules.specs.PairTest.{feasible?}
 use Rattle.sets.specs.Neighbours.{neighboursOf, within?, beyond}
 use Rattle.search.specs.asks.Candidates.{candidate?}
@@ -18,7 +18,6 @@ use Rattle.lists.specs.FirstFrom.{firstFrom}
 use Rattle.sets.specs.Shape.{shuts?, shape?}
 use Rattle.rules.specs.Pairs.{keep}
 use Rattle.rules.specs.asks.Pairs.{pairsAfter, feasibleAfter}
-use Rattle.lengths.specs.Table.{Lengths}
 use Rattle.search.specs.asks.Split.{Bounded, Prepared}
 use Rattle.sets.specs.asks.Stored.{edgeList}
 use Rattle.search.specs.asks.Pairs.{passes?, allowed?, fits?, firstOf, Searchable, NextPairOf}

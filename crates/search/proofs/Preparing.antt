@@ -12,11 +12,10 @@ use lib.ListN.{getD}
 use borrow.Author.Tests.{eq-eqb, le-leb}
 use Rattle.lists.proofs.Bools.{cond-same}
 use Rattle.lengths.specs.Edge.{Edge, edge, Point}
-use Rattle.lengths.specs.Table.{lengthOf}
+use Rattle.lengths.specs.Table.{lengthOf, Lengths}
 use Rattle.lengths.specs.asks.Rows.{RowAt, RowFilled}
-use Rattle.lengths.proofs.Tables.{length-symmetric}
+use Rattle.lengths.proofs.Tables.{length-symmetric, length-small}
 use Rattle.lengths.specs.Instance.{mostLength, pointPlaces}
-use Rattle.lengths.specs.Table.{Lengths}
 use Rattle.rules.specs.asks.Legs.{legOf, narrowed, LegList, LegsOf, RowLent, rowOf, OpenAsked, OpenLegs, NarrowAsked, Narrowed, far}
 use Rattle.rules.specs.asks.Bound.{tightened, tightenedBy, boundOf, Short, loose}
 use Rattle.search.specs.asks.Split.{Prepared, Bounded, TriangleAsked, TriangleIn, SplitAsked, SplitOf, TakeAsked, TakenIn, EdgeAsked, EdgeRowsAsked, EdgeRows, EdgeTriangle, EdgeLegsAsked, EdgeLegs, SingleAsked}
@@ -25,7 +24,6 @@ use Rattle.rules.specs.PairTest.{leg?}
 use Rattle.sets.specs.asks.Stored.{edgesOf, edgeList}
 use Rattle.sets.specs.declared.edge_set.EdgeSet.{EdgeSet}
 use Rattle.search.specs.declared.split.Triangle.{Triangle}
-use Rattle.lengths.proofs.Tables.{length-small}
 use Rattle.rules.proofs.LegsAndBound.{legOf-by, legOf-narrowed, narrowed-by, tightened-by, tightened-le}
 
 -- rows of a table

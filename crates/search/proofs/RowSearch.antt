@@ -13,22 +13,20 @@ use borrow.Author.Tests.{eq-eqb, ne-eqb, le-leb, lt-leb}
 use Rattle.lists.proofs.Bools.{and-no, and-yes}
 use Rattle.lengths.specs.Edge.{place, placeUp}
 use Rattle.lengths.specs.asks.Edge.{IsEdgeUp}
-use Rattle.lengths.specs.Table.{lengthOf}
+use Rattle.lengths.specs.Table.{lengthOf, Lengths}
 use Rattle.lengths.proofs.Edges.{placeUp-add, placeUp-below, edgeCount-tri, place-up, edges-fit}
-use Rattle.lengths.proofs.Tables.{length-up}
+use Rattle.lengths.proofs.Tables.{length-up, length-small}
 use Rattle.lengths.specs.Instance.{mostLength, mostPoints}
 use Rattle.sets.specs.Neighbours.{either?, within?}
 use Rattle.search.specs.asks.Candidates.{candidate?}
 use Rattle.lists.specs.FirstFrom.{firstFrom}
 use Rattle.search.specs.asks.Pairs.{passes?, allowed?, RowSearchAsked}
-use Rattle.lengths.specs.Table.{Lengths}
 use Rattle.search.specs.asks.Split.{Bounded}
 use Rattle.rules.specs.asks.Legs.{far}
 use Rattle.sets.specs.declared.neighbours.Neighbours.{Neighbours}
 use Rattle.sets.specs.declared.neighbours.Neighbours.the-variants.{None, One, Two, More}
 use Rattle.lists.proofs.FirstFrom.{firstFrom-yes, firstFrom-no, firstFrom-low, firstFrom-high, firstFrom-found, firstFrom-none, firstFrom-at, firstFrom-same, firstFrom-skip}
 use Rattle.search.proofs.Ranks.{far-leg, rank-first}
-use Rattle.lengths.proofs.Tables.{length-small}
 
 -- a pair with a point that is no candidate fails the comparison: its leg alone costs more than any pair may
 

@@ -11,14 +11,13 @@ use lib.Dec.{eqb}
 use borrow.Author.Tests.{eq-eqb, ne-eqb}
 use Rattle.lengths.specs.Edge.{Edge, edge, Point, edges}
 use Rattle.lengths.specs.asks.Edge.{IsEdgeUp}
-use Rattle.lengths.specs.Table.{lengthOf}
+use Rattle.lengths.specs.Table.{lengthOf, Lengths}
 use Rattle.sets.specs.Joined.{joins?}
 use Rattle.sets.specs.Neighbours.{withPoint, seen, neighboursOf, either?, within?, beyond}
 use Rattle.search.specs.asks.Pairs.{passes?}
 use Rattle.rules.specs.PairTest.{feasible?}
 use Rattle.rules.specs.Pairs.{keep, feasiblePairs}
 use Rattle.sets.specs.Shape.{reaches?, shuts?, shape?}
-use Rattle.lengths.specs.Table.{Lengths}
 use Rattle.search.specs.asks.Split.{Prepared}
 use Rattle.sets.specs.declared.neighbours.Neighbours.the-variants.{One}
 use Rattle.sets.specs.declared.neighbours.PathStep.the-variants.{Stop, On}

@@ -8,7 +8,7 @@ use native.Mathlib.Numerals.{add-one}
 use native.Mathlib.Omega.{arith}
 use lib.ListN.{length}
 use Rattle.lengths.specs.Edge.{Edge, edge}
-use Rattle.marks.specs.Mark.{openIn}
+use Rattle.marks.specs.Mark.{openIn, strikeIn}
 use Rattle.marks.specs.asks.Mark.{MarkAsked}
 use Rattle.sets.specs.asks.Stored.{edgeList, Single}
 use Rattle.sets.specs.declared.edge_set.EdgeSet.{EdgeSet}
@@ -27,7 +27,6 @@ use Rattle.argument.proofs.Sheet.{turn-over, turn-8, turn-9, turn-stops, turn-s
 use Rattle.sheets.specs.asks.Line.{LineAsked, TurnedAs, judgedOf, placeOf, turnedOf, marksAfter}
 use Rattle.sheets.specs.Verdict.{resultOf}
 use Rattle.sheets.specs.Rules.{rulesOf, markingOf}
-use Rattle.marks.specs.Mark.{strikeIn}
 use Rattle.sheets.specs.Sheet.{mostRecords}
 use Rattle.sheets.specs.asks.Sheet.{recordOf}
 use Rattle.sheets.specs.asks.Walk.{walkedOf, Tried, ChainAsked}

@@ -7,7 +7,7 @@ use mathlib.Core.List.{List, [], _∷_}
 use native.Mathlib.Omega.{arith}
 use lib.Dec.{leb, eqb}
 use borrow.Author.Tests.{lt-leb, le-leb, eq-eqb, ne-eqb}
-use Rattle.lists.proofs.Bools.{and-go, and-stop}
+use Rattle.lists.proofs.Bools.{and-go, and-stop, and-true}
 use Rattle.lengths.specs.Edge.{Edge, edge}
 use Rattle.search.specs.asks.Pairs.{firstOf}
 use Rattle.search.specs.declared.pairs.NextPair.{NextPair}
@@ -18,7 +18,6 @@ use Rattle.argument.specs.Rules.{Rules}
 use Rattle.argument.specs.Walk.{Spot, Step, ends, takes, entering, noneLeft, isNext, readCase, look}
 use Rattle.argument.specs.Layout.{Enters}
 use Rattle.argument.proofs.Verdicts.{pass-guard, fail-guard}
-use Rattle.argument.proofs.Tests.{both}
 use Rattle.argument.proofs.Steps.{look-entered}
 use Rattle.sheets.specs.asks.Sheet.{howOf, recordOf}
 use Rattle.sheets.specs.asks.Walk.{WholeRecords, pointsOnly, pairsOf, spotOf}
@@ -80,9 +79,9 @@ module _ (n a b : ℕ) (how : How) where
 pub closing-fits : (n a b : ℕ) (how : How) → fits n a b how ≡ true → howFits n how ≡ true
 unfolding fits
 closing-fits n a b how e =
-    let h = both (isPoint n a) _ e in
-    let k = both (isPoint n b) _ (h .1) in
-    both (not (eqb a b)) _ (k .1) .1
+    let h = and-true (isPoint n a) _ e in
+    let k = and-true (isPoint n b) _ (h .1) in
+    and-true (not (eqb a b)) _ (k .1) .1
 
 -- the next pair
 

@@ -6,6 +6,7 @@ use mathlib.Core.Path.{_≡_, sym, _∙_, ap, ap₂}
 use mathlib.Core.Bool.{true}
 use mathlib.Core.List.{List}
 use native.Mathlib.Omega.{arith}
+use Rattle.lists.proofs.Bools.{and-true}
 use Rattle.lengths.specs.Edge.{Edge, edge}
 use Rattle.lengths.specs.Table.{lengthOf}
 use Rattle.marks.specs.Mark.{openIn}
@@ -30,7 +31,7 @@ use Rattle.argument.specs.Verdict.{Verdict, accepted, refused, refusedBy}
 use Rattle.argument.specs.Record.{records, howFits}
 use Rattle.argument.specs.Rules.{Rules}
 use Rattle.argument.specs.Walk.{Spot, takes, look, opening, behind, close, walk}
-use Rattle.argument.proofs.Tests.{both, is-point, means-fits}
+use Rattle.argument.proofs.Tests.{is-point, means-fits}
 use Rattle.argument.proofs.Steps.{Taken, looked}
 use Rattle.argument.proofs.Fuel.{close-rises, walk-rises}
 use Rattle.argument.proofs.Equations.{walk-ends, walk-stops, walk-goes-on, walk-case-stops, close-splits, close-seventh, close-three-opts}
@@ -194,9 +195,9 @@ module _ {n : ℕ} {table rows marks sheet : List ℕ} {count : ℕ} {k : EdgeSe
     pub close-three-opt-asked : ThreeOptAsked n table k p q r s
     unfolding howFits
     close-three-opt-asked =
-        let h = both _ _ (fitting e) in
-        let g = both _ _ (h .1) in
-        let f = both _ _ (g .1) in
+        let h = and-true _ _ (fitting e) in
+        let g = and-true _ _ (h .1) in
+        let f = and-true _ _ (g .1) in
         let whole = asked .tried .admitted .lengths .whole in
         record {
           edge = record { first = is-point n p (h .0); second = is-point n q (g .0); whole = whole };

@@ -20,7 +20,6 @@ ghost use Rattle.argument.specs.Sheet as lines;
 ghost use Rattle.sheets.specs.asks.Line.{LineAsked, TurnedAs, judgedOf};
 ghost use Rattle.sheets.specs.Verdict.{resultOf};
 ghost use Rattle.sheets.specs.Rules.{rulesOf, markingOf};
-ghost use Rattle.marks.specs.Mark.{strikeIn};
 ghost use Rattle.sheets.specs.asks.Sheet.{recordOf};
 ghost use Rattle.sheets.specs.asks.Walk.{Tried};
 

@@ -5,7 +5,7 @@ use mathlib.Core.Bool.{Bool, not, _&&_, cond}
 use mathlib.Core.List.{List, _++_}
 use lib.Dec.{eqb}
 use lib.ListN.{length, take}
-use Rattle.lengths.specs.Edge.{Edge, edge, Point, edgeCount, row, rows, edges, tri}
+use Rattle.lengths.specs.Edge.{Edge, Point, edgeCount, row, rows, edges, tri}
 use Rattle.lengths.specs.Instance.{leastPoints, mostEdges}
 use Rattle.search.specs.asks.Pairs.{passes?}
 use Rattle.rules.specs.Pairs.{keep}

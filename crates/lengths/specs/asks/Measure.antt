@@ -4,7 +4,7 @@ use mathlib.Core.Path.{_≡_}
 use mathlib.Core.List.{List}
 use lib.ListN.{length}
 use Rattle.endian.specs.Bytes.{whole32}
-use Rattle.lengths.specs.Edge.{edges, edgeCount}
+use Rattle.lengths.specs.Edge.{edgeCount}
 use Rattle.lengths.specs.Instance.{mostCoordinate, mostPoints}
 use Rattle.lists.specs.Test.{AtMost}
 

@@ -3,7 +3,7 @@ use Prim.Native.Nat.{ℕ, _≤_}
 use mathlib.Core.Path.{_≡_}
 use mathlib.Core.List.{List}
 use lib.ListN.{length}
-use Rattle.lengths.specs.Edge.{edge, edgeCount}
+use Rattle.lengths.specs.Edge.{edgeCount}
 use Rattle.lengths.specs.Instance.{mostPoints}
 use Rattle.text.specs.Words.{Room}
 use Rattle.report.specs.Lines.{struckLines}

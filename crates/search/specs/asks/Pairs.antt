@@ -8,12 +8,11 @@ use lib.Dec.{leb}
 use lib.ListN.{getD}
 use Rattle.lengths.specs.Edge.{Edge, edge}
 use Rattle.lengths.specs.Instance.{mostLength}
-use Rattle.lengths.specs.Table.{lengthOf}
+use Rattle.lengths.specs.Table.{lengthOf, Lengths}
 use Rattle.sets.specs.Neighbours.{neighboursOf, within?, beyond}
 use Rattle.search.specs.asks.Candidates.{CandidatesOf}
 use Rattle.rules.specs.asks.Pairs.{feasibleAfter}
 use Rattle.sets.specs.Shape.{shuts?}
-use Rattle.lengths.specs.Table.{Lengths}
 use Rattle.search.specs.asks.Split.{Bounded, Prepared}
 use Rattle.sets.specs.asks.Stored.{edgeList, Held}
 use Rattle.sets.specs.declared.edge_set.EdgeSet.{EdgeSet}

@@ -7,13 +7,12 @@ use lib.ListN.{length, getD}
 use Rattle.lengths.specs.Edge.{Edge, edge, Point, edgeCount}
 use Rattle.lengths.specs.Instance.{pointPlaces}
 use Rattle.lengths.specs.asks.Rows.{RowAt, Rows}
-use Rattle.lengths.specs.Table.{lengthOf}
+use Rattle.lengths.specs.Table.{lengthOf, Lengths}
 use Rattle.marks.specs.Mark.{openIn}
 use Rattle.sets.specs.asks.Stored.{edgeList, Held}
 use Rattle.sets.specs.declared.edge_set.EdgeSet.{EdgeSet}
 use Rattle.search.specs.declared.split.Triangle.{Triangle}
 use Rattle.rules.specs.asks.Legs.{LegList, LegsOf}
-use Rattle.lengths.specs.Table.{Lengths}
 use Rattle.rules.specs.asks.Bound.{boundOf, loose, tightened}
 
 -- the legs and the bound are those of K at c

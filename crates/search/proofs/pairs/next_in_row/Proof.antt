@@ -3,7 +3,7 @@ use Prim.Native.Nat.{_+_, _-_}
 use native.Mathlib.Omega.{arith}
 use borrow.Author.Needs.{needs}
 use Rattle.endian.specs.Bytes.{whole32}
-use Rattle.search.proofs.RowSearch.{Scanning, row-far, row-over, row-rank, scan-start, scan-below, scan-inside, scan-small, scan-room, scan-rises, scan-found, scan-on, scan-end}
+use Rattle.search.proofs.RowSearch.{Scanning, row-far, row-over, row-rank, scan-start, scan-inside, scan-small, scan-room, scan-rises, scan-found, scan-on, scan-end}
 use Rattle.search.proofs.pairs.next_in_row.Statement.{statement}
 use Rattle.search.proofs.pairs.next_in_row.Tie as tie
 
