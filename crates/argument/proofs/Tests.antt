@@ -3,23 +3,15 @@ use Prim.Native.Nat.{ℕ, _≤_, _<_}
 use mathlib.Core.Path.{_≡_, refl, _∙_, ap, ap₂}
 use mathlib.Core.Bool.{true, not, false≢true}
 use mathlib.Core.List.{List, [], _∷_}
-use lib.Dec.{leb}
 use borrow.Author.Tests.{leb-true, le-leb, lt-leb, ltb-true, lt-ltb, le-ltb, eqb-true, eqb-false, eq-eqb, ne-eqb, not-true}
 use Rattle.lengths.specs.Edge.{Edge, edge, Point}
+use Rattle.lengths.proofs.Instances.{is-point, point-is}
 use Rattle.lists.proofs.Bools.{and-both, and-true}
 use Rattle.argument.specs.Verdict.{Verdict, accepted, refused}
-use Rattle.argument.specs.Record.{How, splits, threeOpts, records, isPoint, howFits, fits}
+use Rattle.argument.specs.Record.{How, splits, threeOpts, records, howFits, fits}
 use Rattle.argument.specs.Layout.{Enters}
 use Rattle.argument.specs.Walk.{entering, noneLeft, isNext, rest}
 use Rattle.argument.proofs.Verdicts.{guard-passed, pass-guard, fail-guard}
-
-pub is-point : (n a : ℕ) → isPoint n a ≡ true → Point n a
-unfolding isPoint
-is-point n a e = let h = and-true (leb 1 a) (leb a n) e in record { low = leb-true 1 a (h .0); high = leb-true a n (h .1) }
-
-pub point-is : {n a : ℕ} → Point n a → isPoint n a ≡ true
-unfolding isPoint
-point-is {n} {a} p = and-both _ _ (le-leb 1 a (p .low)) (le-leb a n (p .high))
 
 -- what refusal 11 leaves of a record's points
 abbrev pub HowFits : ℕ → How → Type 0

@@ -3,8 +3,9 @@
 use Prim.Native.Nat.{ℕ, _+_, _-_, _*_, _/_, _≤_}
 use mathlib.Core.Bool.{Bool, true, false, not, _&&_}
 use mathlib.Core.List.{List}
-use lib.Dec.{leb, eqb}
+use lib.Dec.{eqb}
 use lib.ListN.{length, getD}
+use Rattle.lengths.specs.Instance.{isPoint}
 
 -- "A sheet has .. records numbered from 1, each of eight 16-bit numbers"
 abbrev pub recordSize : ℕ
@@ -53,10 +54,6 @@ content kind a b u v c d next =
 
 unfoldable pub recordAt : List ℕ → ℕ → Record
 recordAt s i = content (field s i 0) (field s i 1) (field s i 2) (field s i 3) (field s i 4) (field s i 5) (field s i 6) (field s i 7)
-
--- a is one of the points 1 to n
-unfoldable pub isPoint : (n a : ℕ) → Bool
-isPoint n a = leb 1 a && leb a n
 
 -- the point fields of a closing are points
 unfoldable pub howFits : ℕ → How → Bool

@@ -1,11 +1,13 @@
--- What test 1 says of the number of points. Assumes nothing.
-use Prim.Native.Nat.{ℕ, _≤_}
+-- What test 1 says of the number of points, and what the test of a point says of it. Assumes nothing.
+use Prim.Native.Nat.{ℕ, _≤_, _<_}
 use mathlib.Core.Path.{_≡_, refl, sym, ap}
 use mathlib.Core.Bool.{Bool, true, false, true≢false}
 use native.Mathlib.Omega.{arith}
 use lib.Dec.{leb}
-use borrow.Author.Tests.{leb-true}
-use Rattle.lengths.specs.Instance.{inRange, admission, leastPoints, mostPoints}
+use borrow.Author.Tests.{leb-true, le-leb, lt-leb}
+use Rattle.lists.proofs.Bools.{and-both, and-go, and-stop, and-true}
+use Rattle.lengths.specs.Edge.{Point}
+use Rattle.lengths.specs.Instance.{inRange, admission, isPoint, leastPoints, mostPoints}
 use Rattle.lengths.specs.declared.instance.Instance.{Instance}
 use Rattle.lengths.specs.declared.instance.Admission.the-variants.{Admitted, OutOfRange}
 
@@ -45,3 +47,21 @@ out-of-range n h = go (inRange n) refl
     go : (b : Bool) → inRange n ≡ b → inRange n ≡ false
     go true e = absurd (let z : _≡_ {A = ℕ} 0 1 = let g : Admitted (record { points = n }) ≡ OutOfRange = rw (admission, e) at h in cc in omega arith)
     go false e = e
+
+-- the test of a point
+
+pub is-point : (n a : ℕ) → isPoint n a ≡ true → Point n a
+unfolding isPoint
+is-point n a e = let h = and-true (leb 1 a) (leb a n) e in record { low = leb-true 1 a (h .0); high = leb-true a n (h .1) }
+
+pub point-is : {n a : ℕ} → Point n a → isPoint n a ≡ true
+unfolding isPoint
+point-is {n} {a} p = and-both _ _ (le-leb 1 a (p .low)) (le-leb a n (p .high))
+
+pub point-zero : (n a : ℕ) → a < 1 → false ≡ isPoint n a
+unfolding isPoint
+point-zero n a h = and-stop _ (lt-leb 1 a h)
+
+pub point-above : (n a : ℕ) → 1 ≤ a → leb a n ≡ isPoint n a
+unfolding isPoint
+point-above n a h = and-go (le-leb 1 a h) refl

@@ -1,6 +1,6 @@
--- The limits of an instance (01, "Points, lengths, marks") and test 1.
+-- The limits of an instance (01, "Points, lengths, marks"), test 1, and the test of a point (11 and 17).
 use Prim.Native.Nat.{ℕ, _+_, _-_, _*_, _/_}
-use mathlib.Core.Bool.{Bool, true, false}
+use mathlib.Core.Bool.{Bool, true, false, _&&_}
 use lib.Dec.{leb}
 use Rattle.lengths.specs.declared.instance.Admission.{Admission}
 use Rattle.lengths.specs.declared.instance.Admission.the-variants.{Admitted, OutOfRange}
@@ -46,3 +46,7 @@ inRange n = elim (leb leastPoints n) [ true ↦ leb n mostPoints | false ↦ fal
 -- what test 1 answers
 unfoldable pub admission : ℕ → Admission
 admission n = elim (inRange n) [ true ↦ Admitted (record { points = n }) | false ↦ OutOfRange ]
+
+-- a is one of the points 1 to n
+unfoldable pub isPoint : (n a : ℕ) → Bool
+isPoint n a = leb 1 a && leb a n

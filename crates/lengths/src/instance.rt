@@ -1,6 +1,6 @@
-// The limits of an instance, and the test of its number of points.
+// The limits of an instance, the test of its number of points, and the test of a point.
 ghost use mathlib.Core.Path.{_≡_};
-ghost use Rattle.lengths.specs.Instance.{admission};
+ghost use Rattle.lengths.specs.Instance.{admission, isPoint};
 
 // An instance of LEAST_POINTS to MOST_POINTS points.
 pub struct Instance {
@@ -47,4 +47,14 @@ impl Instance {
         }
         Admission::Admitted(Instance { points: n as u16 })
     }
+}
+
+// Is a one of the points 1 to n?
+pub fn is_point(n: u16, a: u16) -> bool
+    ensures { λ r. ⌜ r ≡ isPoint n a ⌝ }
+{
+    if a < 1 {
+        return false;
+    }
+    a <= n
 }

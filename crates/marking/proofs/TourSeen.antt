@@ -13,9 +13,8 @@ use lib.Seq.{take-all, getD-set-same, getD-set-other}
 use borrow.Author.Tests.{ltb-true, ltb-false, lt-ltb}
 use Rattle.lengths.specs.Edge.{Point}
 use Rattle.lists.specs.Count.{count}
-use Rattle.argument.specs.Record.{isPoint}
-use Rattle.argument.proofs.Tests.{is-point, point-is}
-use Rattle.lengths.specs.Instance.{mostPoints, pointPlaces}
+use Rattle.lengths.proofs.Instances.{is-point, point-is}
+use Rattle.lengths.specs.Instance.{isPoint, mostPoints, pointPlaces}
 use Rattle.tours.specs.Tour.{Tour}
 use Rattle.tours.proofs.Bit.{same, same-true, same-false, same-self}
 use Rattle.tours.proofs.Count.{tour-once, tour-length, points-all}

@@ -5,6 +5,7 @@ use mathlib.Core.List.{List}
 use lib.Dec.{eqb}
 use lib.ListN.{getD, set}
 use Rattle.lengths.specs.Edge.{place}
+use Rattle.lists.specs.Count.{count}
 use Rattle.lists.specs.Test.{allAtMost}
 
 -- "1 open, 0 struck"
@@ -21,6 +22,10 @@ areMarks marks = allAtMost openMark marks
 -- the edge at this place is open
 abbrev pub openAt : List ℕ → ℕ → Bool
 openAt marks i = eqb (getD marks i 0) openMark
+
+-- how many edges are open
+abbrev pub openCount : List ℕ → ℕ
+openCount marks = count openMark marks
 
 -- the edge ab is open
 unfoldable pub openIn : ℕ → List ℕ → ℕ → ℕ → Bool

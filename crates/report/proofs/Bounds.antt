@@ -10,6 +10,7 @@ use Rattle.lengths.specs.Edge.{Edge, edge, edges, edgeCount, row, rows}
 use Rattle.lengths.proofs.Edges.{edges-few, length-edges}
 use Rattle.lengths.specs.Instance.{mostEdges, mostPoints, pointPlaces}
 use Rattle.lists.specs.Count.{count}
+use Rattle.marks.specs.Mark.{openAt, openCount, openMark}
 use Rattle.text.specs.Words.{Room, Wrote}
 use Rattle.text.specs.Decimal.{fieldText}
 use Rattle.text.proofs.Writing.{length-three}
@@ -26,13 +27,10 @@ struck-length a b h g = omega (
   field-length 2 space b (omega arith),
 )
 
-mark-length : (mark a b : ℕ) → a ≤ mostPoints → b ≤ mostPoints → length (markLine mark a b) ≤ 15
+mark-length : (is-open : Bool) (a b : ℕ) → a ≤ mostPoints → b ≤ mostPoints → length (markLine is-open a b) ≤ 15
 unfolding markLine
-mark-length mark a b h g = go (eqb mark 0) refl
-  where
-    go : (t : Bool) → eqb mark 0 ≡ t → length (markLine mark a b) ≤ 15
-    go true e = rw (markLine, e) (struck-length a b h g)
-    go false e = rw (markLine, e) (omega arith)
+mark-length true a b h g = omega arith
+mark-length false a b h g = struck-length a b h g
 
 -- every point of the edges is one of an instance's points
 abbrev Small : List Edge → Type 0
@@ -53,17 +51,16 @@ unfolding rows
 small-rows a zero h = tt
 small-rows a (suc k) h = small-both (row a (suc a) (suc k)) (rows (suc a) k) (small-row a (suc a) (suc k) (omega arith) (omega arith)) (small-rows (suc a) k (omega arith))
 
-marks-length : (es : List Edge) (marks : List ℕ) → Small es → length (markLines es marks) ≤ 15 * length es
+marks-length : (es : List Edge) (marks : List ℕ) (i : ℕ) → Small es → length (markLines es marks i) ≤ 15 * length es
 unfolding markLines
-marks-length [] marks h = omega arith
-marks-length (e ∷ es) [] h = omega arith
-marks-length (edge a b ∷ es) (mark ∷ marks) (h, g, k) =
-    omega (arith, length-append (markLine mark a b) (markLines es marks), mark-length mark a b h g, marks-length es marks k)
+marks-length [] marks i h = omega arith
+marks-length (edge a b ∷ es) marks i (h, g, k) =
+    omega (arith, length-append (markLine (openAt marks i) a b) (markLines es marks (suc i)), mark-length (openAt marks i) a b h g, marks-length es marks (suc i) k)
 
 strikes-length : (n : ℕ) (marks : List ℕ) → 2 ≤ n → n ≤ mostPoints → length (struckLines n marks) ≤ 15 * mostEdges
 unfolding struckLines edges
 strikes-length n marks h g =
-    omega (arith, marks-length (rows 1 (n - 1)) marks (small-rows 1 (n - 1) (omega arith)), length-edges n (omega arith), edges-few n g)
+    omega (arith, marks-length (rows 1 (n - 1)) marks 0 (small-rows 1 (n - 1) (omega arith)), length-edges n (omega arith), edges-few n g)
 
 points-length : (n : ℕ) → n ≤ mostPoints → length (pointsLine n) ≤ 23
 unfolding pointsLine
@@ -103,10 +100,10 @@ all-room {n} {number} {rec} {marks} {out} p h g = record {
   room = omega (
     arith,
     p .large,
-    length-three (pointsLine n) (struckLines n marks) (verdictLine number rec (count 1 marks)),
+    length-three (pointsLine n) (struckLines n marks) (verdictLine number rec (openCount marks)),
     points-length n (p .few),
     strikes-length n marks (p .some) (p .few),
-    verdict-length number rec (count 1 marks) h g (omega (arith, p .marked, edges-few _ (p .few), count-few 1 marks)),
+    verdict-length number rec (openCount marks) h g (omega (arith, p .marked, edges-few _ (p .few), count-few openMark marks)),
   );
 }
 
@@ -114,9 +111,9 @@ pub strikes-asked : {n at : ℕ} {marks out mid : List ℕ} → LinesAsked n mar
 strikes-asked p r = record { some = p .some; few = p .few; marked = p .marked; room = r }
 
 -- the last line of an equal count
-pub verdict-room : {out : List ℕ} {at opens : ℕ} (number rec : ℕ) (marks : List ℕ) → opens ≡ count 1 marks → Room out at (verdictLine number rec (count 1 marks)) → Room out at (verdictLine number rec opens)
+pub verdict-room : {out : List ℕ} {at opens : ℕ} (number rec : ℕ) (marks : List ℕ) → opens ≡ count 1 marks → Room out at (verdictLine number rec (openCount marks)) → Room out at (verdictLine number rec opens)
 verdict-room number rec marks h p = rw h p
 
 pub verdict-wrote : {out left : List ℕ} {at r opens : ℕ} (number rec : ℕ) (marks : List ℕ) → opens ≡ count 1 marks → Wrote out at (verdictLine number rec opens) r left
-    → Wrote out at (verdictLine number rec (count 1 marks)) r left
+    → Wrote out at (verdictLine number rec (openCount marks)) r left
 verdict-wrote number rec marks h w = rw (sym h) w

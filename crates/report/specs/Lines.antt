@@ -1,11 +1,9 @@
 -- The program's lines (01, "Layers and program"), and their words in ASCII.
-use Prim.Native.Nat.{ℕ}
-use mathlib.Core.Bool.{true, false}
+use Prim.Native.Nat.{ℕ, suc}
+use mathlib.Core.Bool.{Bool, true, false}
 use mathlib.Core.List.{List, [], _∷_, _++_}
-use lib.Dec.{eqb}
 use Rattle.lengths.specs.Edge.{Edge, edge, edges, edgeCount}
-use Rattle.lists.specs.Count.{count}
-use Rattle.marks.specs.Mark.{struckMark}
+use Rattle.marks.specs.Mark.{openAt, openCount}
 use Rattle.text.specs.Decimal.{fieldText}
 
 -- `points `, ` edges `, `struck `, a space, `verdict `, ` record `, ` open ` and the end of a line
@@ -41,19 +39,18 @@ pointsLine n = fieldText pointsWord n ++ fieldText edgesWord (edgeCount n) ++ li
 unfoldable pub struckLine : ℕ → ℕ → List ℕ
 struckLine a b = fieldText struckWord a ++ fieldText space b ++ lineEnd
 
--- the line of an edge with this mark: none if it is open
-unfoldable pub markLine : ℕ → ℕ → ℕ → List ℕ
-markLine mark a b = elim (eqb mark struckMark) [ true ↦ struckLine a b | false ↦ [] ]
+-- the line of an edge: none if it is open
+unfoldable pub markLine : Bool → ℕ → ℕ → List ℕ
+markLine is-open a b = elim is-open [ true ↦ [] | false ↦ struckLine a b ]
 
--- the lines of edges with their marks
-unfoldable pub markLines : List Edge → List ℕ → List ℕ
-markLines [] marks = []
-markLines (e ∷ es) [] = []
-markLines (edge a b ∷ es) (mark ∷ marks) = markLine mark a b ++ markLines es marks
+-- the lines of edges, the first of which has its mark at the place i
+unfoldable pub markLines : List Edge → List ℕ → ℕ → List ℕ
+markLines [] marks i = []
+markLines (edge a b ∷ es) marks i = markLine (openAt marks i) a b ++ markLines es marks (suc i)
 
 -- "One line an accepted strike, .. in edge order"
 unfoldable pub struckLines : ℕ → List ℕ → List ℕ
-struckLines n marks = markLines (edges n) marks
+struckLines n marks = markLines (edges n) marks 0
 
 -- "Last: refusal number or 0, its record or 0, edges open"
 unfoldable pub verdictLine : ℕ → ℕ → ℕ → List ℕ
@@ -63,6 +60,6 @@ verdictLine number rec opens = fieldText verdictWord number ++ fieldText recordW
 unfoldable pub lastLine : ℕ → List ℕ
 lastLine number = verdictLine number 0 0
 
--- "all lines appear"; an edge is open if its mark is 1
+-- "all lines appear"
 unfoldable pub allLines : ℕ → ℕ → ℕ → List ℕ → List ℕ
-allLines n number rec marks = pointsLine n ++ struckLines n marks ++ verdictLine number rec (count 1 marks)
+allLines n number rec marks = pointsLine n ++ struckLines n marks ++ verdictLine number rec (openCount marks)

@@ -2,7 +2,7 @@
 use lengths::edge;
 use lengths::refusal;
 use marks::counting::open_edges;
-use marks::mark;
+use marks::mark::open_at;
 use text::decimal::put_field;
 use text::words::put_word;
 ghost use Prim.Native.Nat.{_≤_};
@@ -32,12 +32,12 @@ fn put_struck(a: u32, b: u32, out: &mut [u8], at: usize) -> usize
     put_word(b"\n", out, next)
 }
 
-// The line of the edge ab with this mark: none if it is open.
-fn put_mark(mark: u8, a: u32, b: u32, out: &mut [u8], at: usize) -> usize
-    requires { ⌜ Room (now out) at (markLine mark a b) ⌝ }
-    ensures { λ r. ⌜ Wrote (now (out .entry)) at (markLine mark a b) r (now (out .exit)) ⌝ }
+// The line of the edge ab: none if it is open.
+fn put_mark(opened: bool, a: u32, b: u32, out: &mut [u8], at: usize) -> usize
+    requires { ⌜ Room (now out) at (markLine opened a b) ⌝ }
+    ensures { λ r. ⌜ Wrote (now (out .entry)) at (markLine opened a b) r (now (out .exit)) ⌝ }
 {
-    if mark == mark::STRUCK {
+    if !opened {
         return put_struck(a, b, out, at);
     }
     at
@@ -54,7 +54,7 @@ fn put_strikes(n: u16, marks: &[u8], out: &mut [u8], at: usize) -> usize
     let mut i = 0;
     let mut next = at;
     while i < marks.len() {
-        next = put_mark(marks[i], a as u32, b as u32, out, next);
+        next = put_mark(open_at(marks, i), a as u32, b as u32, out, next);
         let following = edge::following(points, a, b);
         a = following.low;
         b = following.high;

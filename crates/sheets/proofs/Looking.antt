@@ -5,15 +5,16 @@ use mathlib.Core.Path.{_≡_, refl, sym, _∙_, ap, ap₂}
 use mathlib.Core.Bool.{Bool, true, false, not, _&&_}
 use mathlib.Core.List.{List, [], _∷_}
 use native.Mathlib.Omega.{arith}
-use lib.Dec.{leb, eqb}
-use borrow.Author.Tests.{lt-leb, le-leb, eq-eqb, ne-eqb}
+use lib.Dec.{eqb}
+use borrow.Author.Tests.{eq-eqb, ne-eqb}
+use Rattle.lengths.specs.Instance.{isPoint}
 use Rattle.lists.proofs.Bools.{and-go, and-stop, and-true}
 use Rattle.lengths.specs.Edge.{Edge, edge}
 use Rattle.search.specs.asks.Pairs.{firstOf}
 use Rattle.search.specs.declared.pairs.NextPair.{NextPair}
 use Rattle.search.specs.declared.pairs.NextPair.the-variants.{Pair, End}
 use Rattle.argument.specs.Verdict.{Verdict, accepted, refused, guard}
-use Rattle.argument.specs.Record.{How, Record, line, case, other, records, recordAt, isPoint, howFits, fits}
+use Rattle.argument.specs.Record.{How, Record, line, case, other, records, recordAt, howFits, fits}
 use Rattle.argument.specs.Rules.{Rules}
 use Rattle.argument.specs.Walk.{Spot, Step, ends, takes, entering, noneLeft, isNext, readCase, look}
 use Rattle.argument.specs.Layout.{Enters}
@@ -28,15 +29,7 @@ use Rattle.sheets.specs.declared.sheet.Line.{Line}
 use Rattle.sheets.specs.declared.sheet.Record as declared
 use Rattle.sheets.specs.declared.sheet.Record.the-variants as variant
 
--- points
-
-pub point-zero : (n a : ℕ) → a < 1 → false ≡ isPoint n a
-unfolding isPoint
-point-zero n a h = and-stop _ (lt-leb 1 a h)
-
-pub point-above : (n a : ℕ) → 1 ≤ a → leb a n ≡ isPoint n a
-unfolding isPoint
-point-above n a h = and-go (le-leb 1 a h) refl
+-- the points of a closing
 
 pub split-fits : (n : ℕ) {closing : Closing} {c first : ℕ} → closing ≡ Split c first → isPoint n c ≡ howFits n (howOf closing)
 unfolding howFits

@@ -31,7 +31,8 @@ use Rattle.argument.specs.Verdict.{Verdict, accepted, refused, refusedBy}
 use Rattle.argument.specs.Record.{records, howFits}
 use Rattle.argument.specs.Rules.{Rules}
 use Rattle.argument.specs.Walk.{Spot, takes, look, opening, behind, close, walk}
-use Rattle.argument.proofs.Tests.{is-point, means-fits}
+use Rattle.lengths.proofs.Instances.{is-point}
+use Rattle.argument.proofs.Tests.{means-fits}
 use Rattle.argument.proofs.Steps.{Taken, looked}
 use Rattle.argument.proofs.Fuel.{close-rises, walk-rises}
 use Rattle.argument.proofs.Equations.{walk-ends, walk-stops, walk-goes-on, walk-case-stops, close-splits, close-seventh, close-three-opts}

@@ -6,6 +6,7 @@ use crate::sheet::Sheet;
 use closings::closing::ThreeOptOutcome;
 use closings::closing::close_by_three_opt;
 use lengths::instance::Instance;
+use lengths::instance::is_point;
 use lengths::refusal;
 use rules::legs;
 use search::candidates;
@@ -19,7 +20,7 @@ ghost use mathlib.Core.Path.{_≡_};
 ghost use Prim.Native.Nat.{suc};
 ghost use Rattle.endian.specs.Bytes.{whole16, whole32};
 ghost use Rattle.sets.specs.asks.Stored.{edgeList};
-ghost use Rattle.argument.specs.Record.{isPoint, howFits, fits};
+ghost use Rattle.argument.specs.Record.{howFits, fits};
 ghost use Rattle.argument.specs.Walk.{readCase, opening, close, walk};
 ghost use Rattle.argument.specs.Walk as walking;
 ghost use Rattle.sheets.specs.asks.Sheet.{howOf, recordOf};
@@ -37,16 +38,6 @@ pub enum Looked {
     ChainEnds,
     Takes(Case),
     Refused(u8, u16),
-}
-
-// Is a one of the points 1 to n?
-pub fn is_point(n: u16, a: u16) -> bool
-    ensures { λ r. ⌜ r ≡ isPoint n a ⌝ }
-{
-    if a < 1 {
-        return false;
-    }
-    a <= n
 }
 
 // Are the points of a closing among 1 to n?

@@ -3,10 +3,9 @@ use Prim.Native.Nat.{ℕ, _≤_}
 use mathlib.Core.Path.{_≡_}
 use mathlib.Core.List.{List}
 use lib.ListN.{length}
-use Rattle.lists.specs.Count.{count}
-use Rattle.marks.specs.Mark.{openMark}
+use Rattle.marks.specs.Mark.{openCount}
 
 -- so many marks are open, and no more than there are
 pub record OpenIs (marks : List ℕ) (r : ℕ) : Type 0 where
-  pub counted : r ≡ count openMark marks
+  pub counted : r ≡ openCount marks
   pub few : r ≤ length marks

@@ -6,9 +6,8 @@ use native.Mathlib.Omega.{arith}
 use denote.Ref.{now}
 use borrow.Author.Tests.{not-true, not-false}
 use borrow.Author.Needs.{needs}
-use Rattle.argument.specs.Record.{isPoint}
 use Rattle.endian.specs.Bytes.{whole16}
-use Rattle.lengths.specs.Instance.{pointPlaces}
+use Rattle.lengths.specs.Instance.{isPoint, pointPlaces}
 use Rattle.marking.proofs.TourSeen.{Seeing, wrong-length, seeing-start, not-point, flag-inside, seen-twice, seeing-on, all-seen}
 use Rattle.marking.proofs.tour.each_once.Statement.{statement}
 use Rattle.marking.proofs.tour.each_once.Tie as tie

@@ -16,8 +16,8 @@ abbrev μ-loop : tie.MeasureT-loop
 loop-holds : tie.Need-loop-holds Inv-loop μ-loop
 loop-holds c = first-edge (c .before .before .pre)
 
-shared-slice-read-put-mark : tie.Need-shared-slice-read-put-mark Inv-loop μ-loop
-shared-slice-read-put-mark c = search needs
+open-at-requires : tie.Need-open-at-requires Inv-loop μ-loop
+open-at-requires c κs = search needs
 
 cast-put-mark : tie.Need-cast-put-mark Inv-loop μ-loop
 cast-put-mark c = record { fits = omega (arith, c .before .before .before .before .before .pre .few, at-edge (c .before .before .before .before .before .pre) (c .before .before .loop .inv) (c .before .loop-test .taken) .0) }
@@ -26,7 +26,7 @@ cast-put-mark-2 : tie.Need-cast-put-mark-2 Inv-loop μ-loop
 cast-put-mark-2 c = record { fits = omega (arith, c .before .before .before .before .before .pre .few, at-edge (c .before .before .before .before .before .pre) (c .before .before .loop .inv) (c .before .loop-test .taken) .0) }
 
 put-mark-requires : tie.Need-put-mark-requires Inv-loop μ-loop
-put-mark-requires c κs = mark-room (c .before .before .before .before .before .before .pre) (c .before .before .before .loop .inv) (c .before .before .loop-test .taken)
+put-mark-requires c κs = mark-room (c .before .before .before .before .before .before .pre) (c .before .before .before .loop .inv) (c .before .before .loop-test .taken) (c .before .open-at .ensures)
 
 following-requires : tie.Need-following-requires Inv-loop μ-loop
 following-requires c κs = (c .before .before .before .before .before .before .before .before .before .pre .few, at-edge (c .before .before .before .before .before .before .before .before .before .pre) (c .before .before .before .before .before .before .loop .inv) (c .before .before .before .before .before .loop-test .taken) .0)
@@ -38,7 +38,7 @@ loop-less : tie.Need-loop-less Inv-loop μ-loop
 loop-less c = search needs
 
 loop-again : tie.Need-loop-again Inv-loop μ-loop
-loop-again c = striking-on (c .before .before .before .before .before .before .before .before .before .before .pre) (c .before .before .before .before .before .before .before .loop .inv) (c .before .before .before .before .before .before .loop-test .taken) (c .before .before .before .put-mark .ensures) (c .following .ensures)
+loop-again c = striking-on (c .before .before .before .before .before .before .before .before .before .before .pre) (c .before .before .before .before .before .before .before .loop .inv) (c .before .before .before .before .before .before .loop-test .taken) (c .before .before .before .before .before .open-at .ensures) (c .before .before .before .put-mark .ensures) (c .following .ensures)
 
 same-length : tie.Need-same-length Inv-loop μ-loop
 same-length c = c .before .loop .inv .kept
@@ -53,7 +53,7 @@ put-strikes-spec =
     Inv-loop
     μ-loop
     loop-holds
-    shared-slice-read-put-mark
+    open-at-requires
     cast-put-mark
     cast-put-mark-2
     put-mark-requires
