@@ -11,7 +11,7 @@ use Rattle.lists.specs.Test.{unless}
 use Rattle.argument.specs.Record.{records}
 use Rattle.argument.specs.Sheet.{Result, sheet}
 use Rattle.sheets.proofs.Records.{sheet-records, sheet-admitted, sheet-refused}
-use Rattle.sheets.specs.asks.Line.{RowsAsked}
+use Rattle.sheet_lines.specs.asks.Line.{RowsAsked}
 use Rattle.sheets.specs.Verdict.{resultOf}
 use Rattle.sheets.specs.Rules.{markingOf}
 use Rattle.sheets.specs.Sheet.{wholeSheet}

@@ -1,4 +1,3 @@
-pub mod Lining
 pub mod Looking
 pub mod Records
 pub mod Walking

@@ -1,5 +1,4 @@
-// The third layer, lower half: sheets and their records, the walk through an argument, and the lines of a sheet.
-pub mod line;
+// The third layer, lowest part: sheets and their records, and the walk through an argument.
 pub mod sheet;
 pub mod verdict;
 pub mod walk;

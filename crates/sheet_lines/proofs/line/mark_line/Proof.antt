@@ -1,10 +1,10 @@
--- `sheets::line::mark_line` meets its contract: each return is a way out of `turn`, and only the one that strikes changes a mark.
+-- `sheet_lines::line::mark_line` meets its contract: each return is a way out of `turn`, and only the one that strikes changes a mark.
 -- Assumes nothing.
 use Rattle.sheets.proofs.Looking.{above-all, not-above, entered}
-use Rattle.sheets.proofs.Lining.{mark-over, mark-above, mark-low, mark-marked, mark-strikes, mark-stops}
+use Rattle.sheet_lines.proofs.Lining.{mark-over, mark-above, mark-low, mark-marked, mark-strikes, mark-stops}
 use borrow.Author.Needs.{needs}
-use Rattle.sheets.proofs.line.mark_line.Statement.{statement}
-use Rattle.sheets.proofs.line.mark_line.Tie as tie
+use Rattle.sheet_lines.proofs.line.mark_line.Statement.{statement}
+use Rattle.sheet_lines.proofs.line.mark_line.Tie as tie
 
 returns : tie.Need-returns
 returns c = mark-over _ _ _ _ _ _ _ (c .if1 .taken)

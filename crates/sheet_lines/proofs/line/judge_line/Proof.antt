@@ -1,10 +1,10 @@
--- `sheets::line::judge_line` meets its contract: each return is a way out of `judgeRecord` at a line. Assumes nothing.
+-- `sheet_lines::line::judge_line` meets its contract: each return is a way out of `judgeRecord` at a line. Assumes nothing.
 use mathlib.Core.Path.{sym, _∙_}
 use borrow.Author.Tests.{not-true, not-false}
-use Rattle.sheets.proofs.Lining.{line-misfit, line-struck, line-strikes, line-stops, line-marked, line-chain}
+use Rattle.sheet_lines.proofs.Lining.{line-misfit, line-struck, line-strikes, line-stops, line-marked, line-chain}
 use borrow.Author.Needs.{needs}
-use Rattle.sheets.proofs.line.judge_line.Statement.{statement}
-use Rattle.sheets.proofs.line.judge_line.Tie as tie
+use Rattle.sheet_lines.proofs.line.judge_line.Statement.{statement}
+use Rattle.sheet_lines.proofs.line.judge_line.Tie as tie
 
 points-fit-requires : tie.Need-points-fit-requires
 points-fit-requires c κs = search needs

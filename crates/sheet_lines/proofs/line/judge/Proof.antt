@@ -1,8 +1,8 @@
--- `sheets::line::judge` meets its contract: each return is a way out of `judge`, by the record that was read. Assumes nothing.
-use Rattle.sheets.proofs.Lining.{judge-line, judge-case, judge-other}
+-- `sheet_lines::line::judge` meets its contract: each return is a way out of `judge`, by the record that was read. Assumes nothing.
+use Rattle.sheet_lines.proofs.Lining.{judge-line, judge-case, judge-other}
 use borrow.Author.Needs.{needs}
-use Rattle.sheets.proofs.line.judge.Statement.{statement}
-use Rattle.sheets.proofs.line.judge.Tie as tie
+use Rattle.sheet_lines.proofs.line.judge.Statement.{statement}
+use Rattle.sheet_lines.proofs.line.judge.Tie as tie
 
 record-requires : tie.Need-record-requires
 record-requires c κs = search needs

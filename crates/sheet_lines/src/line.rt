@@ -1,27 +1,27 @@
 // One line of a sheet: judged against the marks as they are, and then marked; and a sheet as the repetition of one line.
-use crate::sheet::Closing;
-use crate::sheet::Line;
-use crate::sheet::Record;
-use crate::sheet::Sheet;
-use crate::verdict::Verdict;
-use crate::walk::Walked;
-use crate::walk::chain;
-use crate::walk::points_fit;
 use lengths::refusal;
 use marks::mark::is_open;
 use marks::mark::strike;
 use sets::edge_set::EdgeSet;
+use sheets::sheet::Closing;
+use sheets::sheet::Line;
+use sheets::sheet::Record;
+use sheets::sheet::Sheet;
+use sheets::verdict::Verdict;
+use sheets::walk::Walked;
+use sheets::walk::chain;
+use sheets::walk::points_fit;
 ghost use mathlib.Core.Path.{_≡_};
 ghost use Rattle.endian.specs.Bytes.{whole16, whole32};
 ghost use Rattle.marks.specs.Mark.{openIn};
 ghost use Rattle.argument.specs.Line.{judgeRecord};
 ghost use Rattle.argument.specs.Line as judging;
 ghost use Rattle.argument.specs.Sheet as lines;
-ghost use Rattle.sheets.specs.asks.Line.{LineAsked, TurnedAs, judgedOf};
+ghost use Rattle.sheet_lines.specs.asks.Line.{LineAsked, TurnedAs, judgedOf};
 ghost use Rattle.sheets.specs.Verdict.{resultOf};
 ghost use Rattle.sheets.specs.Rules.{rulesOf, markingOf};
 ghost use Rattle.sheets.specs.asks.Sheet.{recordOf};
 ghost use Rattle.sheets.specs.asks.Walk.{Tried};
 
 // What a line that was entered comes to: it strikes its edge, with the next index and the highest record entered, or it is refused.
 pub enum Judged {

@@ -6,13 +6,13 @@ use lib.ListN.{length}
 use Rattle.argument.specs.Verdict.{Verdict, accepted, refused}
 use Rattle.argument.specs.Line.{Struck, strikes}
 use Rattle.argument.specs.Sheet.{Place, Turn, over, onward, turn}
 use Rattle.sheets.specs.Rules.{markingOf}
 use Rattle.sheets.specs.Sheet.{Readable}
 use Rattle.sheets.specs.asks.Walk.{Admitted, Tried}
-use Rattle.sheets.specs.declared.line.Judged.{Judged}
-use Rattle.sheets.specs.declared.line.Judged.the-variants as judged
-use Rattle.sheets.specs.declared.line.Turned.{Turned}
-use Rattle.sheets.specs.declared.line.Turned.the-variants as turned
+use Rattle.sheet_lines.specs.declared.line.Judged.{Judged}
+use Rattle.sheet_lines.specs.declared.line.Judged.the-variants as judged
+use Rattle.sheet_lines.specs.declared.line.Turned.{Turned}
+use Rattle.sheet_lines.specs.declared.line.Turned.the-variants as turned
 
 abbrev pub judgedOf : Judged → Verdict Struck
 judgedOf (judged.Strikes a b next high) = accepted (strikes a b next high)

@@ -1,4 +1,4 @@
--- `sheets::line::mark_lines` meets its contract: the loop's invariant is `Proceeding`, and its measure the records left above the highest
+-- `sheet_lines::line::mark_lines` meets its contract: the loop's invariant is `Proceeding`, and its measure the records left above the highest
 -- entered. Assumes nothing.
 use Prim.Native.Nat.{_-_}
 use mathlib.Core.Path.{_∙_}
@@ -6,9 +6,9 @@ use native.Mathlib.Omega.{arith}
 use borrow.Author.Needs.{needs}
 use Rattle.endian.specs.Bytes.{whole16, whole32}
 use Rattle.argument.specs.Record.{records}
-use Rattle.sheets.proofs.Lining.{Proceeding, lines-start, lines-accepted, lines-refused, lines-few, lines-fall, lines-on}
-use Rattle.sheets.proofs.line.mark_lines.Statement.{statement}
-use Rattle.sheets.proofs.line.mark_lines.Tie as tie
+use Rattle.sheet_lines.proofs.Lining.{Proceeding, lines-start, lines-accepted, lines-refused, lines-few, lines-fall, lines-on}
+use Rattle.sheet_lines.proofs.line.mark_lines.Statement.{statement}
+use Rattle.sheet_lines.proofs.line.mark_lines.Tie as tie
 
 abbrev Inv-loop : tie.InvT-loop
 Inv-loop n table rows marks₀ sheet count lines₀ last₀ index₀ high₀ marks lines last index high =

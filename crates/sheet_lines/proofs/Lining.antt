@@ -24,23 +24,23 @@ use Rattle.argument.proofs.Verdicts.{pass-guard, fail-guard}
 use Rattle.argument.proofs.Tests.{fits-means}
 use Rattle.argument.proofs.Equations.{close-splits, judged}
 use Rattle.argument.proofs.Sheet.{turn-over, turn-8, turn-9, turn-stops, turn-strikes, turn-rises, lines-over, lines-stop, lines-go-on}
-use Rattle.sheets.specs.asks.Line.{LineAsked, TurnedAs, judgedOf, placeOf, turnedOf, marksAfter}
+use Rattle.sheet_lines.specs.asks.Line.{LineAsked, TurnedAs, judgedOf, placeOf, turnedOf, marksAfter}
 use Rattle.sheets.specs.Verdict.{resultOf}
 use Rattle.sheets.specs.Rules.{rulesOf, markingOf}
 use Rattle.sheets.specs.Sheet.{mostRecords}
 use Rattle.sheets.specs.asks.Sheet.{recordOf}
 use Rattle.sheets.specs.asks.Walk.{walkedOf, Tried, ChainAsked}
-use Rattle.sheets.specs.declared.line.Judged.{Judged}
-use Rattle.sheets.specs.declared.line.Judged.the-variants as judging
-use Rattle.sheets.specs.declared.line.Turned.{Turned}
-use Rattle.sheets.specs.declared.line.Turned.the-variants as turned
+use Rattle.sheet_lines.specs.declared.line.Judged.{Judged}
+use Rattle.sheet_lines.specs.declared.line.Judged.the-variants as judging
+use Rattle.sheet_lines.specs.declared.line.Turned.{Turned}
+use Rattle.sheet_lines.specs.declared.line.Turned.the-variants as turned
 use Rattle.sheets.specs.declared.sheet.Case.{Case}
 use Rattle.sheets.specs.declared.sheet.Line.{Line}
 use Rattle.sheets.specs.declared.sheet.Record as declared
 use Rattle.sheets.specs.declared.sheet.Record.the-variants as variant
 use Rattle.sheets.specs.declared.verdict.Verdict.the-variants as verdict
 use Rattle.sheets.specs.declared.walk.Walked.{Walked}
 use Rattle.sheets.specs.declared.walk.Walked.the-variants as walked
 
 -- a line that was read
 
