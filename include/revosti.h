@@ -16,7 +16,7 @@
  * All functions accept any buffers of any lengths and any numbers: faulty input gets a refusal number, the first that applies in the
  * order given at each function. A length that is no whole number of entries is a wrong size there, for all buffers but the list. A
  * refused call changes nothing, but for a sheet that stops at a record. They touch no byte outside the lengths given, allocate nothing,
- * keep no state and always return. They use some 300 KB of stack. A buffer that is written overlaps no other while the call runs;
+ * keep no state and always return. They use some 160 KB of stack. A buffer that is written overlaps no other while the call runs;
  * buffers that are only read may overlap.
  *
  * docs/RULES.md has the rules that they keep to, and what the words here mean (standing pair, split, crossing, labelling).
