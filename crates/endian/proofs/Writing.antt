@@ -10,7 +10,7 @@ use lib.ListN.{length, getD, take, drop, set, length-append, length-set, take-ap
 use lib.Seq.{take-suc, take-length, length-take-le, take-append-seam, drop-append-add, drop-drop}
 use borrow.Author.Tests.{eq-eqb}
 use Rattle.endian.specs.Bytes.{numbers32, whole32, littleEndian, bytesOf}
-use Rattle.endian.specs.asks.Bytes.{Entry, Put, EncodeAsked}
+use Rattle.endian.specs.asks.Bytes.{Entry, Put, EncodeAsked, Encoding}
 use Rattle.endian.proofs.Reading.{drop-next}
 
 digits-length : (k x : ℕ) → length (littleEndian k x) ≡ k
@@ -28,13 +28,7 @@ unfolding bytesOf
 bytes-snoc width [] x = append-nil (littleEndian width x)
 bytes-snoc width (y ∷ xs) x = ap (λ (r : List ℕ). littleEndian width y ++ r) (bytes-snoc width xs x) ∙ sym (append-assoc (littleEndian width y) (bytesOf width xs) (littleEndian width x))
 
--- the loop at a width: the bytes of the first i numbers are written
-pub record Encoding (width : ℕ) (numbers bytes₀ bytes : List ℕ) (i : ℕ) : Type 0 where
-  pub within : i ≤ length numbers
-  pub room : width * length numbers ≤ length bytes
-  pub kept : length bytes ≡ length bytes₀
-  pub written : bytes ≡ bytesOf width (take i numbers) ++ drop (width * i) bytes₀
-
+-- numbers that are written one after another
 pub encoding-start : {width : ℕ} {numbers bytes : List ℕ} → EncodeAsked width numbers bytes → Encoding width numbers bytes bytes 0
 unfolding bytesOf
 encoding-start {width} g = record { within = omega arith; room = g .room; kept = refl; written = rw (mul-zero width) }

@@ -1,4 +1,4 @@
-// "Measure": both rules, each refusal, and their order. A refused call leaves the table as it was, all 7.
+// "Measure": the five rules, each refusal, and their order. A refused call leaves the table as it was, all 7.
 use answers::data::lengths_as_bytes;
 use answers::data::some_bytes;
 use answers::tally::Tally;
@@ -64,11 +64,14 @@ fn refused(t: Tally, n: u32, rule: u32, size: u32, x: u32, places: u32, number: 
     measured(t, n, rule, size, x, places, number, UNTOUCHED)
 }
 
-// The square by both rules, and the largest coordinate.
+// The square by each rule, and the largest coordinate.
 fn accepted(t: Tally) -> Tally {
     subject(b"measure");
     let t = measured(t, 4, 1, 8, 0, 6, 0, [10, 14, 10, 10, 14, 10, 7, 7, 7, 7]);
     let t = measured(t, 4, 2, 8, 0, 6, 0, [10, 15, 10, 10, 15, 10, 7, 7, 7, 7]);
+    let t = measured(t, 4, 3, 8, 0, 6, 0, [4, 5, 4, 4, 5, 4, 7, 7, 7, 7]);
+    let t = measured(t, 4, 4, 8, 0, 6, 0, [10, 20, 10, 10, 20, 10, 7, 7, 7, 7]);
+    let t = measured(t, 4, 5, 8, 0, 6, 0, [10, 10, 10, 10, 10, 10, 7, 7, 7, 7]);
     let t = measured(
         t,
         4,
@@ -100,7 +103,7 @@ fn each(t: Tally) -> Tally {
     let t = refused(t, 4, 1, 8, 0, 5, 2);
     let t = refused(t, 4, 1, 8, 0, 7, 2);
     let t = refused(t, 4, 0, 8, 0, 6, 3);
-    let t = refused(t, 4, 3, 8, 0, 6, 3);
+    let t = refused(t, 4, 6, 8, 0, 6, 3);
     refused(t, 4, 1, 8, 1_000_001, 6, 4)
 }
 

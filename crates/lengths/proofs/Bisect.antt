@@ -9,11 +9,11 @@ use native.Mathlib.Omega.{arith}
 use lib.Pow.{pow-pos}
 use Rattle.lengths.specs.Distance.{Growing, Least, bisect}
 
-pub bisect-passed : (test : ℕ → Bool) (k from : ℕ) → test (from + 2 ^ k - 1) ≡ true → bisect test (suc k) from ≡ bisect test k from
+bisect-passed : (test : ℕ → Bool) (k from : ℕ) → test (from + 2 ^ k - 1) ≡ true → bisect test (suc k) from ≡ bisect test k from
 unfolding bisect
 bisect-passed test k from h = rw (bisect, h)
 
-pub bisect-failed : (test : ℕ → Bool) (k from : ℕ) → test (from + 2 ^ k - 1) ≡ false → bisect test (suc k) from ≡ bisect test k (from + 2 ^ k)
+bisect-failed : (test : ℕ → Bool) (k from : ℕ) → test (from + 2 ^ k - 1) ≡ false → bisect test (suc k) from ≡ bisect test k (from + 2 ^ k)
 unfolding bisect
 bisect-failed test k from h = rw (bisect, h)
 
@@ -29,7 +29,7 @@ bisect-below test (suc k) from = halved (test (from + 2 ^ k - 1)) refl (bisect-b
     halved false h lower upper = rw (bisect-failed test k from h) (omega (arith, two-pow-succ k))
 
 -- what fails at d fails below it
-fails-below : {test : ℕ → Bool} → Growing test → (d e : ℕ) → test d ≡ false → test e ≡ true → d < e
+pub fails-below : {test : ℕ → Bool} → Growing test → (d e : ℕ) → test d ≡ false → test e ≡ true → d < e
 fails-below grows d e f t = elim (decLt d e) [
   | yes h ↦ h
   | no h ↦ absurd (true≢false (sym (grows e d (omega arith) t) ∙ f))

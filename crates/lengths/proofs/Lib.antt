@@ -10,4 +10,5 @@ pub mod Measuring
 pub mod Products
 pub mod RowFilling
 pub mod Searching
+pub mod Squares
 pub mod Tables

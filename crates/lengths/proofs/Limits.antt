@@ -4,7 +4,6 @@ use mathlib.Core.Path.{_≡_, refl}
 use mathlib.Core.Bool.{Bool, true, false, _&&_, and-true, and-false}
 use mathlib.Core.Logic.{_⊎_, inl, inr}
 use mathlib.Core.List.{List, [], _∷_}
-use native.Mathlib.Nat.{le-of-suc-le-suc}
 use native.Mathlib.Numerals.{add-one}
 use native.Mathlib.Omega.{arith}
 use lib.Dec.{leb}
@@ -44,6 +43,6 @@ limiting-start limit xs = record { inside = omega arith; same = refl }
 -- the test says that each number is within the limit
 pub limit-each : (limit : ℕ) (xs : List ℕ) → allAtMost limit xs ≡ true → AtMost limit xs
 unfolding allAtMost
-limit-each limit [] h i g = absurd (omega arith)
-limit-each limit (x ∷ xs) h zero g = leb-true x limit (and-left (leb x limit) (allAtMost limit xs) h)
-limit-each limit (x ∷ xs) h (suc i) g = limit-each limit xs (and-right (leb x limit) (allAtMost limit xs) h) i (le-of-suc-le-suc g)
+limit-each limit [] h i = omega arith
+limit-each limit (x ∷ xs) h zero = leb-true x limit (and-left (leb x limit) (allAtMost limit xs) h)
+limit-each limit (x ∷ xs) h (suc i) = limit-each limit xs (and-right (leb x limit) (allAtMost limit xs) h) i

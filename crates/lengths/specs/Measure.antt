@@ -6,7 +6,7 @@ use mathlib.Core.List.{List, map}
 use lib.Dec.{eqb}
 use lib.ListN.{length, getD}
 use Rattle.endian.specs.Bytes.{bytes32, whole32}
-use Rattle.lengths.specs.Distance.{distanceBy, ruleOf}
+use Rattle.lengths.specs.Distance.{gapDistance, ruleOf}
 use Rattle.lengths.specs.Edge.{Edge, edge, edges, edgeCount}
 use Rattle.lengths.specs.Instance.{inRange, mostCoordinate}
 use Rattle.lists.specs.Test.{allAtMost, unless}
@@ -27,13 +27,16 @@ yOf coordinates a = getD coordinates (2 * (a - 1) + 1) 0
 unfoldable pub gapOf : ℕ → ℕ → ℕ
 gapOf a b = (a - b) + (b - a)
 
--- S, the sum of the two squared coordinate differences
-unfoldable pub squares : List ℕ → ℕ → ℕ → ℕ
-squares cs a b = gapOf (xOf cs a) (xOf cs b) * gapOf (xOf cs a) (xOf cs b) + gapOf (yOf cs a) (yOf cs b) * gapOf (yOf cs a) (yOf cs b)
+-- the two coordinate differences of the points a and b
+unfoldable pub xGap : List ℕ → ℕ → ℕ → ℕ
+xGap cs a b = gapOf (xOf cs a) (xOf cs b)
+
+unfoldable pub yGap : List ℕ → ℕ → ℕ → ℕ
+yGap cs a b = gapOf (yOf cs a) (yOf cs b)
 
 -- the distance of an edge's points
 unfoldable pub edgeDistance : Rule → List ℕ → Edge → ℕ
-edgeDistance rule cs (edge a b) = distanceBy rule (squares cs a b)
+edgeDistance rule cs (edge a b) = gapDistance rule (xGap cs a b) (yGap cs a b)
 
 -- the table of n points: the distance of each edge, in 01's order
 unfoldable pub measuredTable : Rule → List ℕ → ℕ → List ℕ

@@ -1,8 +1,8 @@
 // The operation "measure": coordinates into a table of lengths, both little-endian bytes.
 use crate::distance::NamedRule;
+use crate::distance::Root;
 use crate::distance::Rule;
-use crate::distance::distance;
-use crate::distance::guess;
+use crate::distance::gap_distance;
 use crate::edge;
 use crate::instance::Admission;
 use crate::instance::Instance;
@@ -12,13 +12,9 @@ use endian::bytes::count32;
 use endian::bytes::number32;
 use endian::bytes::put32;
 ghost use mathlib.Core.Path.{_≡_};
-ghost use Prim.Native.Nat.{_≤_, _<_};
-ghost use lib.ListN.{length, getD};
 ghost use Rattle.endian.specs.Bytes.{bytes32, whole32};
-ghost use Rattle.lengths.specs.Distance.{distanceBy};
-ghost use Rattle.lengths.specs.Instance.{mostPoints};
-ghost use Rattle.lengths.specs.Measure.{gapOf, squares, measuredTable, MeasuredAs};
-ghost use Rattle.lengths.specs.asks.Measure.{Located, Fillable};
+ghost use Rattle.lengths.specs.Measure.{gapOf, measuredTable, MeasuredAs};
+ghost use Rattle.lengths.specs.asks.Measure.{Located, distanceTo, gapRule, Fillable, RowToMeasure, RowMeasured};
 
 // The answer of "measure": the table is filled, or the number of the refusal and its record, always 0.
 pub enum Measured {
@@ -26,48 +22,101 @@ pub enum Measured {
     Refused { refusal: u8, record: u16 },
 }
 
-// The difference of the coordinates at two places.
-fn gap(coordinates: &[u8], i: usize, j: usize) -> u64
-    requires { ⌜ (i < length (whole32 (now coordinates))) × (j < length (whole32 (now coordinates))) ⌝ }
-    ensures { λ r. ⌜ r ≡ gapOf (getD (whole32 (now (coordinates .entry))) i 0) (getD (whole32 (now (coordinates .entry))) j 0) ⌝ }
+// The difference of two coordinates.
+fn gap(a: u32, b: u32) -> u64
+    ensures { λ r. ⌜ r ≡ gapOf a b ⌝ }
 {
-    let a = number32(coordinates, i);
-    let b = number32(coordinates, j);
     if a < b {
         return (b - a) as u64;
     }
     (a - b) as u64
 }
 
-// The distance of the points a and b.
-fn between(rule: Rule, coordinates: &[u8], a: usize, b: usize) -> u32
-    requires { ⌜ Located (whole32 (now coordinates)) a b × ((a ≤ mostPoints) × (b ≤ mostPoints)) ⌝ }
-    ensures { λ r. ⌜ r ≡ distanceBy rule (squares (whole32 (now (coordinates .entry))) a b) ⌝ }
+// The distance from the point with the coordinates x and y to the point b.
+fn distance_to(rule: Rule, x: u32, y: u32, coordinates: &[u8], b: usize) -> u32
+    requires { ⌜ Located (whole32 (now coordinates)) x y b ⌝ }
+    ensures { λ r. ⌜ r ≡ distanceTo rule x y (whole32 (now (coordinates .entry))) b ⌝ }
 {
-    let i = 2 * (a - 1);
-    let j = 2 * (b - 1);
-    let dx = gap(coordinates, i, j);
-    let dy = gap(coordinates, i + 1, j + 1);
-    let s = dx * dx + dy * dy;
-    distance(rule, s, guess(s, dx, dy)) as u32
+    let i = 2 * (b - 1);
+    let dx = gap(x, number32(coordinates, i));
+    let dy = gap(y, number32(coordinates, i + 1));
+    gap_distance(rule, dx, dy) as u32
 }
 
-// Writes the distance of each edge to its place.
+// Writes the distances from a to the points above it, from the place `at` on, by a rule that rounds a root.
+fn root_row(n: usize, root: Root, coordinates: &[u8], table: &mut [u8], a: usize, at: usize)
+    requires { ⌜ RowToMeasure n (whole32 (now coordinates)) (now table) a at ⌝ }
+    ensures { λ _. ⌜ RowMeasured n (Rule.Rooted root) (whole32 (now (coordinates .entry))) a at (now (table .entry)) (now (table .exit)) ⌝ }
+{
+    let x = number32(coordinates, 2 * (a - 1));
+    let y = number32(coordinates, 2 * (a - 1) + 1);
+    let mut b = a;
+    let mut place = at;
+    while b < n {
+        b += 1;
+        put32(
+            table,
+            place,
+            distance_to(Rule::Rooted(root), x, y, coordinates, b),
+        );
+        place += 1;
+    }
+}
+
+// The rule that goes by the gaps themselves: the larger, or their sum.
+fn gap_rule(larger: bool) -> Rule
+    ensures { λ r. ⌜ r ≡ gapRule larger ⌝ }
+{
+    if larger {
+        return Rule::Max2d;
+    }
+    Rule::Man2d
+}
+
+// The same by a rule of the gaps: a loop of its own, which is short enough for the compiler to measure four edges at a time.
+fn gap_row(n: usize, larger: bool, coordinates: &[u8], table: &mut [u8], a: usize, at: usize)
+    requires { ⌜ RowToMeasure n (whole32 (now coordinates)) (now table) a at ⌝ }
+    ensures { λ _. ⌜ RowMeasured n (gapRule larger) (whole32 (now (coordinates .entry))) a at (now (table .entry)) (now (table .exit)) ⌝ }
+{
+    let x = number32(coordinates, 2 * (a - 1));
+    let y = number32(coordinates, 2 * (a - 1) + 1);
+    let mut b = a;
+    let mut place = at;
+    while b < n {
+        b += 1;
+        put32(
+            table,
+            place,
+            distance_to(gap_rule(larger), x, y, coordinates, b),
+        );
+        place += 1;
+    }
+}
+
+// The distances from a to the points above it, by any rule.
+fn measure_row(n: usize, rule: Rule, coordinates: &[u8], table: &mut [u8], a: usize, at: usize)
+    requires { ⌜ RowToMeasure n (whole32 (now coordinates)) (now table) a at ⌝ }
+    ensures { λ _. ⌜ RowMeasured n rule (whole32 (now (coordinates .entry))) a at (now (table .entry)) (now (table .exit)) ⌝ }
+{
+    match rule {
+        Rule::Rooted(root) => root_row(n, root, coordinates, table, a, at),
+        Rule::Man2d => gap_row(n, false, coordinates, table, a, at),
+        Rule::Max2d => gap_row(n, true, coordinates, table, a, at),
+    }
+}
+
+// Writes the distance of each edge to its place, row by row.
 fn fill(n: u16, rule: Rule, coordinates: &[u8], table: &mut [u8])
     requires { ⌜ Fillable n (whole32 (now coordinates)) (now table) ⌝ }
     ensures { λ r. ⌜ now (table .exit) ≡ bytes32 (measuredTable rule (whole32 (now (coordinates .entry))) n) ⌝ }
 {
-    let edges = edge::count(n);
     let points = n as usize;
     let mut a: usize = 1;
-    let mut b: usize = 2;
-    let mut at = 0;
-    while at < edges {
-        put32(table, at, between(rule, coordinates, a, b));
-        let next = edge::following(points, a, b);
-        a = next.low;
-        b = next.high;
-        at += 1;
+    let mut at: usize = 0;
+    while a < points {
+        measure_row(points, rule, coordinates, table, a, at);
+        at += points - a;
+        a += 1;
     }
 }
 

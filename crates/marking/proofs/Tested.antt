@@ -32,13 +32,6 @@ pub record InstancePassed (n : ℕ) (table marks : List ℕ) (m : ℕ) : Type 0 
 not-points : {k m : ℕ} → Refused k ≡ Points m → ⊥
 not-points e = let z : _≡_ {A = ℕ} 0 1 = cc in omega arith
 
--- what is past the end is 0
-within : (limit : ℕ) (xs : List ℕ) → allAtMost limit xs ≡ true → (i : ℕ) → getD xs i 0 ≤ limit
-within limit xs h i = elim (decLt i (length xs)) [
-  | yes g ↦ limit-each limit xs h i g
-  | no g ↦ omega (arith, List·getD-eq-default xs 0 {n = i} (omega arith))
-]
-
 -- test 1 says that n is within the limits
 pub range-admits : (n : ℕ) → inRange n ≡ true → Admits n (record { points = n })
 unfolding admission
@@ -63,8 +56,8 @@ passed {n} {table} {marks} {m} h =
       lengths = record {
         few = omega (arith, a .most);
         whole = rw e (eqb-true (length table) (edgeCount n) (p2 .0));
-        small = within mostLength table (p3 .0);
+        small = limit-each mostLength table (p3 .0);
       };
       marked = rw e (eqb-true (length marks) (edgeCount n) (p4 .0));
-      bytes = within 1 marks (p5 .0);
+      bytes = limit-each 1 marks (p5 .0);
     }

@@ -6,12 +6,14 @@ use mathlib.Core.Bool.{false≢true}
 use mathlib.Core.Logic.{_↔_, inl, inr, ⊎-elim}
 use mathlib.Core.List.{List, [], _∷_, List·Memᴰ, List·Memᴰ·not-nil, List·Memᴰ·cases-cons}
 use native.Mathlib.Omega.{arith}
-use Rattle.lengths.specs.Distance.{distanceBy, bisect, passes}
+use Rattle.lengths.specs.Distance.{squares, distanceBy, gapDistance, bisect, passes}
 use Rattle.lengths.specs.Edge.{Edge, edge, edgeCount, place, placeUp, tri, edges, rows, row}
-use Rattle.lengths.specs.Measure.{measuredTable, edgeDistance, squares, xOf, yOf, gapOf}
+use Rattle.lengths.specs.Measure.{measuredTable, edgeDistance, xOf, yOf, gapOf, xGap, yGap}
 use Rattle.lengths.specs.Table.{lengthOf}
-use Rattle.lengths.specs.declared.distance.Rule.the-variants.{Euc2d, Ceil2d}
-use Rattle.lengths.proofs.Distances.{distance-euc2d, euc2d-only, distance-ceil2d, ceil2d-only}
+use Rattle.lengths.specs.declared.distance.Root.the-variants.{Euc2d, Ceil2d, Att}
+use Rattle.lengths.specs.declared.distance.Rule.the-variants.{Man2d, Max2d}
+use Rattle.lengths.specs.Instance.{mostSquares}
+use Rattle.lengths.proofs.Distances.{distance-euc2d, euc2d-only, distance-ceil2d, ceil2d-only, distance-att, att-only, distance-man2d, man2d-only, distance-max2d, max2d-only}
 use Rattle.lengths.proofs.Tables.{length-symmetric}
 use Rattle.sets.specs.EdgeSet.{DegreeTwo}
 use Rattle.closings.specs.Closing.{ThreeOptMoves}
@@ -29,10 +31,15 @@ use Rattle.sets.proofs.Exact.{has-exact, ends-sound, shape-exact, single-shape}
 use Rattle.rules.proofs.PairTests.{compatible-iff, feasiblePairs-iff}
 use Rattle.starred.specs.Table.{Example, distances, incompatible, feasible, compares, saves, unsaved, starred, square, allOpen, eight, centres, Eight, Claim}
 
-distances-hold : (S d e : ℕ) → S ≤ 2000000000000 → distanceBy Euc2d S ≡ d → distanceBy Ceil2d S ≡ e → Claim (distances S d e)
-distances-hold S d e h one two = (
+distances-hold : (dx dy S euc2d ceil2d att man2d max2d : ℕ) → S ≤ mostSquares → squares dx dy ≡ S → distanceBy Euc2d S ≡ euc2d → distanceBy Ceil2d S ≡ ceil2d
+    → distanceBy Att S ≡ att → gapDistance Man2d dx dy ≡ man2d → gapDistance Max2d dx dy ≡ max2d → Claim (distances dx dy S euc2d ceil2d att man2d max2d)
+distances-hold dx dy S euc2d ceil2d att man2d max2d h sum one two three four five = (
+  sum,
   record { satisfied = rw one at (distance-euc2d S h); only = λ f r. euc2d-only S f h r ∙ one },
   record { satisfied = rw two at (distance-ceil2d S h); only = λ f r. ceil2d-only S f h r ∙ two },
+  record { satisfied = rw three at (distance-att S h); only = λ f r. att-only S f h r ∙ three },
+  record { satisfied = rw four at (distance-man2d dx dy); only = λ f r. man2d-only dx dy f r ∙ four },
+  record { satisfied = rw five at (distance-max2d dx dy); only = λ f r. max2d-only dx dy f r ∙ five },
 )
 
 incompatible-hold : (p q x y exchange both : ℕ) → exchange < both → max (square p x + square q y) (square p y + square q x) ≡ exchange
@@ -122,15 +129,16 @@ each (d ∷ es) (h & hs) e m = ⊎-elim (λ q. subst (λ (x : Example). Claim x)
 
 -- the square's numbers, the standing pairs and the 3-opt closing's answer are computed
 proved : Proved starred
-unfolding starred distanceBy bisect passes square allOpen eight centres lengthOf measuredTable edgeDistance squares xOf yOf gapOf
+unfolding starred distanceBy bisect passes square allOpen eight centres lengthOf measuredTable edgeDistance gapDistance squares xOf yOf xGap yGap gapOf
     edgeCount place placeUp tri edges rows row openIn feasiblePairs keep feasible? leg? unmoved? stays? every compatible? shape? shuts? reaches? goesOn
     neighboursOf seen withPoint within? either? beyond threeOptOutcome placed? has? joins? centresApart? endsOf bothOf settledBy labelling? saves?
 proved =
-    distances-hold 2 1 2 (omega arith) refl refl &
-    distances-hold 5 2 3 (omega arith) refl refl &
-    distances-hold 8 3 3 (omega arith) refl refl &
-    distances-hold 25 5 5 (omega arith) refl refl &
-    distances-hold 2000000000000 1414214 1414214 (omega arith) refl refl &
+    distances-hold 1 1 2 1 2 1 2 1 (omega arith) refl refl refl refl refl refl &
+    distances-hold 1 2 5 2 3 1 3 2 (omega arith) refl refl refl refl refl refl &
+    distances-hold 2 2 8 3 3 1 4 2 (omega arith) refl refl refl refl refl refl &
+    distances-hold 1 3 10 3 4 1 4 3 (omega arith) refl refl refl refl refl refl &
+    distances-hold 3 4 25 5 5 2 7 4 (omega arith) refl refl refl refl refl refl &
+    distances-hold 1000000 1000000 2000000000000 1414214 1414214 447214 2000000 1000000 (omega arith) refl refl refl refl refl refl &
     incompatible-hold 1 3 2 4 20 28 (omega arith) refl refl &
     compatible-iff square 1 2 3 4 .0 refl &
     feasible-hold 1 2 3 (edge 1 4 ∷ edge 2 4 ∷ []) (λ e. omega arith) refl &

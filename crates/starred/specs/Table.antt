@@ -6,19 +6,20 @@ use mathlib.Core.Bool.{Bool}
 use mathlib.Core.Logic.{_↔_}
 use mathlib.Core.List.{List, [], _∷_}
 use lib.ListN.{replicate}
-use Rattle.lengths.specs.Distance.{IsEuc2d, IsCeil2d}
+use Rattle.lengths.specs.Distance.{squares, IsEuc2d, IsCeil2d, IsAtt, IsMan2d, IsMax2d}
 use Rattle.lengths.specs.Edge.{Edge, edge, edgeCount}
 use Rattle.lengths.specs.Measure.{measuredTable}
 use Rattle.lengths.specs.Table.{lengthOf}
-use Rattle.lengths.specs.declared.distance.Rule.the-variants.{Euc2d}
+use Rattle.lengths.specs.declared.distance.Root.the-variants.{Euc2d}
+use Rattle.lengths.specs.declared.distance.Rule.the-variants.{Rooted}
 use Rattle.closings.specs.Closing.{Saves, ThreeOptMoves, Closes}
 use Rattle.marks.specs.Mark.{openIn}
 use Rattle.rules.specs.Pair.{Compatible, MoveSaves, FeasiblePair}
 use Rattle.sets.specs.Rising.{Among}
 
 pub data Example : Type 0 where
-  -- at the sum of squares S rule 1 gives d, and rule 2 gives e
-  distances : (S d e : ℕ) → Example
+  -- where the coordinates differ by dx and dy, the sum of squares is S, and rules 1 to 5 give these
+  distances : (dx dy S euc2d ceil2d att man2d max2d : ℕ) → Example
   -- square: pq and xy are incompatible, the larger exchange against the two edges
   incompatible : (p q x y exchange both : ℕ) → Example
   -- square: pq and xy are compatible
@@ -35,11 +36,12 @@ pub data Example : Type 0 where
 -- 01's stars in its order; the sums of test 5 belong to the standing pair before them
 unfoldable pub starred : List Example
 starred =
-    distances 2 1 2 ∷
-    distances 5 2 3 ∷
-    distances 8 3 3 ∷
-    distances 25 5 5 ∷
-    distances 2000000000000 1414214 1414214 ∷
+    distances 1 1 2 1 2 1 2 1 ∷
+    distances 1 2 5 2 3 1 3 2 ∷
+    distances 2 2 8 3 3 1 4 2 ∷
+    distances 1 3 10 3 4 1 4 3 ∷
+    distances 3 4 25 5 5 2 7 4 ∷
+    distances 1000000 1000000 2000000000000 1414214 1414214 447214 2000000 1000000 ∷
     incompatible 1 3 2 4 20 28 ∷
     compatible 1 2 3 4 ∷
     feasible 1 2 3 (edge 1 4 ∷ edge 2 4 ∷ []) ∷
@@ -50,13 +52,13 @@ starred =
     []
 
 -- the rule gives d: d satisfies it, and no other number does
-pub record Gives (rule : ℕ → ℕ → Type 0) (S d : ℕ) : Type 0 where
-  pub satisfied : rule S d
-  pub only : (e : ℕ) → rule S e → e ≡ d
+pub record Gives (rule : ℕ → Type 0) (d : ℕ) : Type 0 where
+  pub satisfied : rule d
+  pub only : (e : ℕ) → rule e → e ≡ d
 
 -- the square 1 (0,0), 2 (10,0), 3 (10,10), 4 (0,10), rule 1
 unfoldable pub square : ℕ → ℕ → ℕ
-square = lengthOf 4 (measuredTable Euc2d (0 ∷ 0 ∷ 10 ∷ 0 ∷ 10 ∷ 10 ∷ 0 ∷ 10 ∷ []) 4)
+square = lengthOf 4 (measuredTable (Rooted Euc2d) (0 ∷ 0 ∷ 10 ∷ 0 ∷ 10 ∷ 10 ∷ 0 ∷ 10 ∷ []) 4)
 
 -- its fresh marks
 unfoldable pub allOpen : ℕ → ℕ → Bool
@@ -108,7 +110,13 @@ pub record NoneSaves (l : ℕ → ℕ → ℕ) (p q r s x y z w : ℕ) : Type 0 
   pub swapped-both : Saves l p q r s y x w z → ⊥
 
 abbrev pub Claim : Example → Type 0
-Claim (distances S d e) = Gives IsEuc2d S d × Gives IsCeil2d S e
+Claim (distances dx dy S euc2d ceil2d att man2d max2d) =
+    (squares dx dy ≡ S)
+    × Gives (IsEuc2d S) euc2d
+    × Gives (IsCeil2d S) ceil2d
+    × Gives (IsAtt S) att
+    × Gives (IsMan2d dx dy) man2d
+    × Gives (IsMax2d dx dy) max2d
 Claim (incompatible p q x y exchange both) =
     (max (square p x + square q y) (square p y + square q x) ≡ exchange)
     × (square p q + square x y ≡ both)

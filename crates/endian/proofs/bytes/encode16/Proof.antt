@@ -3,7 +3,8 @@ use Prim.Native.Nat.{_-_}
 use mathlib.Core.Path.{refl}
 use native.Mathlib.Omega.{arith}
 use lib.ListN.{length}
-use Rattle.endian.proofs.Writing.{Encoding, encoding-start, encoding-on, all-encoded}
+use Rattle.endian.specs.asks.Bytes.{Encoding}
+use Rattle.endian.proofs.Writing.{encoding-start, encoding-on, all-encoded}
 use borrow.Author.Needs.{needs}
 use Rattle.endian.proofs.bytes.encode16.Statement.{statement}
 use Rattle.endian.proofs.bytes.encode16.Tie as tie

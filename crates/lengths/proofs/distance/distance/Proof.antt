@@ -8,26 +8,14 @@ use Rattle.lengths.proofs.distance.distance.Tie as tie
 is-close-requires : tie.Need-is-close-requires
 is-close-requires c κs = search needs
 
-sub-result : tie.Need-sub-result
-sub-result c = omega (arith, c .before .is-close .ensures (c .if1 .taken))
-
-sub-step : tie.Need-sub-step
-sub-step c = omega (arith, c .before .is-close .ensures (c .if1 .taken))
-
 step-requires : tie.Need-step-requires
 step-requires c κs = record { sum = c .before .before .pre; bits = omega (arith, c .before .is-close .ensures (c .if1 .taken)) }
 
 add-result : tie.Need-add-result
 add-result c = record { fits = omega (arith, c .before .before .is-close .ensures (c .before .if1 .taken), step-small _ (c .step .ensures)) }
 
-step-requires-2 : tie.Need-step-requires-2
-step-requires-2 c κs = record { sum = c .before .before .before .pre; bits = omega (arith, c .before .before .is-close .ensures (c .before .if1 .taken)) }
-
-add-result-2 : tie.Need-add-result-2
-add-result-2 c = record { fits = omega (arith, c .before .before .before .is-close .ensures (c .before .before .if1 .taken), step-small _ (c .before .step .ensures), step-small _ (c .step2 .ensures)) }
-
 returns : tie.Need-returns
-returns c = corrected (c .before .before .before .before .pre) (c .before .before .before .is-close .ensures (c .before .before .if1 .taken)) (c .before .step .ensures) (c .step2 .ensures)
+returns c = corrected (c .before .before .before .pre) (c .before .before .is-close .ensures (c .before .if1 .taken)) (c .step .ensures)
 
 by-halving-requires : tie.Need-by-halving-requires
 by-halving-requires c κs = search needs
@@ -38,14 +26,4 @@ returns-2 c = search needs
 pub distance-spec : {M : Type 1} → statement M
 distance-spec =
     tie.close
-    (tie.spec
-    is-close-requires
-    sub-result
-    sub-step
-    step-requires
-    add-result
-    step-requires-2
-    add-result-2
-    returns
-    by-halving-requires
-    returns-2)
+    (tie.spec is-close-requires step-requires add-result returns by-halving-requires returns-2)

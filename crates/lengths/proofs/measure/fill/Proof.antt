@@ -1,50 +1,45 @@
 -- `lengths::measure::fill` meets its contract: `Filling` holds at the loop's head. Assumes nothing.
-use native.Mathlib.Omega.{arith}
 use Prim.Native.Nat.{_-_}
+use native.Mathlib.Omega.{arith}
 use borrow.Author.Needs.{needs}
 use Rattle.endian.specs.Bytes.{whole32}
-use Rattle.lengths.proofs.Filling.{Filling, first-place, at-edge, entry, located, filling-on, all-filled}
+use Rattle.lengths.proofs.Edges.{edges-few}
+use Rattle.lengths.proofs.Filling.{Filling, first-row, row-fillable, row-fits, rows-more, all-filled}
 use Rattle.lengths.proofs.measure.fill.Statement.{statement}
 use Rattle.lengths.proofs.measure.fill.Tie as tie
 
 abbrev Inv-loop : tie.InvT-loop
-Inv-loop n rule coordinates table₀ edges points a₀ b₀ at₀ table a b at = Filling n rule (whole32 coordinates) table₀ table a b at
+Inv-loop n rule coordinates table₀ points a₀ at₀ table a at = Filling n rule (whole32 coordinates) table₀ table a at
 
 abbrev μ-loop : tie.MeasureT-loop
-μ-loop n rule coordinates table₀ edges points a₀ b₀ at₀ table a b at = edges - at
-
-count-requires : tie.Need-count-requires Inv-loop μ-loop
-count-requires c κs = search needs
+μ-loop n rule coordinates table₀ points a₀ at₀ table a at = points - a
 
 loop-holds : tie.Need-loop-holds Inv-loop μ-loop
-loop-holds c = first-place (c .before .before .before .pre)
+loop-holds c = first-row (c .before .before .pre)
 
-between-requires : tie.Need-between-requires Inv-loop μ-loop
-between-requires c κs =
-    let asked = c .before .before .before .before .before .before .pre in
-    let edge = at-edge (c .before .before .loop .inv) (omega (arith, c .before .before .before .count .ensures, c .before .loop-test .taken)) in
-    (located (c .before .before .loop .inv) (omega (arith, c .before .before .before .count .ensures, c .before .loop-test .taken)) asked, (omega (arith, asked .few, edge), omega (arith, asked .few, edge)))
+measure-row-requires : tie.Need-measure-row-requires Inv-loop μ-loop
+measure-row-requires c κs = row-fillable (c .before .before .loop .inv) (c .before .loop-test .taken)
 
-put32-requires : tie.Need-put32-requires Inv-loop μ-loop
-put32-requires c κs = entry (c .before .before .before .loop .inv) (omega (arith, c .before .before .before .before .count .ensures, c .before .before .loop-test .taken))
-
-following-requires : tie.Need-following-requires Inv-loop μ-loop
-following-requires c κs = (c .before .before .before .before .before .before .before .before .before .before .pre .few, at-edge (c .before .before .before .before .before .before .loop .inv) (omega (arith, c .before .before .before .before .before .before .before .count .ensures, c .before .before .before .before .before .loop-test .taken)))
+sub-at : tie.Need-sub-at Inv-loop μ-loop
+sub-at c = search needs
 
 add-at : tie.Need-add-at Inv-loop μ-loop
-add-at c = search needs
+add-at c = record { fits = omega (arith, row-fits (c .before .before .before .before .before .loop .inv) (c .before .before .before .before .loop-test .taken), edges-few _ (c .before .before .before .before .before .loop .inv .asked .few)) }
+
+add-a : tie.Need-add-a Inv-loop μ-loop
+add-a c = search needs
 
 loop-less : tie.Need-loop-less Inv-loop μ-loop
 loop-less c = search needs
 
 loop-again : tie.Need-loop-again Inv-loop μ-loop
-loop-again c = filling-on (c .before .before .before .before .before .before .before .loop .inv) (omega (arith, c .before .before .before .before .before .before .before .before .count .ensures, c .before .before .before .before .before .before .loop-test .taken)) (c .before .before .before .before .between .ensures) (c .before .before .before .put32 .ensures) (c .following .ensures)
+loop-again c = rows-more (c .before .before .before .before .before .loop .inv) (c .before .before .before .before .loop-test .taken) (c .before .before .measure-row .ensures)
 
 same-length : tie.Need-same-length Inv-loop μ-loop
 same-length c = search needs
 
 returns : tie.Need-returns Inv-loop μ-loop
-returns c = all-filled (c .before .loop .inv) (omega (arith, c .before .before .count .ensures, c .loop-test .left))
+returns c = all-filled (c .before .loop .inv) (c .loop-test .left)
 
 pub fill-spec : {M : Type 1} → statement M
 fill-spec =
@@ -52,12 +47,11 @@ fill-spec =
     (tie.spec
     Inv-loop
     μ-loop
-    count-requires
     loop-holds
-    between-requires
-    put32-requires
-    following-requires
+    measure-row-requires
+    sub-at
     add-at
+    add-a
     loop-less
     loop-again
     same-length

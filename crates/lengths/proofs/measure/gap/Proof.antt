@@ -1,16 +1,8 @@
 -- `lengths::measure::gap` meets its contract. Assumes nothing.
-use mathlib.Core.Path.{_∙_, ap₂}
-use Rattle.lengths.specs.Measure.{gapOf}
 use Rattle.lengths.proofs.Coordinates.{gap-up, gap-down}
 use borrow.Author.Needs.{needs}
 use Rattle.lengths.proofs.measure.gap.Statement.{statement}
 use Rattle.lengths.proofs.measure.gap.Tie as tie
-
-number32-requires : tie.Need-number32-requires
-number32-requires c κs = search needs
-
-number32-requires-2 : tie.Need-number32-requires-2
-number32-requires-2 c κs = search needs
 
 sub-result : tie.Need-sub-result
 sub-result c = search needs
@@ -19,22 +11,13 @@ cast-result : tie.Need-cast-result
 cast-result c = search needs
 
 returns : tie.Need-returns
-returns c = gap-up (c .if1 .taken) ∙ ap₂ gapOf (c .before .before .number32 .ensures) (c .before .number322 .ensures)
+returns c = gap-up (c .if1 .taken)
 
 cast-result-2 : tie.Need-cast-result-2
 cast-result-2 c = search needs
 
 returns-2 : tie.Need-returns-2
-returns-2 c = gap-down (c .if1 .left) ∙ ap₂ gapOf (c .before .before .number32 .ensures) (c .before .number322 .ensures)
+returns-2 c = gap-down (c .if1 .left)
 
 pub gap-spec : {M : Type 1} → statement M
-gap-spec =
-    tie.close
-    (tie.spec
-    number32-requires
-    number32-requires-2
-    sub-result
-    cast-result
-    returns
-    cast-result-2
-    returns-2)
+gap-spec = tie.close (tie.spec sub-result cast-result returns cast-result-2 returns-2)
