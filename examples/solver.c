@@ -49,6 +49,9 @@ static uint32_t length(unsigned a, unsigned b) { return get32(table + 4 * revost
 /* The operations, on the buffers of this program. */
 static uint64_t measure(uint32_t rule) { return revosti_measure(N, rule, coordinates, sizeof coordinates, table, sizeof table); }
 
+/* The length of 4-2, measured by a rule. */
+static uint32_t diagonal(uint32_t rule) { return measure(rule) == REVOSTI_ACCEPTED ? length(4, 2) : UINT32_MAX; }
+
 static uint64_t mark_sheet(size_t size) { return revosti_mark_sheet(N, table, sizeof table, marks, sizeof marks, sheet, size); }
 
 static uint64_t list_pairs(unsigned a, unsigned b, unsigned c, size_t size)
@@ -140,9 +143,13 @@ static void refusals(size_t lines)
 
 int main(void)
 {
-    /* The square 1 (0,0), 2 (10,0), 3 (10,10), 4 (0,10) by EUC_2D: sides 10, diagonals 14. */
+    /* The square 1 (0,0), 2 (10,0), 3 (10,10), 4 (0,10). All that follows the first four lengths is by EUC_2D: sides 10, diagonals 14. */
     static const uint32_t square[2 * N] = {0, 0, 10, 0, 10, 10, 0, 10};
     for (size_t i = 0; i < 2 * N; i++) put32(coordinates + 4 * i, square[i]);
+    expect("length of 4-2 by CEIL_2D", diagonal(REVOSTI_CEIL_2D), 15);
+    expect("length of 4-2 by ATT", diagonal(REVOSTI_ATT), 5);
+    expect("length of 4-2 by MAN_2D", diagonal(REVOSTI_MAN_2D), 20);
+    expect("length of 4-2 by MAX_2D", diagonal(REVOSTI_MAX_2D), 10);
     expect("measuring", measure(REVOSTI_EUC_2D), REVOSTI_ACCEPTED);
     expect("length of 1-2", length(1, 2), 10);
     expect("length of 4-2", length(4, 2), 14);

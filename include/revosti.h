@@ -43,6 +43,9 @@ enum {
 
     REVOSTI_EUC_2D = 1,   /* rule 1: the nearest whole number */
     REVOSTI_CEIL_2D = 2,  /* rule 2: the next whole number above, or the same */
+    REVOSTI_ATT = 3,      /* rule 3: the least d with 10 * d * d >= the sum of the two squared differences */
+    REVOSTI_MAN_2D = 4,   /* rule 4: the sum of the two coordinate differences */
+    REVOSTI_MAX_2D = 5,   /* rule 5: the larger of the two */
 
     REVOSTI_STRUCK = 0,
     REVOSTI_OPEN = 1,
@@ -57,7 +60,7 @@ enum {
     REVOSTI_ACCEPTED = 0,
     REVOSTI_POINTS = 1,          /* n outside 4 to 180 */
     REVOSTI_SIZE = 2,            /* the coordinates have not 2n whole entries, or the table not n(n - 1)/2 */
-    REVOSTI_RULE = 3,            /* the rule is neither 1 nor 2 */
+    REVOSTI_RULE = 3,            /* the rule is outside 1 to 5 */
     REVOSTI_COORDINATE = 4,      /* a coordinate above 1,000,000 */
     REVOSTI_LENGTH = 5,          /* a table entry above 2,000,000 */
     REVOSTI_MARKS = 6,           /* wrong number of marks, or a byte above 1 */
