@@ -10,7 +10,7 @@ from support import LINES, N, POINTS, ROOT, TABLE
 
 import revosti
 from sheetlib.answer import Answer
-from sheetlib.board import Board
+from sheetlib.board import Board, length_of
 from sheetlib.explain import explain
 from sheetlib.parts import Parts, Record, split
 from sheetlib.read import pack
@@ -36,20 +36,30 @@ class Measure(Operations):
             self.assertEqual(revosti.measure(N, 1, coordinates), TABLE)
 
     def test_rules(self):
-        points = [(0, 0), (1, 1), (1, 2), (2, 2)]
-        self.assertEqual(revosti.measure(N, 1, points), [1, 2, 3, 1, 1, 1])
-        self.assertEqual(revosti.measure(N, 2, points), [2, 3, 3, 1, 2, 1])
+        points = [(0, 0), (1, 1), (1, 3), (5, 0)]
+        for rule, table in ((1, [1, 3, 5, 2, 4, 5]), (2, [2, 4, 5, 2, 5, 5]), (3, [1, 1, 2, 1, 2, 2]), (4, [2, 4, 5, 2, 5, 7]),
+                            (5, [1, 3, 5, 2, 4, 4])):
+            self.assertEqual(revosti.measure(N, rule, points), table, rule)
+
+    def test_rules_against_a_plain_reading(self):
+        r, n = random.Random(5), 20
+        for most in (4, 40, 10**6):
+            points = [(r.randint(0, most), r.randint(0, most)) for _ in range(n)]
+            for rule in range(1, 6):
+                self.assertEqual(revosti.measure(n, rule, points), [length_of(rule, p, q) for p, q in combinations(points, 2)], rule)
 
     def test_largest(self):
         corners = [(0, 0), (10**6, 10**6)] * 90
-        table = revosti.measure(180, 1, corners)
-        self.assertEqual((len(table), set(table)), (16110, {0, 1414214}))
+        for rule, longest in ((1, 1414214), (2, 1414214), (3, 447214), (4, 2000000), (5, 1000000)):
+            table = revosti.measure(180, rule, corners)
+            self.assertEqual((len(table), set(table)), (16110, {0, longest}))
 
     def test_refusals(self):
         far = [*POINTS[:3], (0, 10**6 + 1)]
         for number, arguments in ((1, (3, 1, POINTS[:3])), (1, (181, 9, [])), (1, (2**32 - 1, 1, POINTS)), (1, (0, 1, [])),
                                   (2, (N, 9, POINTS[:3])), (2, (N, 1, [0] * 7)), (2, (N, 1, [0] * 9)), (2, (5, 1, POINTS)),
-                                  (3, (N, 0, far)), (3, (N, 2**32 - 1, POINTS)), (4, (N, 1, far)), (4, (N, 1, [2**32 - 1] * 8))):
+                                  (3, (N, 0, far)), (3, (N, 6, POINTS)), (3, (N, 2**32 - 1, POINTS)), (4, (N, 1, far)),
+                                  (4, (N, 5, far)), (4, (N, 4, [2**32 - 1] * 8))):
             with self.subTest(arguments):
                 self.refused(number, revosti.measure, *arguments)
 
@@ -193,7 +203,7 @@ class Refusals(Operations):
     def test_words(self):
         for number, words, call in (
                 (1, "n is outside 4 to 180.", lambda: revosti.fresh_marks(3)),
-                (3, "The rule is neither 1 nor 2.", lambda: revosti.measure(N, 9, POINTS)),
+                (3, "The rule is outside 1 to 5.", lambda: revosti.measure(N, 9, POINTS)),
                 (12, "The edge is struck already.", lambda: revosti.list_pairs(N, TABLE, bytes(6), 1, 2, 3))):
             found = self.refused(number, call)
             self.assertEqual((found.words, str(found)), (words, f"Refused, number {number}: {words}"))

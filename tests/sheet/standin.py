@@ -25,7 +25,7 @@ def measure(data):
         raise Refused(1, 0)
     if parts.cut or len(data) > 65_448:
         raise Refused(7, 0)
-    if parts.rule not in (1, 2):
+    if not 1 <= parts.rule <= 5:
         raise Refused(3, 0)
     if any(max(p) > 1_000_000 for p in parts.points):
         raise Refused(4, 0)

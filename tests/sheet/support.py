@@ -19,7 +19,7 @@ STANDIN = shlex.join([sys.executable, str(HERE / "standin.py")])
 
 SQUARE_POINTS = [(0, 0), (10, 0), (10, 10), (0, 10)]
 SQUARE_RECORDS = [(1, 1, 3, 0, 0, 2, 0, 2), (1, 2, 4, 0, 0, 1, 0, 0)]
-SQUARE_HEAD = "rule 1\npoints 4\n  1  0 0\n  2  10 0\n  3  10 10\n  4  0 10\n"
+SQUARE_HEAD = "rule 1  # EUC_2D\npoints 4\n  1  0 0\n  2  10 0\n  3  10 10\n  4  0 10\n"
 
 
 def binary(records=(), points=SQUARE_POINTS, rule=1, n=None, tail=b""):

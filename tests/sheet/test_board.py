@@ -20,20 +20,31 @@ def tours_hold(k, n):
     return False
 
 
+def lengths(p, q):
+    """The lengths between two points under rules 1 to 5."""
+    return tuple(length_of(rule, p, q) for rule in range(1, 6))
+
+
 class Lengths(unittest.TestCase):
     def test_examples(self):
-        table = {(1, 1): (1, 2), (1, 2): (2, 3), (2, 2): (3, 3), (3, 4): (5, 5),
-                 (10**6, 10**6): (1414214, 1414214), (0, 0): (0, 0)}
-        for corner, lengths in table.items():
-            self.assertEqual((length_of(1, (0, 0), corner), length_of(2, corner, (0, 0))), lengths)
+        table = {(1, 1): (1, 2, 1, 2, 1), (1, 2): (2, 3, 1, 3, 2), (2, 2): (3, 3, 1, 4, 2), (3, 4): (5, 5, 2, 7, 4),
+                 (10**6, 10**6): (1414214, 1414214, 447214, 2000000, 1000000), (0, 0): (0,) * 5}
+        for corner, wanted in table.items():
+            self.assertEqual((lengths((0, 0), corner), lengths(corner, (0, 0))), (wanted, wanted))
+
+    def test_att_at_its_bound(self):
+        for differences, wanted in (((1, 3), 1), ((2, 3), 2), ((2, 6), 2), ((4, 5), 3)):  # S is 10, 13, 40, 41
+            self.assertEqual(length_of(3, (0, 0), differences), wanted)
 
     def test_definition(self):
         r = random.Random(1)
         for _ in range(2000):
             x, y = r.randrange(10**r.randrange(1, 7)), r.randrange(10**r.randrange(1, 7))
-            s, d, e = x * x + y * y, length_of(1, (x, 0), (0, y)), length_of(2, (x, 0), (0, y))
-            self.assertTrue(s == d == 0 or (2 * d - 1) ** 2 <= 4 * s < (2 * d + 1) ** 2)
-            self.assertTrue(e * e >= s and (e == 0 or (e - 1) ** 2 < s))
+            s, (euc, ceil, att, man, most) = x * x + y * y, lengths((x, 0), (0, y))
+            self.assertTrue(s == euc == 0 or (2 * euc - 1) ** 2 <= 4 * s < (2 * euc + 1) ** 2)
+            self.assertTrue(ceil**2 >= s and (ceil == 0 or (ceil - 1) ** 2 < s))
+            self.assertTrue(10 * att**2 >= s and (att == 0 or 10 * (att - 1) ** 2 < s))
+            self.assertEqual((man, most), (x + y, x if x > y else y))
 
 
 class Standing(unittest.TestCase):

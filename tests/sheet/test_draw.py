@@ -34,12 +34,12 @@ class Picture:
         return [(int(c.get("cx")), int(c.get("cy"))) for c in self.groups["holes"]]
 
 
-def picture(points, struck=(), tour=()):
+def picture(points, struck=(), tour=(), rule=1):
     """The picture of a board with some edges struck."""
     n = len(points)
     edges = n * (n - 1) // 2
     answer = Answer(n, edges, list(struck), 0, 0, edges - len(struck))
-    return Picture(draw(split(binary([], points)), answer, list(tour)))
+    return Picture(draw(split(binary([], points, rule)), answer, list(tour)))
 
 
 class Draw(unittest.TestCase):
@@ -51,6 +51,11 @@ class Draw(unittest.TestCase):
         self.assertEqual(p.texts("labels"), ["1", "2", "3", "4"])
         self.assertEqual(p.texts("legend"), ["4 holes (EUC_2D)", "open: 5 edges", "struck: 1 edge",
                                              "tour: length 48", "struck, in the tour: 1"])
+
+    def test_rules(self):
+        for rule, name, length in ((2, "CEIL_2D", 50), (3, "ATT", 18), (4, "MAN_2D", 60), (5, "MAX_2D", 40)):
+            rows = picture(SQUARE_POINTS, tour=[1, 2, 4, 3], rule=rule).texts("legend")
+            self.assertEqual((rows[0], rows[3]), (f"4 holes ({name})", f"tour: length {length}"))
 
     def test_second_coordinate_grows_upward(self):
         first, second, third, fourth = picture(SQUARE_POINTS).spots()

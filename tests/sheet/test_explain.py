@@ -13,7 +13,7 @@ from sheetlib.read import pack
 import standin
 
 # The key words of 01 for each number.
-KEYS = {1: "4 to 180", 2: "not 2n numbers", 3: "neither 1 nor 2", 4: "above 1,000,000",
+KEYS = {1: "4 to 180", 2: "not 2n numbers", 3: "outside 1 to 5", 4: "above 1,000,000",
         5: "above 2,000,000", 6: "a byte is above 1", 7: "1 to 4,000 whole records",
         8: "above the record count", 9: "highest record entered", 10: "wrong kind",
         11: "outside 1 to n, or a = b", 12: "struck already", 13: "seventh split",
@@ -86,7 +86,8 @@ class Details(unittest.TestCase):
         many = [(1, 1, 2, 0, 0, 3, 0, 0)]
         for refusal, words, file in (
                 (1, "Here n is 3.", {"points": [(0, 0)] * 3}),
-                (3, "Here the rule is 9.", {"rule": 9}),
+                (3, "Here the rule is 0.", {"rule": 0}),
+                (3, "Here the rule is 6.", {"rule": 6}),
                 (4, "Point 2 is at 5 1000001.", {"points": [(0, 10**6), (5, 10**6 + 1)] * 2}),
                 (7, "The file ends after 4 of 7 points and 2 bytes.", {"n": 7, "tail": b"ab"}),
                 (7, "3 bytes follow the last whole record", {"tail": b"abc"}),
@@ -104,6 +105,10 @@ class Details(unittest.TestCase):
                 sentences = good.split("\n\n")[1].splitlines()
                 wanted = 4 if refusal == 9 else 3
                 self.assertEqual(len(sentences), wanted, good)
+
+    def test_rules_that_are_known_are_no_fault(self):
+        for rule in range(1, 6):
+            self.assertNotIn("Here the rule", told(SQUARE_RECORDS, 3, 0, rule=rule))
 
     def test_indexes(self):
         for refusal, fields, words in ((8, (7, 0), "Its first index is 7; the sheet has 1 records."),
@@ -192,6 +197,20 @@ class Command(unittest.TestCase):
             self.assertIn(words, run.text)
             self.assertIn(">     1  strike", run.text)
         self.assertIn("Edge 1-3 is struck", run.text)
+
+    def test_rules(self):
+        accepted, refused = "Verdict 0", "Refused, number 14"  # by MAX_2D sides and diagonals are as long, and pairs stand
+        for rule, name, words in ((1, "EUC_2D", accepted), (2, "CEIL_2D", accepted), (3, "ATT", accepted),
+                                  (4, "MAN_2D", accepted), (5, "MAX_2D", refused)):
+            run = Run("explain", data=binary(SQUARE_RECORDS, rule=rule), mark=STANDIN)
+            self.assertIn(f"The board has 4 points and 6 edges (rule {rule}, {name}).", run.text)
+            self.assertIn(words, run.text)
+
+    def test_no_rule(self):
+        for rule in (0, 6):
+            run = Run("explain", data=binary(SQUARE_RECORDS, rule=rule), mark=STANDIN)
+            self.assertEqual(run.text, f"Refused, number 3: The rule is outside 1 to 5.\nHere the rule is {rule}.\n"
+                                       "Nothing is marked.\n\nNo record is at fault.\n")
 
     def test_text_names_its_own_line(self):
         text = SQUARE_HEAD + "\n# wrong\nstrike 1-2, split at 3\n"

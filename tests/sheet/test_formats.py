@@ -1,4 +1,4 @@
-"""The examples in docs/FORMATS.md are true."""
+"""The examples in docs/FORMATS.md and the distances in docs/RULES.md are true."""
 
 import re
 import unittest
@@ -8,15 +8,22 @@ from support import TOOLS
 import standin
 from sheetlib.explain import explain
 from sheetlib.answer import understand
+from sheetlib.board import RULES, length_of
 from sheetlib.parts import join
 from sheetlib.read import pack
 
 PAGE = (TOOLS.parent / "docs" / "FORMATS.md").read_text(encoding="utf-8")
+DISTANCES = (TOOLS.parent / "docs" / "RULES.md").read_text(encoding="utf-8").partition("The distance d")[2]
 
 
 def block(start):
     """The fenced block that begins with some text."""
     return next(b for b in re.findall(r"^```\w*\n(.*?)^```$", PAGE, re.S | re.M) if b.startswith(start))
+
+
+def numbers(*texts):
+    """The numbers in some texts."""
+    return [int(digits.replace(",", "")) for digits in re.findall(r"[\d,]+", " ".join(texts))]
 
 
 class Formats(unittest.TestCase):
@@ -35,6 +42,24 @@ class Formats(unittest.TestCase):
         sheet = pack(re.sub(r"\n.*crossing.*", "", self.text))
         answer = understand(standin.answer(join(sheet.parts)))
         self.assertIn(block("Refused"), explain(sheet.parts, answer, sheet.lines))
+
+
+class Distances(unittest.TestCase):
+    """The table of distances: the differences above, then S, then a row for each rule."""
+
+    def setUp(self):
+        lines = re.match(r".*?\n\n((?:\|.*\n)+)", DISTANCES)[1].splitlines()
+        head, _, *rows = [[cell.strip() for cell in line.split("|")[1:-1]] for line in lines]
+        self.differences = [(numbers(cell) * 2)[:2] for cell in head[3:]]  # one number stands for both
+        self.squares, *self.rules = rows
+
+    def test_squares(self):
+        self.assertEqual(numbers(*self.squares[3:]), [g * g + h * h for g, h in self.differences])
+
+    def test_rules(self):
+        self.assertEqual({int(row[0]): row[1] for row in self.rules}, RULES)
+        for rule, row in enumerate(self.rules, 1):
+            self.assertEqual(numbers(*row[3:]), [length_of(rule, (0, 0), d) for d in self.differences], row)
 
 
 if __name__ == "__main__":

@@ -38,7 +38,7 @@ def random_file(r):
     points = [(r.randrange(2**32), r.randrange(1000)) for _ in range(n)]
     records = [random_record(r, k, count) for k in range(1, count + 1)]
     stated = r.choice([None, None, None, n + 3, r.randrange(2**32)])
-    data = binary(records, points, r.choice([1, 2, r.randrange(2**32)]), stated,
+    data = binary(records, points, r.choice([r.randrange(7), r.randrange(2**32)]), stated,
                   r.randbytes(r.choice([0, 0, r.randrange(16)])))
     return data[:r.randrange(len(data) + 1)] if r.random() < 0.15 else data
 

@@ -80,11 +80,17 @@ class Unpack(unittest.TestCase):
     def test_short_files(self):
         self.assertEqual(unpack(split(b"")), "bytes\n")
         self.assertEqual(unpack(split(b"\x0a\xff")), "bytes 0a ff\n")
-        self.assertEqual(unpack(split(binary([], [], n=0))), "rule 1\npoints 0\n")
+        self.assertEqual(unpack(split(binary([], [], n=0))), "rule 1  # EUC_2D\npoints 0\n")
+
+    def test_rules(self):
+        for rule, line in ((0, "rule 0"), (2, "rule 2  # CEIL_2D"), (3, "rule 3  # ATT"), (4, "rule 4  # MAN_2D"),
+                           (5, "rule 5  # MAX_2D"), (6, "rule 6"), (2**32 - 1, "rule 4294967295")):
+            for numbers in (False, True):
+                self.assertEqual(unpack(split(binary([], [], rule)), numbers), line + "\npoints 0\n")
 
     def test_cut(self):
         self.assertEqual(unpack(split(binary([], SQUARE_POINTS[:2], n=5, tail=b"\1\2"))),
-                         "rule 1\npoints 5, cut\n  1  0 0\n  2  10 0\n  bytes 01 02\n")
+                         "rule 1  # EUC_2D\npoints 5, cut\n  1  0 0\n  2  10 0\n  bytes 01 02\n")
 
     def test_tail(self):
         self.assertEqual(unpack(split(binary([LINE], tail=b"\0" * 15))),
@@ -108,6 +114,11 @@ class Pack(unittest.TestCase):
                 "     3 10 10\r\n4 0   10 # last\r\n   # cases\r\n"
                 "strike 1 - 3 ,split at 2\r\n\r\nstrike 2-4,split   at 1\r\n")
         self.assertEqual(join(pack(text).parts), binary(SQUARE_RECORDS))
+
+    def test_rules_by_number_and_by_name(self):
+        for rule, name in enumerate(("EUC_2D", "CEIL_2D", "ATT", "MAN_2D", "MAX_2D"), 1):
+            for words in (rule, name, f"{rule}  # another", f" {name}# {rule}"):
+                self.assertEqual(join(pack(f"rule {words}\npoints 0").parts), binary([], [], rule))
 
     def test_nesting_gives_the_numbers(self):
         self.assertEqual(records_of("strike 1-2, split at 5\n"

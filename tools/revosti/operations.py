@@ -23,7 +23,7 @@ class Tour(NamedTuple):
 
 
 def measure(n, rule, coordinates):
-    """The table of a board by rule 1 (EUC_2D) or 2 (CEIL_2D). Coordinates are pairs, or 2n numbers."""
+    """The table of a board by rule 1 (EUC_2D), 2 (CEIL_2D), 3 (ATT), 4 (MAN_2D) or 5 (MAX_2D). Coordinates are pairs, or 2n numbers."""
     table = array(WORD, [0]) * edges(n)
     refuse(library().revosti_measure(fit(WORD, n), fit(WORD, rule), *lend(array(WORD, flat(coordinates))), *lend(table)))
     return table.tolist()

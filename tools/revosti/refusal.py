@@ -3,7 +3,7 @@
 REFUSALS = {
     1: "n is outside 4 to 180.",
     2: "The coordinates are not 2n numbers, or the table has not n(n − 1)/2 places.",
-    3: "The rule is neither 1 nor 2.",
+    3: "The rule is outside 1 to 5.",
     4: "A coordinate is above 1,000,000.",
     5: "A table entry is above 2,000,000.",
     6: "The marks have not n(n − 1)/2 bytes, or a byte is above 1.",

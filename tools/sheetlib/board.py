@@ -3,7 +3,7 @@
 from itertools import combinations
 from math import isqrt
 
-RULES = {1: "EUC_2D", 2: "CEIL_2D"}
+RULES = {1: "EUC_2D", 2: "CEIL_2D", 3: "ATT", 4: "MAN_2D", 5: "MAX_2D"}  # TSPLIB's names
 
 
 def edge(a, b):
@@ -12,10 +12,24 @@ def edge(a, b):
 
 
 def length_of(rule, p, q):
-    """The length between two coordinate pairs under rule 1 or 2."""
-    s = (p[0] - q[0]) ** 2 + (p[1] - q[1]) ** 2
-    if rule == 1:
-        return (isqrt(4 * s) + 1) // 2
+    """The length between two coordinate pairs under a rule from 1 to 5."""
+    g, h = abs(p[0] - q[0]), abs(p[1] - q[1])
+    s = g * g + h * h
+    match RULES[rule]:
+        case "EUC_2D":
+            return (isqrt(4 * s) + 1) // 2
+        case "CEIL_2D":
+            return root_above(s)
+        case "ATT":
+            return root_above((s + 9) // 10)  # 10d² ≥ S where d² ≥ S/10 rounded up
+        case "MAN_2D":
+            return g + h
+        case "MAX_2D":
+            return max(g, h)
+
+
+def root_above(s):
+    """The least d with d² ≥ s."""
     root = isqrt(s)
     return root if root * root == s else root + 1
 

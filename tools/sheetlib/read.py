@@ -2,8 +2,11 @@
 
 from typing import NamedTuple
 
+from .board import RULES
 from .parts import CROSSING, LINE, MAX_16, MAX_32, POINT, SPLIT, Parts, Record
 from .scan import scan
+
+NUMBERS = {name: rule for rule, name in RULES.items()}  # of the rules, by name
 
 
 class Sheet(NamedTuple):
@@ -43,10 +46,12 @@ def close(lines, wanted):
 
 
 def read_rule(lines):
-    """The line `rule R`. A text of bytes alone is read before it comes to this."""
+    """The line `rule R`, by number or by name. A text of bytes alone is read
+    before it comes to this."""
     line = lines[0]
     line.word("rule", "bytes")
-    rule = line.integer("a rule", MAX_32)
+    named = line.peek() in NUMBERS
+    rule = NUMBERS[line.word(*NUMBERS)] if named else line.integer("a rule", MAX_32)
     line.end()
     lines.popleft()
     return rule

@@ -3,7 +3,7 @@
 import re
 from collections import deque
 
-TOKEN = re.compile(r"#.*|([0-9A-Za-z]+|\S)", re.DOTALL)  # group 1 is empty for a comment
+TOKEN = re.compile(r"#.*|([0-9A-Za-z_]+|\S)", re.DOTALL)  # group 1 is empty for a comment
 
 
 class BadText(Exception):

@@ -2,6 +2,7 @@
 
 from typing import NamedTuple
 
+from .board import RULES
 from .nest import links, nest
 from .parts import CROSSING, LINE
 
@@ -33,10 +34,15 @@ def rows_of(parts):
     """All rows of the text form."""
     if parts.rule is None:
         return bytes_rows(parts.tail, "") or [Row("bytes", 0)]
-    head = [Row(f"rule {parts.rule}", 0), Row(points_line(parts), 0)]
+    head = [Row(rule_line(parts.rule), 0), Row(points_line(parts), 0)]
     points = [Row(f"{STEP}{i}  {x} {y}", 0) for i, (x, y) in enumerate(parts.points, 1)]
     indent = STEP if parts.cut else ""
     return head + points + record_rows(parts.records) + bytes_rows(parts.tail, indent)
+
+
+def rule_line(rule):
+    """The line of the rule; the name of one from 1 to 5 is a comment."""
+    return f"rule {rule}" + (f"  # {RULES[rule]}" if rule in RULES else "")
 
 
 def points_line(parts):
