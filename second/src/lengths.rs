@@ -1,4 +1,4 @@
-//! Edge places, the two distances, *measure* and table look-up (01, Points, lengths, marks).
+//! Edge places, the five distances, *measure* and table look-up (01, Points, lengths, marks; 02, Paper 2).
 
 use crate::instance::Instance;
 use crate::refusal::Refusal;
@@ -73,40 +73,61 @@ impl<'a> Lengths<'a> {
     }
 }
 
-/// The two rules for a length from S, the sum of the squared coordinate differences.
+/// The five rules for a length from the two coordinate differences.
 #[derive(Clone, Copy, Debug, PartialEq, Eq)]
 pub enum Rule {
     Euc2d,
     Ceil2d,
+    Att,
+    Man2d,
+    Max2d,
 }
 
 impl Rule {
-    /// Test 3: rule 1 or 2.
+    /// Test 3: rule 1 to 5.
     pub fn read(number: u32) -> Result<Rule, Refusal> {
         match number {
             1 => Ok(Rule::Euc2d),
             2 => Ok(Rule::Ceil2d),
+            3 => Ok(Rule::Att),
+            4 => Ok(Rule::Man2d),
+            5 => Ok(Rule::Max2d),
             _ => Err(Refusal::Rule),
         }
     }
-
-    /// With r² ≤ S < (r + 1)²: rule 1 gives r where 4S < (2r + 1)², that is S ≤ r² + r;
-    /// rule 2 gives r where r² ≥ S; otherwise both give r + 1.
-    pub fn length(self, s: u64) -> u32 {
-        let root = s.isqrt();
-        let most = match self {
-            Rule::Euc2d => root * root + root,
-            Rule::Ceil2d => root * root,
-        };
-        (if s <= most { root } else { root + 1 }) as u32
-    }
 }
 
-/// S of the points i and j, numbered from 0.
-fn squares(coordinates: &[u32], i: usize, j: usize) -> u64 {
-    let dx = u64::from(coordinates[2 * i].abs_diff(coordinates[2 * j]));
-    let dy = u64::from(coordinates[2 * i + 1].abs_diff(coordinates[2 * j + 1]));
+/// S, the sum of the two squared differences.
+fn squares(dx: u32, dy: u32) -> u64 {
+    let (dx, dy) = (u64::from(dx), u64::from(dy));
     dx * dx + dy * dy
+}
+
+/// With r² ≤ S < (r + 1)²: r where 4S < (2r + 1)², that is S ≤ r² + r, otherwise r + 1.
+pub fn euc_2d(s: u64) -> u32 {
+    let root = s.isqrt();
+    (if s <= root * root + root { root } else { root + 1 }) as u32
+}
+
+/// "The least d with d² ≥ S". With r² ≤ S < (r + 1)²: r where r² ≥ S, otherwise r + 1.
+pub fn ceil_2d(s: u64) -> u32 {
+    let root = s.isqrt();
+    (if s <= root * root { root } else { root + 1 }) as u32
+}
+
+/// "The least d with 10d² ≥ S", that is d² ≥ S/10 rounded up.
+pub fn att(s: u64) -> u32 {
+    ceil_2d(s.div_ceil(10))
+}
+
+/// The "sum of the two differences".
+pub fn man_2d(dx: u32, dy: u32) -> u32 {
+    dx + dy
+}
+
+/// "The larger" of the two differences.
+pub fn max_2d(dx: u32, dy: u32) -> u32 {
+    dx.max(dy)
 }
 
 /// *Measure*: 1, 2, 3, 4; on a refusal the table keeps its numbers.
@@ -119,16 +140,23 @@ pub fn measure(n: u32, rule: u32, coordinates: &[u32], table: &mut [u32]) -> Res
     if coordinates.iter().any(|&c| c > Instance::MOST_COORDINATE) {
         return Err(Refusal::Coordinate);
     }
-    fill(usize::from(n), rule, coordinates, table);
+    match rule {
+        Rule::Euc2d => fill(coordinates, table, |dx, dy| euc_2d(squares(dx, dy))),
+        Rule::Ceil2d => fill(coordinates, table, |dx, dy| ceil_2d(squares(dx, dy))),
+        Rule::Att => fill(coordinates, table, |dx, dy| att(squares(dx, dy))),
+        Rule::Man2d => fill(coordinates, table, man_2d),
+        Rule::Max2d => fill(coordinates, table, max_2d),
+    }
     Ok(())
 }
 
-/// Writes the lengths in the order of edges.
-fn fill(n: usize, rule: Rule, coordinates: &[u32], table: &mut [u32]) {
+/// Writes the lengths in the order of edges. Each rule has its own copy of the loop, with no branch on the rule inside.
+fn fill(coordinates: &[u32], table: &mut [u32], length: impl Fn(u32, u32) -> u32) {
+    let mut points = coordinates.chunks_exact(2);
     let mut places = table.iter_mut();
-    for i in 0..n {
-        for (j, place) in (i + 1..n).zip(&mut places) {
-            *place = rule.length(squares(coordinates, i, j));
+    while let Some(a) = points.next() {
+        for (b, place) in points.clone().zip(&mut places) {
+            *place = length(a[0].abs_diff(b[0]), a[1].abs_diff(b[1]));
         }
     }
 }

@@ -5,8 +5,7 @@ mod common;
 use common::*;
 use second::crossing::Crossing;
 use second::edge_set::EdgeSet;
-use second::kit::naive::distance;
-use second::lengths::{edge_count, Lengths, Rule};
+use second::lengths::{ceil_2d, edge_count, euc_2d, Lengths};
 use second::listing::list_pairs;
 use second::marking::mark_sheet;
 use second::pairs::FarEdge;
@@ -15,22 +14,7 @@ use second::pairs::FarEdge;
 fn distances() {
     let examples = [(0, 0, 0), (2, 1, 2), (5, 2, 3), (8, 3, 3), (25, 5, 5), (2_000_000_000_000, 1_414_214, 1_414_214)];
     for (s, euc, ceil) in examples {
-        assert_eq!(Rule::Euc2d.length(s), euc, "S = {s}");
-        assert_eq!(Rule::Ceil2d.length(s), ceil, "S = {s}");
-    }
-}
-
-#[test]
-fn distances_by_their_inequalities() {
-    let near_squares =
-        (1..1_414_215u64).step_by(997).flat_map(|d| [d * d - 1, d * d, d * d + 1, d * d + d, d * d + d + 1]);
-    for s in (0..5000).chain(near_squares) {
-        let euc = i128::from(Rule::Euc2d.length(s));
-        let four_s = 4 * i128::from(s);
-        assert!(s == 0 || (2 * euc - 1).pow(2) <= four_s, "S = {s}");
-        assert!(four_s < (2 * euc + 1).pow(2), "S = {s}");
-        assert_eq!(euc as u64, distance(1, s));
-        assert_eq!(u64::from(Rule::Ceil2d.length(s)), distance(2, s));
+        assert_eq!((euc_2d(s), ceil_2d(s)), (euc, ceil), "S = {s}");
     }
 }
 

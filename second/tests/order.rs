@@ -46,7 +46,8 @@ fn measuring() {
     assert_eq!(numbers(3, 0, &above[..7]), 1);
     assert_eq!(numbers(4, 0, &above[..7]), 2);
     assert_eq!(numbers(4, 0, &above), 3);
-    assert_eq!(numbers(4, 1, &above), 4);
+    assert_eq!(numbers(4, 6, &above), 3);
+    assert_eq!(numbers(4, 5, &above), 4);
 }
 
 #[test]
@@ -107,10 +108,10 @@ fn program() {
         file.resize(65_449, 0);
         file
     };
-    assert_eq!(last(&long(file(3, 3, &[1_000_001; 8], &[]))), only(1));
-    assert_eq!(last(&long(file(3, 4, &[1_000_001; 8], &[]))), only(7));
-    assert_eq!(last(&file(3, 4, &[1_000_001; 7], &[])), only(7));
-    assert_eq!(last(&file(3, 4, &[1_000_001; 8], &[])), only(3));
-    assert_eq!(last(&file(1, 4, &[1_000_001; 8], &[])), only(4));
+    assert_eq!(last(&long(file(6, 3, &[1_000_001; 8], &[]))), only(1));
+    assert_eq!(last(&long(file(6, 4, &[1_000_001; 8], &[]))), only(7));
+    assert_eq!(last(&file(6, 4, &[1_000_001; 7], &[])), only(7));
+    assert_eq!(last(&file(6, 4, &[1_000_001; 8], &[])), only(3));
+    assert_eq!(last(&file(5, 4, &[1_000_001; 8], &[])), only(4));
     assert_eq!(last(&file(1, 4, &SQUARE, &[])), "verdict 7 record 0 open 6");
 }

@@ -23,6 +23,17 @@ fn strikes_in_edge_order() {
     assert_eq!(text, "points 4 edges 6\nstruck 1 3\nstruck 2 4\nverdict 0 record 0 open 4\n");
 }
 
+/// Rule 5 gives the square's sides and diagonals one length, so that no edge can be struck; rule 4 is as rule 1.
+#[test]
+fn rules() {
+    let marked = |rule| mark_text(&file(rule, 4, &SQUARE, &RECORDS));
+    assert_eq!(marked(4), marked(1));
+    assert_eq!(marked(5), "points 4 edges 6\nverdict 14 record 1 open 6\n");
+    for rule in [0, 6, u32::MAX] {
+        assert_eq!(marked(rule), "verdict 3 record 0 open 0\n");
+    }
+}
+
 #[test]
 fn refusals() {
     let refused = "verdict 7 record 0 open 0\n";

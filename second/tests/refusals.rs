@@ -30,8 +30,12 @@ fn measuring() {
     assert_eq!(measured(180, 1, &[0; 360], 16_110), 0);
     assert_eq!(measured(4, 1, &SQUARE[..7], 6), 2);
     assert_eq!(measured(4, 1, &SQUARE, 5), 2);
-    assert_eq!(measured(4, 0, &SQUARE, 6), 3);
-    assert_eq!(measured(4, 3, &SQUARE, 6), 3);
+    for rule in 1..=5 {
+        assert_eq!(measured(4, rule, &SQUARE, 6), 0);
+    }
+    for rule in [0, 6, 257, 65_541, u32::MAX] {
+        assert_eq!(measured(4, rule, &SQUARE, 6), 3);
+    }
     assert_eq!(measured(4, 2, &[0, 0, 0, 0, 0, 0, 0, 1_000_001], 6), 4);
     assert_eq!(measured(4, 2, &[0, 0, 0, 0, 0, 0, 0, 1_000_000], 6), 0);
 }

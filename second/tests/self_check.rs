@@ -2,6 +2,7 @@
 
 use second::kit::checker::Second;
 use second::kit::compare::Comparison;
+use second::kit::coverage::Coverage;
 use second::kit::naive::{Naive, Slip};
 
 #[test]
@@ -12,6 +13,22 @@ fn alike_and_everything_met() {
         panic!("{}", difference.0);
     }
     assert!(comparison.coverage.missing().is_empty(), "{:?}", comparison.coverage.missing());
+}
+
+/// Before the first case all rules are missing, their longest diagonals and the numbers to be refused.
+#[test]
+fn rules_are_demanded() {
+    let missing = Coverage::default().missing();
+    for operation in ["measure", "program"] {
+        for rule in ["EUC_2D", "CEIL_2D", "ATT", "MAN_2D", "MAX_2D"] {
+            let measured = format!("{operation}: {rule} measured");
+            assert!(missing.contains(&format!("{measured} with opposite corners of the largest square")));
+            assert!(missing.contains(&measured));
+        }
+        for number in [0, 6, u32::MAX] {
+            assert!(missing.contains(&format!("{operation}: rule {number} refused")));
+        }
+    }
 }
 
 /// Sheets until the comparison finds the slip.

@@ -1,4 +1,4 @@
-//! Instances: boards of points under both rules, and free tables.
+//! Instances: boards of points under all five rules, and free tables.
 
 use super::rng::Rng;
 use crate::lengths::{edge_count, measure};
@@ -44,7 +44,7 @@ fn size(rng: &mut Rng) -> u16 {
 
 /// Any of the kinds of instance.
 pub fn board(rng: &mut Rng) -> Board {
-    match rng.below(9) {
+    match rng.below(10) {
         0 => tiny_grid(rng),
         1 => few_coordinates(rng),
         2 => grid(rng),
@@ -56,12 +56,13 @@ pub fn board(rng: &mut Rng) -> Board {
             let most = rng.between(1, 6) as u32;
             free_table(rng, most)
         }
-        _ => bent_table(rng),
+        8 => bent_table(rng),
+        _ => corners(rng),
     }
 }
 
-fn rule(rng: &mut Rng) -> u32 {
-    rng.between(1, 2) as u32
+pub fn rule(rng: &mut Rng) -> u32 {
+    rng.between(1, 5) as u32
 }
 
 fn grid_points(rng: &mut Rng, width: usize, height: usize, step: u32) -> Board {
@@ -97,15 +98,27 @@ fn few_coordinates(rng: &mut Rng) -> Board {
     Board::from_points(rule(rng), coordinates)
 }
 
-fn random_points(rng: &mut Rng, most: usize) -> Board {
-    let n = usize::from(size(rng));
-    points_on_square(rng, n, most)
+/// Few points at and next to the corners of the largest square.
+fn corners(rng: &mut Rng) -> Board {
+    let n = rng.between(4, 12);
+    let coordinates = corner_coordinates(rng, n);
+    Board::from_points(rule(rng), coordinates)
 }
 
-/// n points with coordinates from 0 to `most`.
-pub fn points_on_square(rng: &mut Rng, n: usize, most: usize) -> Board {
-    let coordinates = (0..2 * n).map(|_| rng.between(0, most) as u32).collect();
+/// Coordinates of n points, mostly 0 and 1,000,000.
+pub fn corner_coordinates(rng: &mut Rng, n: usize) -> Vec<u32> {
+    (0..2 * n).map(|_| rng.pick(&[0, 0, 0, 1, 999_999, 1_000_000, 1_000_000, 1_000_000])).collect()
+}
+
+fn random_points(rng: &mut Rng, most: usize) -> Board {
+    let n = usize::from(size(rng));
+    let coordinates = random_coordinates(rng, n, most);
     Board::from_points(rule(rng), coordinates)
+}
+
+/// Coordinates of n points, from 0 to `most`.
+pub fn random_coordinates(rng: &mut Rng, n: usize, most: usize) -> Vec<u32> {
+    (0..2 * n).map(|_| rng.between(0, most) as u32).collect()
 }
 
 /// Free lengths from 0 to `most`.

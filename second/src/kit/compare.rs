@@ -170,6 +170,7 @@ impl<'a> Comparison<'a> {
         let answer = self.one.measure(call.n, call.rule, &call.coordinates, &mut table);
         let other = self.other.measure(call.n, call.rule, &call.coordinates, &mut other_table);
         self.coverage.number(Operation::Measure, answer);
+        self.coverage.measure_rules.count(answer, call.rule, &call.coordinates);
         self.same("measure", (answer, table), (other, other_table), || format!("{call:?}\n"))
     }
 
@@ -250,7 +251,7 @@ impl<'a> Comparison<'a> {
         self.keep(&file);
         let text = self.one.program(&file);
         let other = self.other.program(&file);
-        self.count_program(&text);
+        self.count_program(&file, &text);
         let (text, other) = (String::from_utf8_lossy(&text), String::from_utf8_lossy(&other));
         self.same("program", text, other, || format!("file {}\n", hex(&file)))
     }
@@ -263,14 +264,23 @@ impl<'a> Comparison<'a> {
         std::fs::write(&path, file).unwrap_or_else(|error| panic!("{}: {error}", path.display()));
     }
 
-    fn count_program(&mut self, text: &[u8]) {
+    fn count_program(&mut self, file: &[u8], text: &[u8]) {
         let text = String::from_utf8_lossy(text);
         let verdict = text.lines().last().and_then(|line| line.split(' ').nth(1)).and_then(|v| v.parse().ok());
         let number = verdict.unwrap_or(0);
         self.coverage.number(Operation::Program, number);
+        let alone = text.lines().count() == 1;
         if number == 7 {
-            let alone = text.lines().count() == 1;
             self.coverage.event(if alone { Event::FileRefused } else { Event::RecordsRefused }, 1);
+        }
+        self.count_rule(file, if alone { number } else { 0 });
+    }
+
+    /// The rule of a file that is long enough to be measured, with what came of that.
+    fn count_rule(&mut self, file: &[u8], number: u64) {
+        if number == 0 || number == 3 {
+            let (rule, n) = (entry(file, 0), entry(file, 4));
+            self.coverage.program_rules.count(number, rule, &file[8..8 + 8 * n as usize]);
         }
     }
 
@@ -336,6 +346,11 @@ fn damaged_or_noise(rng: &mut Rng, draft: &Draft) -> Vec<u8> {
     } else {
         sheets::damaged(rng, draft)
     }
+}
+
+/// The 32-bit number at this byte.
+fn entry(bytes: &[u8], at: usize) -> u32 {
+    u32::from_le_bytes(bytes[at..at + 4].try_into().unwrap())
 }
 
 pub fn hex(bytes: &[u8]) -> String {

@@ -2,6 +2,7 @@
 
 use std::fmt;
 
+use super::rules_met::RulesMet;
 use crate::sheet::Sheet;
 
 #[derive(Clone, Copy, Debug, PartialEq, Eq)]
@@ -95,6 +96,9 @@ const EVENTS: [(Event, &str); 20] = [
 pub struct Coverage {
     numbers: [[u64; NUMBERS]; DEMANDS.len()],
     events: [u64; EVENTS.len()],
+    /// The rules that *measure* and the program were given.
+    pub measure_rules: RulesMet,
+    pub program_rules: RulesMet,
     /// Accepted lines by the number of splits one inside another, from 1.
     depths: [u64; Sheet::MOST_SPLITS + 1],
     /// Accepted lines by the size of the board.
@@ -128,6 +132,8 @@ impl Coverage {
         }
         let unmet = EVENTS.iter().filter(|&&(event, _)| self.events[event as usize] == 0);
         missing.extend(unmet.map(|(_, name)| name.to_string()));
+        missing.extend(self.measure_rules.missing().iter().map(|unmet| format!("measure: {unmet}")));
+        missing.extend(self.program_rules.missing().iter().map(|unmet| format!("program: {unmet}")));
         let unmet = (1..=Sheet::MOST_SPLITS).filter(|&depth| self.depths[depth] == 0);
         missing.extend(unmet.map(|depth| format!("accepted line at depth {depth}")));
         let unmet = SIZES.iter().zip(self.sizes).filter(|&(_, lines)| lines == 0);
@@ -156,6 +162,7 @@ impl fmt::Display for Coverage {
         for (event, name) in EVENTS {
             writeln!(f, "{name}: {}", self.events[event as usize])?;
         }
+        writeln!(f, "measure: {}\nprogram: {}", self.measure_rules, self.program_rules)?;
         write!(f, "accepted lines by depth:")?;
         for depth in 1..=Sheet::MOST_SPLITS {
             write!(f, " {depth}: {}", self.depths[depth])?;

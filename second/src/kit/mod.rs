@@ -12,6 +12,7 @@ pub mod naive;
 #[cfg(feature = "revosti")]
 pub mod revosti;
 pub mod rng;
+pub mod rules_met;
 pub mod search;
 pub mod sheets;
 pub mod spoil;

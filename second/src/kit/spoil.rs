@@ -1,7 +1,10 @@
 //! Calls with wrong sizes and wrong numbers.
 
-use super::boards::Board;
+use super::boards::{self, Board, Measured};
 use super::rng::Rng;
+
+/// Numbers that are no rule: beside 1 to 5, 1 by its lowest byte or two bytes, and the largest.
+const NO_RULES: [u32; 5] = [0, 6, 257, 65_537, u32::MAX];
 
 /// What a call for C is lent.
 #[derive(Clone, Debug)]
@@ -103,18 +106,21 @@ pub struct Measuring {
 }
 
 impl Measuring {
-    /// The board's points, or random ones for a free table.
+    /// The board's points, or others for a free table.
     pub fn new(rng: &mut Rng, board: &Board) -> Measuring {
-        let n = usize::from(board.n);
-        let (rule, coordinates) = match &board.measured {
-            Some(measured) => (measured.rule, measured.coordinates.clone()),
-            None => (2, (0..2 * n).map(|_| rng.between(0, 1_000_000) as u32).collect()),
-        };
-        let coordinates: Vec<u32> = coordinates;
-        let coordinates = coordinates.iter().flat_map(|c| c.to_le_bytes()).collect();
+        let measured = board.measured.clone().unwrap_or_else(|| other_points(rng, usize::from(board.n)));
+        let coordinates = measured.coordinates.iter().flat_map(|c| c.to_le_bytes()).collect();
         let table = (0..4 * board.table.len()).map(|_| rng.word() as u8).collect();
-        Measuring { n: n as u32, rule, coordinates, table }
+        Measuring { n: u32::from(board.n), rule: measured.rule, coordinates, table }
     }
+}
+
+/// n points anywhere on the largest square, or at its corners.
+fn other_points(rng: &mut Rng, n: usize) -> Measured {
+    let at_corners = rng.chance(50);
+    let coordinates =
+        if at_corners { boards::corner_coordinates(rng, n) } else { boards::random_coordinates(rng, n, 1_000_000) };
+    Measured { rule: boards::rule(rng), coordinates }
 }
 
 /// Makes one to three things wrong.
@@ -124,7 +130,7 @@ pub fn measuring(rng: &mut Rng, call: &mut Measuring) {
             0 => call.n = wrong_count(rng, call.n),
             1 => resize(rng, &mut call.coordinates, &[1, 2, 4, 8]),
             2 => resize(rng, &mut call.table, &[1, 2, 4, 8]),
-            3 => call.rule = rng.pick(&[0, 1, 2, 3, 257, 65_537, u32::MAX]),
+            3 => call.rule = rng.pick(&NO_RULES),
             _ => some_entry(rng, &mut call.coordinates, &[1_000_000, 1_000_001, 1_000_001, u32::MAX]),
         }
     }
@@ -185,7 +191,7 @@ pub fn file(rng: &mut Rng, n: u16, file: &mut Vec<u8>) {
         match rng.below(7) {
             0 => file.truncate(rng.below(9)),
             1 => file.truncate(rng.between(8, coordinates)),
-            2 => put(file, 0, rng.pick(&[0, 3, 257, u32::MAX])),
+            2 => put(file, 0, rng.pick(&NO_RULES)),
             3 => put(file, 4, wrong_count(rng, u32::from(n))),
             4 => put(file, 8 + 4 * rng.below(2 * usize::from(n)), rng.pick(&[1_000_000, 1_000_001, u32::MAX])),
             5 => file.resize(rng.pick(&[65_447, 65_448, 65_449, 65_464, 80_000]), 0),

@@ -78,11 +78,16 @@ const SIZES: [usize; 3] = [30, 90, 180];
 const BEFORE: &str = "line 180 before the split under 11 edges";
 const AFTER: &str = "line 180 after the split under 11 edges";
 
+/// Measuring the same points by EUC_2D, ATT, MAN_2D and MAX_2D.
+const MEASURING: [(&str, u32); 4] =
+    [("measure 180", 1), ("measure 180 att", 3), ("measure 180 man", 4), ("measure 180 max", 5)];
+
 /// The timed inputs: marking and listing at 30, 90 and 180 points, and measuring 180.
 pub fn names() -> Vec<String> {
     let marking = SIZES.iter().flat_map(|n| ["shallow", "deep"].map(|kind| format!("mark {n} {kind}")));
     let listing = SIZES.iter().map(|n| format!("list {n}"));
-    marking.chain(listing).chain(["measure 180".to_string()]).collect()
+    let measuring = MEASURING.iter().map(|(name, _)| name.to_string());
+    marking.chain(listing).chain(measuring).collect()
 }
 
 /// The inputs whose instructions are counted.
@@ -95,7 +100,7 @@ pub fn named(name: &str) -> Option<Workload> {
     match name.split(' ').collect::<Vec<_>>()[..] {
         ["mark", n, kind] => Some(marking(n.parse().ok()?, kind == "deep")),
         ["list", n] => Some(listing(n.parse().ok()?)),
-        ["measure", _] => Some(measuring()),
+        ["measure", ..] => MEASURING.iter().find(|row| row.0 == name).map(|&(name, rule)| measuring(name, rule)),
         _ if name == BEFORE => Some(under_eleven(false)),
         _ if name == AFTER => Some(under_eleven(true)),
         _ => None,
@@ -121,8 +126,11 @@ fn sheet(name: String, note: String, board: &Board, records: &[Record]) -> Workl
     }
 }
 
+/// Points on the largest square under EUC_2D or CEIL_2D, the same in every run.
 fn random_board(n: usize) -> Board {
-    boards::points_on_square(&mut Rng::new(1, n as u64), n, 1_000_000)
+    let mut rng = Rng::new(1, n as u64);
+    let coordinates = boards::random_coordinates(&mut rng, n, 1_000_000);
+    Board::from_points(rng.between(1, 2) as u32, coordinates)
 }
 
 /// A sheet of several lines, all accepted, from fresh marks; deep ones have six splits one inside another.
@@ -196,12 +204,12 @@ fn some_split(rng: &mut Rng, n: u16) -> [u16; 3] {
     [points[0], points[1], points[2]]
 }
 
-fn measuring() -> Workload {
+fn measuring(name: &str, rule: u32) -> Workload {
     let board = random_board(180);
-    let measured = board.measured.unwrap();
+    let coordinates = entries(&board.measured.unwrap().coordinates);
     Workload {
-        name: "measure 180".to_string(),
-        note: "rule 1, coordinates to 1,000,000".to_string(),
-        call: Call::Measure { n: 180, rule: 1, coordinates: entries(&measured.coordinates), table: vec![0; 4 * board.table.len()] },
+        name: name.to_string(),
+        note: format!("rule {rule}, coordinates to 1,000,000"),
+        call: Call::Measure { n: 180, rule, coordinates, table: vec![0; 4 * board.table.len()] },
     }
 }

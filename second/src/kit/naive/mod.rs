@@ -1,4 +1,4 @@
-//! A slow checker written straight from document 01, sharing no code with the second program:
+//! A slow checker written straight from documents 01 and 02, sharing no code with the second program:
 //! all edges in a list, K as a vector, degrees by counting, cycles by walking every way, all pairs
 //! filtered by the five tests as they stand.
 //!
@@ -66,12 +66,25 @@ fn least(test: impl Fn(u64) -> bool) -> u64 {
     low
 }
 
-/// The length by 01's inequalities; rule is 1 or 2.
-pub fn distance(rule: u32, s: u64) -> u64 {
-    if rule == 1 {
-        least(|d| 4 * s < (2 * d + 1) * (2 * d + 1))
-    } else {
-        least(|d| d * d >= s)
+/// The length from S by the inequalities of EUC_2D, CEIL_2D and ATT; rule is 1, 2 or 3.
+pub fn from_squares(slip: Option<Slip>, rule: u32, s: u64) -> u64 {
+    let ten = if slip == Some(Slip::AttNine) { 9 } else { 10 };
+    match rule {
+        1 => least(|d| 4 * s < (2 * d + 1) * (2 * d + 1)),
+        2 => least(|d| d * d >= s),
+        _ if slip == Some(Slip::AttNearest) => least(|d| 4 * s < 10 * (2 * d + 1) * (2 * d + 1)),
+        _ => least(|d| ten * d * d >= s),
+    }
+}
+
+/// The length by a rule, 1 to 5, from the two differences.
+pub fn distance(slip: Option<Slip>, rule: u32, dx: i64, dy: i64) -> u64 {
+    let (x, y) = (dx.abs() as u64, dy.abs() as u64);
+    match rule {
+        1..=3 => from_squares(slip, rule, (dx * dx + dy * dy) as u64),
+        4 if slip != Some(Slip::ManIsMax) => x + y,
+        _ if slip == Some(Slip::MaxIsFirst) => x,
+        _ => least(|d| d >= x && d >= y),
     }
 }
 
@@ -89,7 +102,8 @@ impl Checker for Naive {
         if !whole || coordinates.len() as u64 != 2 * u64::from(n) || places.len() != 4 * edges.len() {
             return 2;
         }
-        if rule == 0 || rule > 2 {
+        let rules = if self.slip == Some(Slip::RuleSix) { 6 } else { 5 };
+        if rule == 0 || rule > rules {
             return 3;
         }
         if coordinates.iter().any(|&v| u64::from(v) > limit(1_000_000, self.slip, Slip::CoordinateLimit)) {
@@ -98,7 +112,7 @@ impl Checker for Naive {
         for (place, (a, b)) in edges.into_iter().enumerate() {
             let dx = i64::from(coordinates[2 * a - 2]) - i64::from(coordinates[2 * b - 2]);
             let dy = i64::from(coordinates[2 * a - 1]) - i64::from(coordinates[2 * b - 1]);
-            let length = distance(rule, (dx * dx + dy * dy) as u64);
+            let length = distance(self.slip, rule, dx, dy);
             for byte in 0..4 {
                 places[4 * place + byte] = (length >> (8 * byte)) as u8;
             }

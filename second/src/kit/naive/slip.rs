@@ -42,10 +42,20 @@ pub enum Slip {
     LengthLimit,
     CoordinateLimit,
     FileLimit,
+    /// ATT with 9 for 10.
+    AttNine,
+    /// ATT gives the nearest number, as EUC_2D does.
+    AttNearest,
+    /// MAN_2D taken for MAX_2D.
+    ManIsMax,
+    /// MAX_2D is the first difference.
+    MaxIsFirst,
+    /// A rule 6.
+    RuleSix,
 }
 
 impl Slip {
-    pub const ALL: [Slip; 21] = [
+    pub const ALL: [Slip; 26] = [
         Slip::EqualShutsOut,
         Slip::EqualSaves,
         Slip::OneExchange,
@@ -67,5 +77,10 @@ impl Slip {
         Slip::LengthLimit,
         Slip::CoordinateLimit,
         Slip::FileLimit,
+        Slip::AttNine,
+        Slip::AttNearest,
+        Slip::ManIsMax,
+        Slip::MaxIsFirst,
+        Slip::RuleSix,
     ];
 }
