@@ -86,17 +86,38 @@ static void try_list(uint32_t n, const uint8_t *table, size_t table_len, const u
     seen(4, revosti_refusal(answer), (unsigned)(written / 4));
 }
 
-/* Measures into a table of old bytes, which stay where the call is refused. */
+static uint64_t apart(uint32_t a, uint32_t b) { return a < b ? b - a : a - b; }
+
+/* Whether d is the distance by the rule of the points at a and b. A number outside 1 to 5 is no rule. */
+static int is_distance(uint32_t rule, uint64_t d, const uint8_t *a, const uint8_t *b)
+{
+    uint64_t dx = apart(get32(a), get32(b)), dy = apart(get32(a + 4), get32(b + 4)), s = dx * dx + dy * dy;
+    switch (rule) {
+    case 1: return 4 * s < (2 * d + 1) * (2 * d + 1) && (d == 0 || (2 * d - 1) * (2 * d - 1) <= 4 * s);
+    case 2: return d * d >= s && (d == 0 || (d - 1) * (d - 1) < s);
+    case 3: return 10 * d * d >= s && (d == 0 || 10 * (d - 1) * (d - 1) < s);
+    case 4: return d == dx + dy;
+    case 5: return d == (dx > dy ? dx : dy);
+    default: return 0;
+    }
+}
+
+/* Measures into a table of old bytes, which stay where the call is refused; otherwise each length is the rule's distance. */
 static void try_measure(uint32_t n, uint32_t rule, const uint8_t *coordinates, size_t points, size_t edges)
 {
     size_t len = 4 * edges + (rule >> 8 & 1), from = 8 * points - (rule >> 9 & 1 && points ? rule >> 10 & 3 : 0);
     uint8_t *measured = measured_end - len;
     memset(measured, 0xa5, len);
-    uint64_t answer = revosti_measure(n, rule & 0xff, coordinates, from, measured, len);
+    uint32_t number = rule >> 12 & 1 ? rule : rule & 0xff;
+    uint64_t answer = revosti_measure(n, number, coordinates, from, measured, len);
     promise(answer <= REVOSTI_COORDINATE, "a refusal number or 0");
+    promise(answer != REVOSTI_RULE || number < 1 || number > 5, "rules 1 to 5 are not refused");
     for (size_t i = 0; i < len; i++)
         promise(answer == 0 ? i % 4 != 3 || measured[i] == 0 : measured[i] == 0xa5, "lengths below 2^24, or the bytes as they were");
-    seen(5, (unsigned)answer, 0);
+    for (uint32_t a = 1; answer == 0 && a < n; a++)
+        for (uint32_t b = a + 1; b <= n; b++, measured += 4)
+            promise(is_distance(number, get32(measured), coordinates + 8 * (a - 1), coordinates + 8 * (b - 1)), "the rule's distance");
+    seen(5, (unsigned)answer, answer == 0 ? number : 0);
 }
 
 static void run(const uint8_t *file, size_t size)
