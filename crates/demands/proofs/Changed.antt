@@ -76,8 +76,8 @@ module _ (n : ℕ) (table sheet : List ℕ) where
         ab = line-edge (p .marks) (p .index) a b next high (l .1)
 
         by : Dec (Joins (edge a b) c d) → openIn n (strikeIn n (p .marks) a b) c d ≡ false
-        by (yes j) = struck-same (p .marks) whole ab c d j
-        by (no o) = struck-other (p .marks) whole ab cd o ∙ h
+        by (yes j) = struck-same (p .marks) ab whole c d j
+        by (no o) = struck-other (p .marks) ab cd o ∙ h
 
     -- one line in front of others: its edge was open and is struck, and the others find every other edge as it was
     line-exactly :
@@ -88,16 +88,16 @@ module _ (n : ℕ) (table sheet : List ℕ) where
     line-exactly marks left xs a b whole ab o stays rest = (to, from (joins-dec a b c d))
       where
         before : openIn n (strikeIn n marks a b) c d ≡ true → Dec (Joins (edge a b) c d) → openIn n marks c d ≡ true
-        before h (yes j) = absurd (false≢true (sym (struck-same marks whole ab c d j) ∙ h))
-        before h (no k) = sym (struck-other marks whole ab cd k) ∙ h
+        before h (yes j) = absurd (false≢true (sym (struck-same marks ab whole c d j) ∙ h))
+        before h (no k) = sym (struck-other marks ab cd k) ∙ h
 
         to : Has (edge a b ∷ struckEdges xs) c d → (openIn n marks c d ≡ true) × (openIn n left c d ≡ false)
-        to (inl j) = (open-joined n marks a b c d j ∙ o, stays (struck-same marks whole ab c d j))
+        to (inl j) = (open-joined n marks a b c d j ∙ o, stays (struck-same marks ab whole c d j))
         to (inr h) = let r = rest .0 h in (before (r .0) (joins-dec a b c d), r .1)
 
         from : Dec (Joins (edge a b) c d) → (openIn n marks c d ≡ true) × (openIn n left c d ≡ false) → Has (edge a b ∷ struckEdges xs) c d
         from (yes j) h = inl j
-        from (no k) h = inr (rest .1 (struck-other marks whole ab cd k ∙ h .0, h .1))
+        from (no k) h = inr (rest .1 (struck-other marks ab cd k ∙ h .0, h .1))
 
     lines-exactly : (xs : List Struck) (p q : Place (List ℕ)) → length (p .marks) ≡ edgeCount n → CompleteLines (markingOf n table) sheet p xs q →
         Has (struckEdges xs) c d ↔ ((openIn n (p .marks) c d ≡ true) × (openIn n (q .marks) c d ≡ false))

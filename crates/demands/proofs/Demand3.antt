@@ -1,5 +1,5 @@
 -- DEMAND 3. No run of sheets strikes an edge of a shortest tour.
--- Below it the general form for 3-optimal tours, and beside it the same for runs of the function for C over bytes. Assumes nothing.
+-- Below it the general form for 3-optimal tours (Paper 9), and beside both the same for runs of the function for C over bytes. Assumes nothing.
 use Prim.Native.Nat.{ℕ, suc, _≤_, _<_}
 use mathlib.Core.Path.{_≡_, refl, sym, _∙_, ap, subst}
 use mathlib.Core.Bool.{Bool, true, false}
@@ -16,6 +16,7 @@ use Rattle.lengths.proofs.Edges.{edgeCount-tri, tri-suc, tri-mono, three-way}
 use Rattle.marks.specs.Mark.{openIn}
 use Rattle.tours.specs.Tour.{Uses, Shortest, ThreeOptimal}
 use Rattle.tours.proofs.ThreeOptimal.{shortest-optimal}
+use Rattle.tours.proofs.TourNeighbours.{tour-edge}
 use Rattle.argument.specs.Sheet.{sheet, run}
 use Rattle.argument.proofs.Safe.{sheet-safe, run-keeps}
 use Rattle.sheets.specs.Rules.{markingOf}
@@ -29,7 +30,7 @@ use Rattle.marking.proofs.Tested.{passed}
 use Rattle.marking.specs.declared.tests.Tested.{Tested}
 use Rattle.marking.specs.declared.tests.Tested.the-variants.{Points, Refused}
 use Rattle.demands.specs.Run.{Call, markedBy, runOf, runInC}
-use Rattle.demands.proofs.Kept.{Kept, InTour, guarded, used-edge}
+use Rattle.demands.proofs.Kept.{Kept, InTour, guarded}
 
 -- n(n - 1)/2 tells n from 1 on
 edge-count-rises : (m n : ℕ) → 1 ≤ m → m < n → edgeCount m < edgeCount n
@@ -70,7 +71,7 @@ module _ {n : ℕ} (table : List ℕ) {t : List ℕ} (some : leastPoints ≤ n) 
 
   -- fresh marks are all open
   pub fresh-kept : Kept n t (freshMarks n)
-  fresh-kept = record { whole = fresh-size n; all-open = λ a b u. fresh-open (used-edge table some best a b u) }
+  fresh-kept = record { whole = fresh-size n; all-open = λ a b u. fresh-open (tour-edge (best .tour) (omega arith) a b u) }
 
 in-limits : {n : ℕ} → leastPoints ≤ n → n ≤ mostPoints → inRange n ≡ true
 unfolding inRange
@@ -109,12 +110,17 @@ run-decoded table (call ∷ calls) marks = run-decoded table calls _
 
 -- the same for runs of the function for C, from n(n - 1)/2 bytes of 1, which a C program writes: `table` and the sheets are bytes, and the
 -- lengths are those that the table's bytes are
+pub three-optimal-open-in-C :
+    (n : ℕ) → leastPoints ≤ n → n ≤ mostPoints → (table : List ℕ) → length (whole32 table) ≡ edgeCount n →
+    (calls : List Call) (t : List ℕ) → ThreeOptimal n (lengthOf n (whole32 table)) t → (a b : ℕ) → Uses t a b →
+    openIn n (runInC table calls (replicate (edgeCount n) 1)) a b ≡ true
+unfolding freshMarks
+three-optimal-open-in-C n some most table whole calls t best a b u =
+    let kept = run-kept (whole32 table) some whole best (map decoded calls) (freshMarks n) (fresh-kept (whole32 table) some whole best) in
+    ap (λ (m : List ℕ). openIn n m a b) (run-decoded table calls (freshMarks n)) ∙ kept .all-open a b u
+
 pub demand-3-in-C :
     (n : ℕ) → leastPoints ≤ n → n ≤ mostPoints → (table : List ℕ) → length (whole32 table) ≡ edgeCount n →
     (calls : List Call) (t : List ℕ) → Shortest n (lengthOf n (whole32 table)) t → (a b : ℕ) → Uses t a b →
     openIn n (runInC table calls (replicate (edgeCount n) 1)) a b ≡ true
-unfolding freshMarks
-demand-3-in-C n some most table whole calls t best a b u =
-    let optimal = shortest-optimal best in
-    let kept = run-kept (whole32 table) some whole optimal (map decoded calls) (freshMarks n) (fresh-kept (whole32 table) some whole optimal) in
-    ap (λ (m : List ℕ). openIn n m a b) (run-decoded table calls (freshMarks n)) ∙ kept .all-open a b u
+demand-3-in-C n some most table whole calls t best = three-optimal-open-in-C n some most table whole calls t (shortest-optimal best)

@@ -1,7 +1,7 @@
 -- A 3-optimal tour whose edges are open keeps them open, whatever sheets are marked: the tour meets what `argument` asks of a tour in
 -- question (`Guarded`), so no accepted line strikes one of its edges, and nothing else changes a mark. Assumes nothing.
 use Prim.Native.Nat.{ℕ, _≤_}
-use mathlib.Core.Path.{_≡_, _∙_, subst}
+use mathlib.Core.Path.{_≡_, _∙_}
 use mathlib.Core.Bool.{true}
 use mathlib.Core.Logic.{inl, inr}
 use mathlib.Core.List.{List, [], _∷_}
@@ -16,7 +16,7 @@ use Rattle.marks.specs.Mark.{openIn, strikeIn}
 use Rattle.rules.specs.Pair.{FeasiblePair}
 use Rattle.tours.specs.Tour.{Uses, ThreeOptimal, Symmetric}
 use Rattle.tours.proofs.Edges.{inside-cons, has-sym}
-use Rattle.tours.proofs.TourNeighbours.{tour-no-loop, uses-point}
+use Rattle.tours.proofs.TourNeighbours.{tour-edge}
 use Rattle.argument.specs.Safety.{Upheld, Guarded}
 use Rattle.sheets.specs.Rules.{rulesOf, markingOf}
 use Rattle.demands.proofs.Lawful.{lawful}
@@ -36,11 +36,8 @@ module _ {n : ℕ} (table : List ℕ) {t : List ℕ} (some : leastPoints ≤ n) 
   symmetric : Symmetric (lengthOf n table)
   symmetric = length-symmetric n table
 
-  -- an edge of the tour is an edge of the instance
-  pub used-edge : (a b : ℕ) → Uses t a b → IsEdge n a b
-  used-edge a b u =
-      let p = uses-point (best .tour) a b u in
-      record { first = p .0; second = p .1; apart = λ e. tour-no-loop (best .tour) (omega arith) b (subst (λ (v : ℕ). Uses t v b) e u) }
+  used-edge : (a b : ℕ) → Uses t a b → IsEdge n a b
+  used-edge = tour-edge (best .tour) (omega arith)
 
   module _ (marks : List ℕ) (kept : Kept n t marks) where
     -- the tour's two neighbours of c are a feasible pair
@@ -62,7 +59,7 @@ module _ {n : ℕ} (table : List ℕ) {t : List ℕ} (some : leastPoints ≤ n) 
     spared a b e unused =
         record {
           whole = length-struck n marks a b ∙ kept .whole;
-          all-open = λ c d u. struck-other marks (kept .whole) e (used-edge c d u) (λ j. unused (inside-cons [] (closedEdges t) a b (used c d u j) (λ x y k. absurd k))) ∙ kept .all-open c d u;
+          all-open = λ c d u. struck-other marks e (used-edge c d u) (λ j. unused (inside-cons [] (closedEdges t) a b (used c d u j) (λ x y k. absurd k))) ∙ kept .all-open c d u;
         }
       where
         used : (c d : ℕ) → Uses t c d → Joins (edge a b) c d → Uses t a b

@@ -6,5 +6,6 @@ pub mod Kept
 pub mod Lawful
 pub mod Listed
 pub mod Measured
+pub mod OpenEdges
 pub mod Optimal
 pub mod Strikes

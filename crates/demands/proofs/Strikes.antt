@@ -1,5 +1,5 @@
 -- What striking one edge does to the marks. Assumes nothing.
-use Prim.Native.Nat.{ℕ, zero, suc, _<_}
+use Prim.Native.Nat.{ℕ, zero, suc, _+_, _<_}
 use mathlib.Core.Path.{_≡_, refl, sym, _∙_, ap}
 use mathlib.Core.Bool.{Bool, true, false}
 use mathlib.Core.Logic.{⊎-elim, inl, inr}
@@ -8,11 +8,12 @@ use native.Mathlib.Omega.{arith}
 use lib.Dec.{eqb}
 use lib.ListN.{length, getD, set, length-set}
 use lib.Seq.{getD-set-same, getD-set-other}
-use borrow.Author.Tests.{eq-eqb, ne-eqb}
+use borrow.Author.Tests.{eq-eqb, ne-eqb, eqb-true}
+use Rattle.lists.proofs.Count.{count-set}
 use Rattle.lengths.specs.Edge.{edge, IsEdge, edgeCount, place}
 use Rattle.lengths.proofs.Edges.{place-below, place-injective, place-symmetric}
 use Rattle.sets.specs.EdgeSet.{Joins}
-use Rattle.marks.specs.Mark.{openIn, strikeIn}
+use Rattle.marks.specs.Mark.{openMark, struckMark, openCount, openIn, strikeIn}
 use Rattle.demands.specs.Marked.{differences}
 
 -- nothing differs from itself
@@ -48,11 +49,17 @@ pub length-struck : (n : ℕ) (marks : List ℕ) (a b : ℕ) → length (strikeI
 unfolding strikeIn
 length-struck n marks a b = length-set marks (place n a b) 0
 
-module _ {n : ℕ} (marks : List ℕ) (whole : length marks ≡ edgeCount n) {a b : ℕ} (ab : IsEdge n a b) where
+-- striking an open edge leaves one open edge less
+pub struck-count : (n : ℕ) (marks : List ℕ) (a b : ℕ) → openIn n marks a b ≡ true → openCount marks ≡ 1 + openCount (strikeIn n marks a b)
+unfolding openIn strikeIn
+struck-count n marks a b h =
+    count-set openMark struckMark 0 (λ e. omega arith) (λ e. omega arith) marks (place n a b) (eqb-true (getD marks (place n a b) 0) openMark h)
+
+module _ {n : ℕ} (marks : List ℕ) {a b : ℕ} (ab : IsEdge n a b) where
   -- the struck edge is not open, in either order of its points
-  pub struck-same : (c d : ℕ) → Joins (edge a b) c d → openIn n (strikeIn n marks a b) c d ≡ false
+  pub struck-same : length marks ≡ edgeCount n → (c d : ℕ) → Joins (edge a b) c d → openIn n (strikeIn n marks a b) c d ≡ false
   unfolding openIn strikeIn
-  struck-same c d j =
+  struck-same whole c d j =
       ap (λ (m : ℕ). eqb m 1)
       (ap (λ (i : ℕ). getD (set marks (place n a b) 0) i 0) (place-joined n a b c d j) ∙ getD-set-same marks (place n a b) 0 0 (omega (arith, place-below ab)))
 

@@ -1,3 +1,5 @@
 pub mod Bools
+pub mod Count
+pub mod CountFrom
 pub mod FirstFrom
 pub mod Tests

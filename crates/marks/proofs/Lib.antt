@@ -1,2 +1,3 @@
+pub mod Degrees
 pub mod FreshMarks
 pub mod OpenCounts

@@ -1,3 +1,4 @@
 pub mod asks
+pub mod Degree
 pub mod Fresh
 pub mod Mark

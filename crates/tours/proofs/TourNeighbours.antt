@@ -8,7 +8,7 @@ use mathlib.Core.List.{List, [], _∷_}
 use lib.ListN.{length}
 use native.Mathlib.Decide.{ℕ-discrete}
 use native.Mathlib.Omega.{arith}
-use Rattle.lengths.specs.Edge.{Edge, Point}
+use Rattle.lengths.specs.Edge.{Edge, Point, IsEdge}
 use Rattle.lists.specs.Count.{count}
 use Rattle.sets.specs.EdgeSet.{closedEdges, AtMostTwo}
 use Rattle.tours.specs.Tour.{Tour, tourLength, Uses, Symmetric}
@@ -214,3 +214,32 @@ tour-neighbours {n} {t} T three c p =
 
     apart : (v : ℕ) → Uses t c v → v ≡ c → ⊥
     apart v h e = tour-no-loop T (omega arith) c (subst (λ (u : ℕ). Uses t c u) e h)
+
+-- an edge at c that a list of three points or more, none of them twice, uses is there once: the list without c has no edge at c, and of the
+-- two edges that join c to it the other one is another edge
+pub uses-once : (t : List ℕ) → ((v : ℕ) → count v t ≤ 1) → 3 ≤ length t → (c x : ℕ) → Uses t c x → tourLength (mark c x) t ≡ 1
+uses-once t once long c x h = go (ℕ-discrete (E .x) x)
+  where
+    E : TwoEdges t c
+    E = two-edges t once long c (uses-count t c x h)
+
+    other : (y : ℕ) → Uses t c y → (x ≡ y → ⊥) → tourLength (mark c x) t ≡ 1
+    other y k d =
+        let A : Around t c x y = around t c x y (once c) h k d in
+        omega (
+          arith,
+          A .lengths (mark c x) (mark-symmetric c x),
+          len-away (A .rest) c x (omega (arith, A .counts c, same-self c, once c)),
+          mark-false c x c y (λ j. d (sym (joins-first c y x j))),
+          mark-true c x x c (inr (refl, refl)),
+        )
+
+    go : Dec (E .x ≡ x) → tourLength (mark c x) t ≡ 1
+    go (yes e) = other (E .y) (E .uses-y) (λ f. E .apart (e ∙ f))
+    go (no d) = other (E .x) (E .uses-x) (λ f. d (sym f))
+
+-- an edge that a tour of two points or more uses is an edge of the instance
+pub tour-edge : {n : ℕ} {t : List ℕ} → Tour n t → 2 ≤ n → (a b : ℕ) → Uses t a b → IsEdge n a b
+tour-edge {n} {t} T two a b u =
+    let p = uses-point T a b u in
+    record { first = p .0; second = p .1; apart = λ e. tour-no-loop T two b (subst (λ (v : ℕ). Uses t v b) e u) }
