@@ -20,8 +20,13 @@
  * buffers that are only read may overlap.
  *
  * docs/RULES.md has the rules that they keep to, and what the words here mean (standing pair, split, crossing, labelling).
- * What is proved of them: demands 1 to 3 of README.md. In particular, no edge of a shortest tour is ever struck, whatever sheets are
- * marked from fresh marks over one table, provided that nobody else writes the table or the marks meanwhile.
+ * What is proved of them: demands 1 to 3 of README.md. In particular, whatever sheets are marked from fresh marks over one table,
+ * provided that nobody else writes the table or the marks meanwhile:
+ *
+ *   - no edge of a shortest tour is ever struck;
+ *   - nor of a tour that cannot be made shorter by taking out at most three of its edges and putting in as many: all its edges stay open;
+ *   - every point keeps at least two open edges;
+ *   - at least n edges stay open.
  */
 #ifndef REVOSTI_H
 #define REVOSTI_H
