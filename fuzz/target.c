@@ -59,6 +59,17 @@ static unsigned struck(const uint8_t *marks, size_t edges)
     return count;
 }
 
+/* Marks that marking alone left of fresh ones: two open edges at every point, and n in all. */
+static void enough_open(uint32_t n, const uint8_t *marks, size_t edges)
+{
+    promise(edges - struck(marks, edges) >= n, "n edges are open");
+    for (uint32_t a = 1; a <= n; a++) {
+        unsigned open = 0;
+        for (uint32_t b = 1; b <= n; b++) open += b != a && marks[revosti_place(n, a, b)] == REVOSTI_OPEN;
+        promise(open >= 2, "two open edges at every point");
+    }
+}
+
 static void try_tour(uint32_t n, const uint8_t *table, size_t table_len, const uint8_t *marks, size_t edges)
 {
     uint8_t *tour = tour_end - 2 * n;
@@ -156,6 +167,7 @@ static void run(const uint8_t *file, size_t size)
     promise(lines == struck(marks, edges) - struck(before, edges), "lines accepted are marks changed");
     if (refusal != 0 && refusal <= REVOSTI_SHEET) promise(memcmp(before, marks, edges) == 0, "a refused call changes no mark");
     for (size_t i = 0; i < edges; i++) promise(marks[i] == before[i] || (before[i] == 1 && marks[i] == 0), "marks only go from open to struck");
+    if (rule % 5 != 4 && lines > 0) enough_open(n, marks, edges);
     seen(1, refusal, record < 40 ? record : 40 + record / 64);
     seen(2, lines < 60 ? lines : 60, refusal);
     try_list(n, table + (4 * edges - table_len), table_len, marks, edges, rule);

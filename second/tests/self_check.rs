@@ -31,6 +31,22 @@ fn rules_are_demanded() {
     }
 }
 
+/// Before the first case nothing has been held against strikes.
+#[test]
+fn strikes_are_demanded() {
+    let missing = Coverage::default().missing();
+    for unmet in [
+        "marks with strikes whose open edges were counted",
+        "points left with two open edges",
+        "marks left with n open edges",
+        "3-opt tours up to nine points, held against marks with strikes",
+        "3-opt tours of more points, held against marks with strikes",
+        "3-opt tours longer than another, held against marks with strikes",
+    ] {
+        assert!(missing.contains(&unmet.to_string()), "{unmet}");
+    }
+}
+
 /// Sheets until the comparison finds the slip.
 fn found_after(slip: Slip) -> Option<u64> {
     let naive = Naive { slip: Some(slip) };
@@ -45,5 +61,30 @@ fn slips_are_found() {
         let found = found_after(slip);
         println!("{slip:?}: {found:?}");
         assert!(found.is_some(), "{slip:?} is not found");
+    }
+}
+
+/// What the comparison finds where both programs make the slip: the marks alone tell it.
+fn found_in_both(slip: Slip) -> String {
+    let naive = Naive { slip: Some(slip) };
+    let mut comparison = Comparison::new(&naive, &naive, 7);
+    let Err(difference) = comparison.run(20_000) else { panic!("{slip:?} is not found") };
+    let what = difference.0.split(" differs").next().unwrap();
+    println!("{slip:?}: {what} after {} sheets", comparison.sheets);
+    what.to_string()
+}
+
+/// The first leaves a point one open edge; the second strikes no edge of a shortest tour.
+#[test]
+fn slips_of_both_are_found_by_open_edges_and_tours() {
+    assert_eq!(found_in_both(Slip::LastEdges), "open edges");
+    assert_eq!(found_in_both(Slip::ShortestOnly), "3-opt tour");
+}
+
+/// Rules that shut out too much, in both.
+#[test]
+fn slips_of_both_are_found() {
+    for slip in [Slip::EqualShutsOut, Slip::OneExchange, Slip::EarlyStrike] {
+        found_in_both(slip);
     }
 }

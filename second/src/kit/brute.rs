@@ -1,24 +1,37 @@
 //! All shortest tours of small instances, by trying every order.
 
+use crate::instance::STRUCK;
 use crate::lengths::{edge_count, Lengths};
 
 /// Boards up to this many points are tried.
 pub const MOST_POINTS: u16 = 9;
 
+/// What all shortest tours come to.
+pub struct Shortest {
+    pub length: i32,
+    /// For each edge, 1 if some shortest tour has it.
+    pub useful: Vec<u8>,
+}
+
 struct Tours<'a> {
     lengths: &'a Lengths<'a>,
     path: Vec<u16>,
-    shortest: i32,
-    /// 1 for each edge of a shortest tour.
-    used: Vec<u8>,
+    /// Of the tours tried so far.
+    shortest: Shortest,
 }
 
-/// For each edge, 1 if some shortest tour has it.
-pub fn useful_edges(lengths: &Lengths) -> Vec<u8> {
-    let used = vec![0; edge_count(lengths.order.n)];
-    let mut tours = Tours { lengths, path: vec![1], shortest: i32::MAX, used };
-    tours.extend(0);
-    tours.used
+impl Shortest {
+    pub fn of(lengths: &Lengths) -> Shortest {
+        let shortest = Shortest { length: i32::MAX, useful: vec![0; edge_count(lengths.order.n)] };
+        let mut tours = Tours { lengths, path: vec![1], shortest };
+        tours.extend(0);
+        tours.shortest
+    }
+
+    /// The first edge of a shortest tour that is struck, by its place.
+    pub fn lost_edge(&self, marks: &[u8]) -> Option<usize> {
+        self.useful.iter().zip(marks).position(|(&used, &mark)| used == 1 && mark == STRUCK)
+    }
 }
 
 impl Tours<'_> {
@@ -30,7 +43,7 @@ impl Tours<'_> {
         }
         for next in 2..=self.lengths.order.n {
             let longer = sum + self.lengths.between(at, next);
-            if longer <= self.shortest && !self.path.contains(&next) {
+            if longer <= self.shortest.length && !self.path.contains(&next) {
                 self.path.push(next);
                 self.extend(longer);
                 self.path.pop();
@@ -39,21 +52,17 @@ impl Tours<'_> {
     }
 
     fn closed(&mut self, length: i32) {
-        if length < self.shortest {
-            self.shortest = length;
-            self.used.fill(0);
+        let shortest = &mut self.shortest;
+        if length < shortest.length {
+            shortest.length = length;
+            shortest.useful.fill(0);
         }
-        if length == self.shortest {
+        if length == shortest.length {
             let mut at = self.path[self.path.len() - 1];
             for &next in &self.path {
-                self.used[self.lengths.order.place(at, next)] = 1;
+                shortest.useful[self.lengths.order.place(at, next)] = 1;
                 at = next;
             }
         }
     }
-}
-
-/// The first edge of a shortest tour that is struck, by its place.
-pub fn lost_edge(useful: &[u8], marks: &[u8]) -> Option<usize> {
-    useful.iter().zip(marks).position(|(&used, &mark)| used == 1 && mark == 0)
 }

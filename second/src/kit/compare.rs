@@ -4,11 +4,11 @@ use std::fmt::{self, Debug, Write};
 use std::path::PathBuf;
 
 use super::boards::{self, Board};
-use super::brute;
 use super::checker::Checker;
 use super::coverage::{Coverage, Event, Operation};
 use super::drafts::{sheet_bytes, Draft};
 use super::entered::Entered;
+use super::kept::Kept;
 use super::rng::Rng;
 use super::sheets::{self, Plan};
 use super::spoil::{self, Lent};
@@ -40,6 +40,9 @@ const PROGRAMS: usize = 25;
 /// Damaged sheets made from one valid sheet.
 const DAMAGED: usize = 6;
 
+/// Lines for edges that are kept, made in a round.
+const ATTEMPTS: usize = 2;
+
 impl<'a> Comparison<'a> {
     pub fn new(one: &'a dyn Checker, other: &'a dyn Checker, seed: u64) -> Self {
         Comparison { one, other, seed, case: 0, sheets: 0, save: None, saved: 0, coverage: Coverage::default() }
@@ -69,7 +72,8 @@ impl<'a> Comparison<'a> {
         Ok(())
     }
 
-    /// Damaged sheets on copies of the marks; noise and the valid sheet on the marks themselves.
+    /// Damaged sheets on copies of the marks; noise, lines for edges that are kept and the valid sheet on the marks
+    /// themselves.
     fn round(&mut self, rng: &mut Rng, run: &mut Run) -> Checked {
         let plan = Plan::random(rng, run.board.n);
         let draft = sheets::valid(rng, &Lengths::new(run.board.n, &run.board.table), &run.marks, plan);
@@ -84,6 +88,11 @@ impl<'a> Comparison<'a> {
         let mut marks = run.marks.clone();
         let noise = sheets::noise(rng, draft.n);
         self.sheet(rng, run, &mut marks, &noise)?;
+        for _ in 0..ATTEMPTS {
+            if let Some(sheet) = run.kept.as_ref().and_then(|kept| kept.attempt(rng)) {
+                self.sheet(rng, run, &mut marks, &sheet)?;
+            }
+        }
         if !draft.records.is_empty() {
             self.sheet(rng, run, &mut marks, &sheet_bytes(&draft.records))?;
         }
@@ -104,8 +113,8 @@ impl<'a> Comparison<'a> {
         let lines = self.marking(&mut lent, sheet)?;
         *marks = lent.marks;
         self.sheets += 1;
-        if let Some(useful) = &run.useful {
-            self.no_lost_edge(run, useful, marks, sheet, lines)?;
+        if let Some(kept) = &run.kept {
+            self.nothing_lost(&run.board, kept, marks, sheet, lines)?;
         }
         if self.other.program_is_cheap() || rng.chance(PROGRAMS) {
             self.program(rng, &run.board, sheet)?;
@@ -143,18 +152,13 @@ impl<'a> Comparison<'a> {
         }
     }
 
-    /// Demand 3 on a small board: no edge of a shortest tour is struck.
-    fn no_lost_edge(&mut self, run: &Run, useful: &[u8], marks: &[u8], sheet: &[u8], lines: u64) -> Checked {
-        self.coverage.event(Event::BruteForce, 1);
-        self.coverage.event(Event::BruteForceStrikes, lines);
-        match brute::lost_edge(useful, marks) {
-            None => Ok(()),
-            Some(place) => {
-                let lent = Lent::new(&run.board, marks);
-                let call = hex_call(lent.n, &lent.table, marks);
-                Err(self.difference("lost edge", format!("place {place}\n{call}sheet {}\n", hex(sheet))))
-            }
-        }
+    /// Demand 3 and Paper 9 on marks that a run has left.
+    fn nothing_lost(&mut self, board: &Board, kept: &Kept, marks: &[u8], sheet: &[u8], lines: u64) -> Checked {
+        kept.hold(board, marks, lines, &mut self.coverage).map_err(|(what, text)| {
+            let lent = Lent::new(board, marks);
+            let call = hex_call(lent.n, &lent.table, marks);
+            self.difference(what, format!("{text}{call}sheet {}\n", hex(sheet)))
+        })
     }
 
     /// *Measure*: the answer and every place of the table, also on refusals.
@@ -315,17 +319,16 @@ impl Debug for Shown<'_> {
 struct Run {
     board: Board,
     marks: Vec<u8>,
-    /// The edges of shortest tours, for a small board marked from fresh marks.
-    useful: Option<Vec<u8>>,
+    /// What they have to keep, if they come from fresh marks.
+    kept: Option<Kept>,
 }
 
 impl Run {
     fn new(board: Board, rng: &mut Rng) -> Run {
         let fresh = rng.chance(70);
         let marks = if fresh { vec![1; board.table.len()] } else { starting_marks(rng, &board) };
-        let small = fresh && board.n <= brute::MOST_POINTS;
-        let useful = small.then(|| brute::useful_edges(&Lengths::new(board.n, &board.table)));
-        Run { board, marks, useful }
+        let kept = fresh.then(|| Kept::new(rng, &board));
+        Run { board, marks, kept }
     }
 }
 

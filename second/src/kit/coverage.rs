@@ -65,11 +65,21 @@ pub enum Event {
     BruteForce,
     /// Strikes held against all shortest tours.
     BruteForceStrikes,
+    /// Marks with strikes, from fresh marks, whose open edges were counted.
+    OpenCounted,
+    /// Points and marks with the fewest open edges that Paper 9 allows.
+    TwoOpen,
+    LeastOpen,
+    /// Tours that three exchanges cannot shorten, held against such marks: on boards up to nine points and up to thirty,
+    /// and those that are longer than a tour that is known.
+    ThreeOptSmall,
+    ThreeOptLarge,
+    ThreeOptLonger,
 }
 
 use Event::*;
 
-const EVENTS: [(Event, &str); 20] = [
+const EVENTS: [(Event, &str); 26] = [
     (TourOpen, "tours with all edges open"),
     (TourStruck, "tours with a struck edge"),
     (NoPairs, "splits listed without a pair"),
@@ -90,6 +100,12 @@ const EVENTS: [(Event, &str); 20] = [
     (RecordsRefused, "program: records refused by 7"),
     (BruteForce, "marks held against all shortest tours"),
     (BruteForceStrikes, "strikes held against all shortest tours"),
+    (OpenCounted, "marks with strikes whose open edges were counted"),
+    (TwoOpen, "points left with two open edges"),
+    (LeastOpen, "marks left with n open edges"),
+    (ThreeOptSmall, "3-opt tours up to nine points, held against marks with strikes"),
+    (ThreeOptLarge, "3-opt tours of more points, held against marks with strikes"),
+    (ThreeOptLonger, "3-opt tours longer than another, held against marks with strikes"),
 ];
 
 #[derive(Clone, Default)]

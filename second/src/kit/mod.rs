@@ -8,6 +8,7 @@ pub mod coverage;
 pub mod drafts;
 pub mod entered;
 pub mod guarded;
+pub mod kept;
 pub mod naive;
 #[cfg(feature = "revosti")]
 pub mod revosti;
@@ -16,4 +17,5 @@ pub mod rules_met;
 pub mod search;
 pub mod sheets;
 pub mod spoil;
+pub mod three_opt;
 pub mod workloads;

@@ -124,7 +124,9 @@ impl Reader<'_> {
             if self.board.slip == Some(Slip::EarlyStrike) {
                 seen[place] = 0;
             }
-            self.chain(&seen, &[(a, b)], index, record[5], record[6], 1)?;
+            if record[6] != 0 || !self.board.waved_on(marks, (a, b)) {
+                self.chain(&seen, &[(a, b)], index, record[5], record[6], 1)?;
+            }
             marks[place] = 0;
             *accepted += 1;
             if record[7] == 0 {

@@ -155,4 +155,27 @@ impl<'a> Board<'a> {
             16
         }
     }
+
+    fn open_edges(&self, marks: &[u8], v: usize) -> usize {
+        self.edges.iter().zip(marks).filter(|&(e, &mark)| mark == 1 && (e.0 == v || e.1 == v)).count()
+    }
+
+    /// The length of the shortest tour that begins with `path`, from its last point on.
+    fn shortest_rest(&self, path: &[usize]) -> i64 {
+        let at = path[path.len() - 1];
+        let next = (1..=self.n).filter(|v| !path.contains(v));
+        let rest = next.map(|v| self.l(at, v) + self.shortest_rest(&[path, &[v]].concat()));
+        rest.min().unwrap_or(self.l(at, path[0]))
+    }
+
+    /// Whether a slip accepts a line for ab that has no cases.
+    pub fn waved_on(&self, marks: &[u8], (a, b): Edge) -> bool {
+        match self.slip {
+            Some(Slip::LastEdges) => [a, b].iter().any(|&v| self.open_edges(marks, v) <= 2),
+            Some(Slip::ShortestOnly) => {
+                self.n <= 9 && self.l(a, b) + self.shortest_rest(&[a, b]) > self.shortest_rest(&[a])
+            }
+            _ => false,
+        }
+    }
 }

@@ -52,10 +52,14 @@ pub enum Slip {
     MaxIsFirst,
     /// A rule 6.
     RuleSix,
+    /// A line without cases is accepted if an end of its edge has no more than two open edges.
+    LastEdges,
+    /// A line without cases is accepted if no shortest tour has its edge, on a board up to nine points.
+    ShortestOnly,
 }
 
 impl Slip {
-    pub const ALL: [Slip; 26] = [
+    pub const ALL: [Slip; 28] = [
         Slip::EqualShutsOut,
         Slip::EqualSaves,
         Slip::OneExchange,
@@ -82,5 +86,7 @@ impl Slip {
         Slip::ManIsMax,
         Slip::MaxIsFirst,
         Slip::RuleSix,
+        Slip::LastEdges,
+        Slip::ShortestOnly,
     ];
 }

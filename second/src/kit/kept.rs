@@ -1,0 +1,110 @@
+//! What marks keep through any run of sheets from fresh marks: the edges of all shortest tours (demand 3) and of tours that
+//! three exchanges cannot shorten, and so two open edges at every point and n in all (02, Paper 9).
+
+use std::cmp::Reverse;
+
+use super::boards::Board;
+use super::brute::{self, Shortest};
+use super::coverage::{Coverage, Event};
+use super::drafts::sheet_bytes;
+use super::rng::Rng;
+use super::three_opt;
+use crate::instance::OPEN;
+use crate::lengths::Lengths;
+use crate::sheet::Sheet;
+
+/// Tours sought on a board.
+const TOURS: usize = 8;
+
+/// What is known of a board before its run.
+pub struct Kept {
+    /// For boards that are small enough.
+    shortest: Option<Shortest>,
+    /// Tours that three exchanges cannot shorten, the longest first; none on a large board.
+    tours: Vec<Vec<u16>>,
+    /// How many of them are longer than the shortest tour that is known.
+    longer: usize,
+}
+
+/// What marks have lost: its name and what there is to see.
+pub type Loss = (&'static str, String);
+
+impl Kept {
+    pub fn new(rng: &mut Rng, board: &Board) -> Kept {
+        let lengths = Lengths::new(board.n, &board.table);
+        let shortest = (board.n <= brute::MOST_POINTS).then(|| Shortest::of(&lengths));
+        let tours = if board.n <= three_opt::MOST_POINTS { TOURS } else { 0 };
+        let mut tours: Vec<Vec<u16>> = (0..tours).map(|_| three_opt::search(rng, &lengths)).collect();
+        tours.sort_by_key(|tour| Reverse(three_opt::length(&lengths, tour)));
+        let found: Vec<i32> = tours.iter().map(|tour| three_opt::length(&lengths, tour)).collect();
+        let least = shortest.as_ref().map(|shortest| shortest.length).or(found.last().copied());
+        let longer = found.iter().filter(|&&length| Some(length) > least).count();
+        Kept { shortest, tours, longer }
+    }
+
+    /// A sheet with one line, without cases, for an edge of a tour, if there is one; of a longer one if possible.
+    pub fn attempt(&self, rng: &mut Rng) -> Option<Vec<u8>> {
+        let tours = if self.longer > 0 { &self.tours[..self.longer] } else { &self.tours };
+        let tour = tours.get(rng.below(tours.len().max(1)))?;
+        let (at, c) = (rng.below(tour.len()), rng.pick(tour));
+        Some(sheet_bytes(&[[Sheet::LINE, tour[at], tour[(at + 1) % tour.len()], 0, 0, c, 0, 0]]))
+    }
+
+    /// Holds marks that a run has left against all of this; `lines` are those that its last sheet struck.
+    pub fn hold(&self, board: &Board, marks: &[u8], lines: u64, coverage: &mut Coverage) -> Result<(), Loss> {
+        let lengths = Lengths::new(board.n, &board.table);
+        let open = open_edges(board.n, marks);
+        enough_open(&open)?;
+        self.count(&open, lines, coverage);
+        for tour in &self.tours {
+            if let Some((a, b)) = three_opt::lost_edge(&lengths, tour, marks) {
+                return Err(("3-opt tour", format!("edge {a}-{b} of {tour:?}\n")));
+            }
+        }
+        match self.shortest.as_ref().and_then(|shortest| shortest.lost_edge(marks)) {
+            Some(place) => Err(("lost edge", format!("place {place}\n"))),
+            None => Ok(()),
+        }
+    }
+
+    fn count(&self, open: &[usize], lines: u64, coverage: &mut Coverage) {
+        if self.shortest.is_some() {
+            coverage.event(Event::BruteForce, 1);
+            coverage.event(Event::BruteForceStrikes, lines);
+        }
+        let n = open.len();
+        let all: usize = open.iter().sum();
+        if all < n * (n - 1) {
+            coverage.event(Event::OpenCounted, 1);
+            let tours = if self.shortest.is_some() { Event::ThreeOptSmall } else { Event::ThreeOptLarge };
+            coverage.event(tours, self.tours.len() as u64);
+            coverage.event(Event::ThreeOptLonger, self.longer as u64);
+            coverage.event(Event::TwoOpen, open.iter().filter(|&&edges| edges == 2).count() as u64);
+            coverage.event(Event::LeastOpen, u64::from(all == 2 * n));
+        }
+    }
+}
+
+/// The number of open edges at each point.
+fn open_edges(n: u16, marks: &[u8]) -> Vec<usize> {
+    let n = usize::from(n);
+    let mut open = vec![0; n];
+    let edges = (0..n).flat_map(|a| (a + 1..n).map(move |b| (a, b)));
+    for ((a, b), _) in edges.zip(marks).filter(|&(_, &mark)| mark == OPEN) {
+        open[a] += 1;
+        open[b] += 1;
+    }
+    open
+}
+
+/// Two at each point, and n in all.
+fn enough_open(open: &[usize]) -> Result<(), Loss> {
+    if let Some(at) = open.iter().position(|&edges| edges < 2) {
+        return Err(("open edges", format!("{} at point {}\n", open[at], at + 1)));
+    }
+    let all = open.iter().sum::<usize>() / 2;
+    if all < open.len() {
+        return Err(("open edges", format!("{all} in all\n")));
+    }
+    Ok(())
+}
