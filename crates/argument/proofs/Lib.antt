@@ -10,3 +10,4 @@ pub mod Sheet
 pub mod SheetExact
 pub mod Safe
 pub mod Numbers
+pub mod Maps

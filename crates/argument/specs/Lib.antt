@@ -7,3 +7,4 @@ pub mod Walk
 pub mod Line
 pub mod Sheet
 pub mod Safety
+pub mod Maps
