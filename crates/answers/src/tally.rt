@@ -122,8 +122,7 @@ pub fn hold(t: Tally, got: u64, found: [u8; 7], number: u64, left: [u8; 7]) -> T
 }
 
 // Writes what is lent to an operation.
-pub fn given_text(operation: &[u8], n: u32, entries: u32, first: u32, bytes: usize, mark_1: u8) {
-    text(operation);
+pub fn given_text(n: u32, entries: u32, first: u32, bytes: usize, mark_1: u8) {
     figure(b" ", n as u64);
     figure(b" points, ", entries as u64);
     figure(b" lengths from ", first as u64);

@@ -1,4 +1,5 @@
--- What a call of *mark a sheet* changes: as many marks as it answers lines, each from open to struck, those of the edges that its lines strike.
+-- What a call of *mark a sheet* or *ask a sheet* changes: as many marks as it answers lines, each from open to the mark that its lines write, those
+-- of the edges that they strike.
 -- Assumes nothing.
 use Prim.Native.Nat.{ℕ, suc, _<_}
 use mathlib.Core.Path.{_≡_, refl, sym, _∙_, ap, subst}
@@ -7,39 +8,38 @@ use mathlib.Core.Logic.{_⊎_, inl, inr, _↔_, ⊎-elim}
 use mathlib.Core.List.{List, [], _∷_}
 use native.Mathlib.Decide.{ℕ-discrete}
 use native.Mathlib.Omega.{arith}
-use lib.ListN.{length, getD, set, length-set}
-use lib.Seq.{getD-set-same, getD-set-other}
-use borrow.Author.Tests.{eqb-true}
+use lib.ListN.{length}
 use Rattle.lengths.specs.Edge.{edge, IsEdge, edgeCount, place}
 use Rattle.lengths.proofs.Edges.{place-below}
 use Rattle.sets.specs.EdgeSet.{Joins, Has}
-use Rattle.marks.specs.Mark.{openIn, strikeIn}
+use Rattle.marks.specs.Mark.{markAt, setMark, openMark, openUpTo, openIn, markIn}
+use Rattle.marks.proofs.Marks.{mark-size, mark-same, mark-other, open-mark}
 use Rattle.tours.proofs.Edges.{joins-dec}
 use Rattle.argument.specs.Line.{Struck, strikes, CompleteAt, CompleteLine}
 use Rattle.argument.specs.Sheet.{Place, Result, struck, start, CompleteLines, Answers}
-use Rattle.sheets.specs.Rules.{rulesOf, markingOf}
+use Rattle.sheets.specs.Rules.{rulesOf, markingBy}
 use Rattle.demands.specs.Marked.{struckEdges, differences, Changes}
-use Rattle.demands.proofs.Strikes.{differences-none, differences-set, open-joined, length-struck, struck-same, struck-other}
+use Rattle.demands.proofs.Strikes.{differences-none, differences-set, open-joined, length-marked, marked-same, marked-other}
 
--- from `marks` to the marks at p as many have changed as lines were accepted, each from open to struck
-record Since (marks : List ℕ) (p : Place (List ℕ)) : Type 0 where
+-- from `marks` to the marks at p as many have changed as lines were accepted, each from open to the mark `by`
+record Since (by : ℕ) (marks : List ℕ) (p : Place (List ℕ)) : Type 0 where
   pub size : length (p .marks) ≡ length marks
-  pub each : (i : ℕ) → (getD (p .marks) i 0 ≡ getD marks i 0) ⊎ ((getD marks i 0 ≡ 1) × (getD (p .marks) i 0 ≡ 0))
+  pub each : (i : ℕ) → (markAt (p .marks) i ≡ markAt marks i) ⊎ ((markAt marks i ≡ openMark) × (markAt (p .marks) i ≡ by))
   pub counted : differences marks (p .marks) ≡ p .lines
 
-module _ (n : ℕ) (table sheet : List ℕ) where
+module _ (by : ℕ) (other : by ≡ openMark → ⊥) (n : ℕ) (table sheet : List ℕ) where
   line-edge : (marks : List ℕ) (i a b next high : ℕ) → CompleteLine (rulesOf n table marks) (openIn n marks) sheet i a b next high → IsEdge n a b
   line-edge marks i a b next high l = record { first = l .at-line .point-a; second = l .at-line .point-b; apart = l .at-line .apart }
 
-  -- a complete line finds its edge open, so the mark there is the one that the call found, and it becomes 0
-  since-line : (marks : List ℕ) (p : Place (List ℕ)) → length marks ≡ edgeCount n → Since marks p → (x : Struck) →
-      CompleteAt (rulesOf n table (p .marks)) (openIn n (p .marks)) sheet (p .index) x → Since marks (struck (markingOf n table) p x)
-  unfolding struck strikeIn openIn
+  -- a complete line finds its edge open, so the mark there is the one that the call found, and it becomes `by`
+  since-line : (marks : List ℕ) (p : Place (List ℕ)) → length marks ≡ edgeCount n → Since by marks p → (x : Struck) →
+      CompleteAt (rulesOf n table (p .marks)) (openIn n (p .marks)) sheet (p .index) x → Since by marks (struck (markingBy by n table) p x)
+  unfolding struck markIn openUpTo setMark markAt
   since-line marks p whole s (strikes a b next high) l =
       record {
-        size = length-set (p .marks) at 0 ∙ s .size;
-        each = λ i. by i (ℕ-discrete i at);
-        counted = differences-set marks (p .marks) at 0 (s .size) inside same (λ z. omega (arith, one, same)) ∙ ap suc (s .counted);
+        size = mark-size (p .marks) at by ∙ s .size;
+        each = λ i. where? i (ℕ-discrete i at);
+        counted = differences-set marks (p .marks) at by (s .size) inside same (λ z. other (sym z ∙ sym same ∙ one)) ∙ ap suc (s .counted);
       }
     where
       at : ℕ
@@ -48,78 +48,78 @@ module _ (n : ℕ) (table sheet : List ℕ) where
       inside : at < length (p .marks)
       inside = omega (arith, place-below (line-edge (p .marks) (p .index) a b next high l), s .size)
 
-      one : getD (p .marks) at 0 ≡ 1
-      one = eqb-true (getD (p .marks) at 0) 1 (l .at-line .is-open)
+      one : markAt (p .marks) at ≡ openMark
+      one = open-mark (p .marks) at (l .at-line .is-open)
 
-      same : getD (p .marks) at 0 ≡ getD marks at 0
-      same = ⊎-elim (λ e. e) (λ z. absurd (omega (arith, one, z .1))) (s .each at)
+      same : markAt (p .marks) at ≡ markAt marks at
+      same = ⊎-elim (λ e. e) (λ z. absurd (other (sym (z .1) ∙ one))) (s .each at)
 
-      by : (i : ℕ) → Dec (i ≡ at) → (getD (set (p .marks) at 0) i 0 ≡ getD marks i 0) ⊎ ((getD marks i 0 ≡ 1) × (getD (set (p .marks) at 0) i 0 ≡ 0))
-      by i (yes e) = rw e (inr (sym same ∙ one, getD-set-same (p .marks) at 0 0 inside))
-      by i (no d) = let o = getD-set-other (p .marks) at i 0 0 d in ⊎-elim (λ e. inl (o ∙ e)) (λ z. inr (z .0, o ∙ z .1)) (s .each i)
+      where? : (i : ℕ) → Dec (i ≡ at) → (markAt (setMark (p .marks) at by) i ≡ markAt marks i) ⊎ ((markAt marks i ≡ openMark) × (markAt (setMark (p .marks) at by) i ≡ by))
+      where? i (yes e) = rw e (inr (sym same ∙ one, mark-same (p .marks) at by inside))
+      where? i (no d) = let o = mark-other (p .marks) at i by (λ e. d (sym e)) in ⊎-elim (λ e. inl (o ∙ e)) (λ z. inr (z .0, o ∙ z .1)) (s .each i)
 
-  since-lines : (marks : List ℕ) → length marks ≡ edgeCount n → (xs : List Struck) (p q : Place (List ℕ)) → Since marks p → CompleteLines (markingOf n table) sheet p xs q → Since marks q
+  since-lines : (marks : List ℕ) → length marks ≡ edgeCount n → (xs : List Struck) (p q : Place (List ℕ)) → Since by marks p → CompleteLines (markingBy by n table) sheet p xs q → Since by marks q
   unfolding CompleteLines
-  since-lines marks whole [] p q s e = subst (Since marks) e s
-  since-lines marks whole (x ∷ xs) p q s h = since-lines marks whole xs (struck (markingOf n table) p x) q (since-line marks p whole s x (h .1)) (h .2)
+  since-lines marks whole [] p q s e = subst (Since by marks) e s
+  since-lines marks whole (x ∷ xs) p q s h = since-lines marks whole xs (struck (markingBy by n table) p x) q (since-line marks p whole s x (h .1)) (h .2)
 
   -- what is struck stays struck, and an edge that no line strikes stays as it is
   module _ (c d : ℕ) (cd : IsEdge n c d) where
-    stays-struck : (xs : List Struck) (p q : Place (List ℕ)) → length (p .marks) ≡ edgeCount n → CompleteLines (markingOf n table) sheet p xs q →
+    stays-struck : (xs : List Struck) (p q : Place (List ℕ)) → length (p .marks) ≡ edgeCount n → CompleteLines (markingBy by n table) sheet p xs q →
         openIn n (p .marks) c d ≡ false → openIn n (q .marks) c d ≡ false
     unfolding CompleteLines struck
     stays-struck [] p q whole e h = subst (λ (z : Place (List ℕ)). openIn n (z .marks) c d ≡ false) e h
     stays-struck (strikes a b next high ∷ xs) p q whole l h =
-        stays-struck xs (struck (markingOf n table) p (strikes a b next high)) q (length-struck n (p .marks) a b ∙ whole) (l .2) (by (joins-dec a b c d))
+        stays-struck xs (struck (markingBy by n table) p (strikes a b next high)) q (length-marked by n (p .marks) a b ∙ whole) (l .2) (after (joins-dec a b c d))
       where
         ab : IsEdge n a b
         ab = line-edge (p .marks) (p .index) a b next high (l .1)
 
-        by : Dec (Joins (edge a b) c d) → openIn n (strikeIn n (p .marks) a b) c d ≡ false
-        by (yes j) = struck-same (p .marks) ab whole c d j
-        by (no o) = struck-other (p .marks) ab cd o ∙ h
+        after : Dec (Joins (edge a b) c d) → openIn n (markIn by n (p .marks) a b) c d ≡ false
+        after (yes j) = marked-same by (p .marks) ab other whole c d j
+        after (no o) = marked-other by (p .marks) ab cd o ∙ h
 
     -- one line in front of others: its edge was open and is struck, and the others find every other edge as it was
     line-exactly :
         (marks left : List ℕ) (xs : List Struck) (a b : ℕ) → length marks ≡ edgeCount n → IsEdge n a b → openIn n marks a b ≡ true →
-        (openIn n (strikeIn n marks a b) c d ≡ false → openIn n left c d ≡ false) →
-        (Has (struckEdges xs) c d ↔ ((openIn n (strikeIn n marks a b) c d ≡ true) × (openIn n left c d ≡ false))) →
+        (openIn n (markIn by n marks a b) c d ≡ false → openIn n left c d ≡ false) →
+        (Has (struckEdges xs) c d ↔ ((openIn n (markIn by n marks a b) c d ≡ true) × (openIn n left c d ≡ false))) →
         Has (edge a b ∷ struckEdges xs) c d ↔ ((openIn n marks c d ≡ true) × (openIn n left c d ≡ false))
     line-exactly marks left xs a b whole ab o stays rest = (to, from (joins-dec a b c d))
       where
-        before : openIn n (strikeIn n marks a b) c d ≡ true → Dec (Joins (edge a b) c d) → openIn n marks c d ≡ true
-        before h (yes j) = absurd (false≢true (sym (struck-same marks ab whole c d j) ∙ h))
-        before h (no k) = sym (struck-other marks ab cd k) ∙ h
+        before : openIn n (markIn by n marks a b) c d ≡ true → Dec (Joins (edge a b) c d) → openIn n marks c d ≡ true
+        before h (yes j) = absurd (false≢true (sym (marked-same by marks ab other whole c d j) ∙ h))
+        before h (no k) = sym (marked-other by marks ab cd k) ∙ h
 
         to : Has (edge a b ∷ struckEdges xs) c d → (openIn n marks c d ≡ true) × (openIn n left c d ≡ false)
-        to (inl j) = (open-joined n marks a b c d j ∙ o, stays (struck-same marks ab whole c d j))
+        to (inl j) = (open-joined n marks a b c d j ∙ o, stays (marked-same by marks ab other whole c d j))
         to (inr h) = let r = rest .0 h in (before (r .0) (joins-dec a b c d), r .1)
 
         from : Dec (Joins (edge a b) c d) → (openIn n marks c d ≡ true) × (openIn n left c d ≡ false) → Has (edge a b ∷ struckEdges xs) c d
         from (yes j) h = inl j
-        from (no k) h = inr (rest .1 (struck-other marks ab cd k ∙ h .0, h .1))
+        from (no k) h = inr (rest .1 (marked-other by marks ab cd k ∙ h .0, h .1))
 
-    lines-exactly : (xs : List Struck) (p q : Place (List ℕ)) → length (p .marks) ≡ edgeCount n → CompleteLines (markingOf n table) sheet p xs q →
+    lines-exactly : (xs : List Struck) (p q : Place (List ℕ)) → length (p .marks) ≡ edgeCount n → CompleteLines (markingBy by n table) sheet p xs q →
         Has (struckEdges xs) c d ↔ ((openIn n (p .marks) c d ≡ true) × (openIn n (q .marks) c d ≡ false))
     unfolding CompleteLines struck
     lines-exactly [] p q whole e =
         (λ h. absurd h, λ h. absurd (false≢true (sym (h .1) ∙ sym (ap (λ (z : Place (List ℕ)). openIn n (z .marks) c d) e) ∙ h .0)))
     lines-exactly (strikes a b next high ∷ xs) p q whole l =
-        let p′ = struck (markingOf n table) p (strikes a b next high) in
-        let whole′ = length-struck n (p .marks) a b ∙ whole in
+        let p′ = struck (markingBy by n table) p (strikes a b next high) in
+        let whole′ = length-marked by n (p .marks) a b ∙ whole in
         line-exactly (p .marks) (q .marks) xs a b whole (line-edge (p .marks) (p .index) a b next high (l .1)) (l .1 .at-line .is-open)
         (stays-struck xs p′ q whole′ (l .2)) (lines-exactly xs p′ q whole′ (l .2))
 
   -- a call that passes the tests: the edges are those of its lines
-  pub chain-changes : (marks : List ℕ) → length marks ≡ edgeCount n → (r : Result (List ℕ)) (m : Answers (markingOf n table) sheet (start marks) r) →
-      Changes n marks (r .marks) (struckEdges (m .lines)) (r .lines)
+  pub chain-changes : (marks : List ℕ) → length marks ≡ edgeCount n → (r : Result (List ℕ)) (m : Answers (markingBy by n table) sheet (start marks) r) →
+      Changes by n marks (r .marks) (struckEdges (m .lines)) (r .lines)
   unfolding start
   chain-changes marks whole r m =
-      let begun : Since marks (start marks) = record { size = refl; each = λ i. inl refl; counted = differences-none marks } in
+      let begun : Since by marks (start marks) = record { size = refl; each = λ i. inl refl; counted = differences-none marks } in
       let s = since-lines marks whole (m .lines) (start marks) (m .place) begun (m .chain) in
       record {
         size = ap length (m .marks-left) ∙ s .size;
-        each = λ i. subst (λ (left : List ℕ). (getD left i 0 ≡ getD marks i 0) ⊎ ((getD marks i 0 ≡ 1) × (getD left i 0 ≡ 0))) (sym (m .marks-left)) (s .each i);
+        each = λ i. subst (λ (left : List ℕ). (markAt left i ≡ markAt marks i) ⊎ ((markAt marks i ≡ openMark) × (markAt left i ≡ by))) (sym (m .marks-left)) (s .each i);
         counted = ap (differences marks) (m .marks-left) ∙ s .counted ∙ sym (m .counted);
         exactly = λ a b ab.
             subst (λ (left : List ℕ). Has (struckEdges (m .lines)) a b ↔ ((openIn n marks a b ≡ true) × (openIn n left a b ≡ false))) (sym (m .marks-left))
@@ -127,8 +127,8 @@ module _ (n : ℕ) (table sheet : List ℕ) where
       }
 
 -- nothing changed
-pub no-changes : (n : ℕ) (marks : List ℕ) → Changes n marks marks [] 0
-no-changes n marks =
+pub no-changes : (by n : ℕ) (marks : List ℕ) → Changes by n marks marks [] 0
+no-changes by n marks =
     record {
       size = refl;
       each = λ i. inl refl;

@@ -1,4 +1,5 @@
--- DEMAND 2 for lines and sheets: what *mark a sheet* accepts, answers and changes, by 01's rules alone. Assumes nothing.
+-- DEMAND 2 for lines and sheets: what *mark a sheet* and *ask a sheet* accept, answer and change, by 01's rules alone. Both are `markBy`, whose
+-- accepted lines write the mark `by`, struck or pending; to both, open is mark 1. Assumes nothing.
 use Prim.Native.Nat.{ℕ}
 use mathlib.Core.Path.{_≡_, refl, sym, _∙_, ap, subst}
 use mathlib.Core.Bool.{Bool, true, false}
@@ -8,7 +9,7 @@ use native.Mathlib.Omega.{arith}
 use lib.ListN.{length}
 use Rattle.lengths.specs.Edge.{Edge}
 use Rattle.lists.specs.Test.{unless}
-use Rattle.marks.specs.Mark.{openIn}
+use Rattle.marks.specs.Mark.{openMark, openIn}
 use Rattle.argument.specs.Line.{Struck, strikes, judge, CompleteLine}
 use Rattle.argument.specs.Sheet.{Place, Result, start, sheet, CompleteLines, ended, Answers, RefusedAt}
 use Rattle.argument.specs.Verdict.{accepted, refused}
@@ -16,11 +17,11 @@ use Rattle.argument.proofs.Exact.{line-sound, line-complete}
 use Rattle.argument.proofs.Numbers.{refusal-told}
 use Rattle.argument.proofs.SheetExact.{chain-length, sheet-exact}
 use Rattle.sheets.proofs.Records.{sheet-records}
-use Rattle.sheets.specs.Rules.{rulesOf, markingOf}
+use Rattle.sheets.specs.Rules.{rulesOf, markingBy}
 use Rattle.sheets.specs.Sheet.{wholeSheet}
-use Rattle.marking.proofs.Tested.{passed}
-use Rattle.marking.specs.Mark.{markSheet, markTested, turnedDown}
-use Rattle.marking.specs.Tests.{tested}
+use Rattle.marking.proofs.Tested.{passed, ready-tested}
+use Rattle.marking.specs.Mark.{markBy, markTested, turnedDown}
+use Rattle.marking.specs.Tests.{ready}
 use Rattle.marking.specs.declared.tests.Tested.{Tested}
 use Rattle.marking.specs.declared.tests.Tested.the-variants.{Points, Refused}
 use Rattle.demands.specs.Marked.{Passes, struckEdges, Changes}
@@ -37,37 +38,37 @@ pub demand-2 :
 demand-2 n table marks sheet i a b next high =
     (line-sound (rulesOf n table marks) (lawful n table marks) sheet (openIn n marks) i a b next high, line-complete (rulesOf n table marks) (lawful n table marks) sheet (openIn n marks) i a b next high)
 
--- a call that passes tests 1 to 7 has its lines marked
-lines-marked : (n : ℕ) (table marks s : List ℕ) → Passes n table marks s → markSheet n table marks s ≡ sheet (markingOf n table) s marks
-unfolding markSheet
-lines-marked n table marks s p = rw (markSheet, p .points, p .whole)
+-- a call that passes the tests, 20 and 7 among them, has its lines marked
+lines-marked : (by n : ℕ) (table marks s : List ℕ) → Passes n table marks s → markBy by n table marks s ≡ sheet (markingBy by n table) s marks
+unfolding markBy
+lines-marked by n table marks s p = rw (markBy, p .points, p .whole)
 
--- DEMAND 2 for a sheet: a call that passes tests 1 to 7 answers r exactly when a chain of complete lines from record 1 on, each complete under
+-- DEMAND 2 for a sheet: a call that passes the tests up to 7 answers r exactly when a chain of complete lines from record 1 on, each complete under
 -- the marks that the lines before it leave, leads to a place where it stops (`Stops`: index 0, an index refused by 8 or 9, or a line that is
 -- not complete) with r's verdict, marks and number of lines. Each line is judged as `demand-2` says, one after the other (`sheet-exact`).
 pub demand-2-sheet :
-    (n : ℕ) (table marks s : List ℕ) → Passes n table marks s → (r : Result (List ℕ)) →
-    (markSheet n table marks s ≡ r) ↔ Answers (markingOf n table) s (start marks) r
-demand-2-sheet n table marks s p r =
-    let e = sheet-exact (markingOf n table) (lawful n table) s marks r in
-    (λ h. e .0 (sym (lines-marked n table marks s p) ∙ h), λ m. lines-marked n table marks s p ∙ e .1 m)
+    (by n : ℕ) (table marks s : List ℕ) → Passes n table marks s → (r : Result (List ℕ)) →
+    (markBy by n table marks s ≡ r) ↔ Answers (markingBy by n table) s (start marks) r
+demand-2-sheet by n table marks s p r =
+    let e = sheet-exact (markingBy by n table) (lawful n table) s marks r in
+    (λ h. e .0 (sym (lines-marked by n table marks s p) ∙ h), λ m. lines-marked by n table marks s p ∙ e .1 m)
 
 -- Every chain of complete lines that ends at index 0 is accepted whole, with its marks and its number of lines: it is an answer as
 -- `demand-2-sheet` says, which stops by index 0; and the place behind a chain has counted its lines.
 pub demand-2-whole :
-    (n : ℕ) (table marks s : List ℕ) → Passes n table marks s → (lines : List Struck) (q : Place (List ℕ)) →
-    CompleteLines (markingOf n table) s (start marks) lines q → q .index ≡ 0 →
-    markSheet n table marks s ≡ record { marks = q .marks; lines = length lines; verdict = accepted tt }
+    (by n : ℕ) (table marks s : List ℕ) → Passes n table marks s → (lines : List Struck) (q : Place (List ℕ)) →
+    CompleteLines (markingBy by n table) s (start marks) lines q → q .index ≡ 0 →
+    markBy by n table marks s ≡ record { marks = q .marks; lines = length lines; verdict = accepted tt }
 unfolding start
-demand-2-whole n table marks s p lines q chain z =
-    demand-2-sheet n table marks s p (record { marks = q .marks; lines = length lines; verdict = accepted tt }) .1
+demand-2-whole by n table marks s p lines q chain z =
+    demand-2-sheet by n table marks s p (record { marks = q .marks; lines = length lines; verdict = accepted tt }) .1
     (record {
       lines = lines;
       place = q;
       chain = chain;
       stops = ended z;
       marks-left = refl;
-      counted = let c = chain-length (markingOf n table) s lines (start marks) q chain in omega (arith, c);
+      counted = let c = chain-length (markingBy by n table) s lines (start marks) q chain in omega (arith, c);
     })
 
 -- A refusal after test 7 has a number from 8 to 16 and names one of the sheet's records. The index 1 is entered, since the sheet has a record.
@@ -75,33 +76,33 @@ demand-2-whole n table marks s p lines q chain z =
 -- of the walk, which names the record that it entered or the one that has the index, or by the closing, whose numbers are 15 and 16.
 -- So the answer that the walk would give if its fuel ran out, number 0, is none of a sheet.
 pub demand-2-refusal :
-    (n : ℕ) (table marks s : List ℕ) → Passes n table marks s → (number rec : ℕ) →
-    markSheet n table marks s .verdict ≡ refused number rec → RefusedAt s number rec
-demand-2-refusal n table marks s p number rec e =
-    refusal-told (markingOf n table) (lawful n table) s marks (markSheet n table marks s) (sheet-records s (p .whole) .some) (demand-2-sheet n table marks s p _ .0 refl) number rec e
+    (by n : ℕ) (table marks s : List ℕ) → Passes n table marks s → (number rec : ℕ) →
+    markBy by n table marks s .verdict ≡ refused number rec → RefusedAt s number rec
+demand-2-refusal by n table marks s p number rec e =
+    refusal-told (markingBy by n table) (lawful n table) s marks (markBy by n table marks s) (sheet-records s (p .whole) .some) (demand-2-sheet by n table marks s p _ .0 refl) number rec e
 
 -- The marks that a call changes are those of the edges that its accepted lines strike, as many as the lines that it answers, each open before.
 -- A complete line finds its edge open. No line opens an edge, so that mark is still the one that the call found, and it becomes 0: one mark
 -- more differs. What is struck stays struck, so the edges of all lines are struck at the end, and every other edge has the mark that it had.
 pub demand-2-struck :
-    (n : ℕ) (table marks s : List ℕ) → Passes n table marks s → (r : Result (List ℕ)) (m : Answers (markingOf n table) s (start marks) r) →
-    Changes n marks (r .marks) (struckEdges (m .lines)) (r .lines)
-demand-2-struck n table marks s p r m = chain-changes n table s marks (passed (p .points) .marked) r m
+    (by : ℕ) → (by ≡ openMark → ⊥) → (n : ℕ) (table marks s : List ℕ) → Passes n table marks s → (r : Result (List ℕ)) (m : Answers (markingBy by n table) s (start marks) r) →
+    Changes by n marks (r .marks) (struckEdges (m .lines)) (r .lines)
+demand-2-struck by other n table marks s p r m = chain-changes by other n table s marks (passed (ready-tested (p .points) .tests) .marked) r m
 
 -- And so for every call: one that fails a test of 1 to 7 accepts no line and changes nothing.
-pub demand-2-changes : (n : ℕ) (table marks s : List ℕ) → (struck : List Edge) × Changes n marks (markSheet n table marks s .marks) struck (markSheet n table marks s .lines)
-unfolding markSheet
-demand-2-changes n table marks s = by (tested n table marks) refl
+pub demand-2-changes : (by : ℕ) → (by ≡ openMark → ⊥) → (n : ℕ) (table marks s : List ℕ) → (struck : List Edge) × Changes by n marks (markBy by n table marks s .marks) struck (markBy by n table marks s .lines)
+unfolding markBy
+demand-2-changes by other n table marks s = tests (ready n table marks) refl
   where
     Found : Result (List ℕ) → Type 0
-    Found r = (struck : List Edge) × Changes n marks (r .marks) struck (r .lines)
+    Found r = (struck : List Edge) × Changes by n marks (r .marks) struck (r .lines)
 
-    whole : tested n table marks ≡ Points n → (b : Bool) → wholeSheet (length s) ≡ b → Found (unless b (turnedDown 7 marks) (sheet (markingOf n table) s marks))
+    whole : ready n table marks ≡ Points n → (b : Bool) → wholeSheet (length s) ≡ b → Found (unless b (turnedDown 7 marks) (sheet (markingBy by n table) s marks))
     whole e true w =
-        let m = sheet-exact (markingOf n table) (lawful n table) s marks (sheet (markingOf n table) s marks) .0 refl in
-        (struckEdges (m .lines), chain-changes n table s marks (passed e .marked) (sheet (markingOf n table) s marks) m)
-    whole e false w = ([], no-changes n marks)
+        let m = sheet-exact (markingBy by n table) (lawful n table) s marks (sheet (markingBy by n table) s marks) .0 refl in
+        (struckEdges (m .lines), chain-changes by other n table s marks (passed (ready-tested e .tests) .marked) (sheet (markingBy by n table) s marks) m)
+    whole e false w = ([], no-changes by n marks)
 
-    by : (t : Tested) → tested n table marks ≡ t → Found (markTested t table marks s)
-    by (Refused number) e = ([], no-changes n marks)
-    by (Points m) e = let same : m ≡ n = passed e .same in subst (λ (k : ℕ). Found (markTested (Points k) table marks s)) (sym same) (whole (e ∙ ap Points same) (wholeSheet (length s)) refl)
+    tests : (t : Tested) → ready n table marks ≡ t → Found (markTested by t table marks s)
+    tests (Refused number) e = ([], no-changes by n marks)
+    tests (Points m) e = let same : m ≡ n = passed (ready-tested e .tests) .same in subst (λ (k : ℕ). Found (markTested by (Points k) table marks s)) (sym same) (whole (e ∙ ap Points same) (wholeSheet (length s)) refl)

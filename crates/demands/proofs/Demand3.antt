@@ -8,28 +8,33 @@ use mathlib.Core.List.{List, [], _∷_, map}
 use native.Mathlib.Omega.{arith}
 use lib.ListN.{length, replicate}
 use borrow.Author.Tests.{le-leb}
-use Rattle.lengths.specs.Edge.{edgeCount}
+use Rattle.lengths.specs.Edge.{edgeCount, place}
 use Rattle.lengths.specs.Instance.{leastPoints, mostPoints, inRange}
 use Rattle.lengths.specs.Table.{lengthOf}
 use Rattle.lists.specs.Test.{unless}
 use Rattle.lengths.proofs.Edges.{edgeCount-tri, tri-suc, tri-mono, three-way}
-use Rattle.marks.specs.Mark.{openIn}
+use Rattle.marks.specs.Mark.{markAt, struckMark, openMark, pendingMark, opens, openUpTo, openIn}
+use Rattle.marks.specs.Pending.{settledAnswer, settledLeft}
+use Rattle.marks.specs.declared.pending.Settled.{Settled}
+use Rattle.marks.specs.declared.pending.Settled.the-variants as settling
+use Rattle.marks.proofs.Marks.{open-mark}
+use Rattle.marks.proofs.PendingMarks.{settled-size, settled-open}
 use Rattle.tours.specs.Tour.{Uses, Shortest, ThreeOptimal}
 use Rattle.tours.proofs.ThreeOptimal.{shortest-optimal}
 use Rattle.tours.proofs.TourNeighbours.{tour-edge}
 use Rattle.argument.specs.Sheet.{sheet, run}
 use Rattle.argument.proofs.Safe.{sheet-safe, run-keeps}
-use Rattle.sheets.specs.Rules.{markingOf}
+use Rattle.sheets.specs.Rules.{markingBy}
 use Rattle.sheets.specs.Sheet.{wholeSheet}
 use Rattle.endian.specs.Bytes.{whole16, whole32}
 use Rattle.marks.specs.Fresh.{freshAnswer, freshMarks, freshLeft}
 use Rattle.marks.proofs.FreshMarks.{fresh-left, fresh-size, fresh-open}
-use Rattle.marking.specs.Mark.{markSheet, markTested, turnedDown}
-use Rattle.marking.specs.Tests.{tested}
-use Rattle.marking.proofs.Tested.{passed}
+use Rattle.marking.specs.Mark.{markBy, markTested, turnedDown}
+use Rattle.marking.specs.Tests.{ready}
+use Rattle.marking.proofs.Tested.{passed, ready-tested}
 use Rattle.marking.specs.declared.tests.Tested.{Tested}
 use Rattle.marking.specs.declared.tests.Tested.the-variants.{Points, Refused}
-use Rattle.demands.specs.Run.{Call, markedBy, runOf, runInC}
+use Rattle.demands.specs.Run.{Step, marking, asking, confirming, withdrawing, stepped, stepsOf, stepsInC, Call, runOf, runInC}
 use Rattle.demands.proofs.Kept.{Kept, InTour, guarded}
 
 -- n(n - 1)/2 tells n from 1 on
@@ -45,29 +50,41 @@ edge-count-injective m n h g e =
 
 module _ {n : ℕ} (table : List ℕ) {t : List ℕ} (some : leastPoints ≤ n) (whole : length table ≡ edgeCount n) (best : ThreeOptimal n (lengthOf n table) t) where
   -- what the tests come to: a refusal changes no mark, and a call that passes states the n of the table
-  judged-kept : (m : ℕ) (s marks : List ℕ) → Kept n t marks → (r : Tested) → tested m table marks ≡ r → Kept n t (markTested r table marks s .marks)
-  judged-kept m s marks kept (Refused k) e = kept
-  judged-kept m s marks kept (Points p) e = by (wholeSheet (length s))
+  judged-kept : (by m : ℕ) (s marks : List ℕ) → Kept n t marks → (r : Tested) → ready m table marks ≡ r → Kept n t (markTested by r table marks s .marks)
+  judged-kept by m s marks kept (Refused k) e = kept
+  judged-kept by m s marks kept (Points p) e = sized (wholeSheet (length s))
     where
       same : p ≡ n
       same =
-          let r = passed e in
+          let r = passed (ready-tested e .tests) in
           edge-count-injective p n (omega (arith, r .least)) (omega arith) (sym (r .lengths .whole) ∙ whole)
 
-      marked : Kept n t (sheet (markingOf n table) s marks .marks)
-      marked = sheet-safe (markingOf n table) (InTour t) (Kept n t) (guarded table some best) s marks kept
+      marked : Kept n t (sheet (markingBy by n table) s marks .marks)
+      marked = sheet-safe (markingBy by n table) (InTour t) (Kept n t) (guarded table some best by) s marks kept
 
-      by : (b : Bool) → Kept n t (unless b (turnedDown 7 marks) (sheet (markingOf p table) s marks) .marks)
-      by true = subst (λ (q : ℕ). Kept n t (sheet (markingOf q table) s marks .marks)) (sym same) marked
-      by false = kept
+      sized : (b : Bool) → Kept n t (unless b (turnedDown 7 marks) (sheet (markingBy by p table) s marks) .marks)
+      sized true = subst (λ (q : ℕ). Kept n t (sheet (markingBy by q table) s marks .marks)) (sym same) marked
+      sized false = kept
 
-  -- a call leaves the tour's edges open, whatever n and sheet it states
-  call-kept : (m : ℕ) (s marks : List ℕ) → Kept n t marks → Kept n t (markSheet m table marks s .marks)
-  unfolding markSheet
-  call-kept m s marks kept = judged-kept m s marks kept (tested m table marks) refl
+  -- a sheet leaves the tour's edges open, marked or asked, whatever n and records it states
+  call-kept : (by m : ℕ) (s marks : List ℕ) → Kept n t marks → Kept n t (markBy by m table marks s .marks)
+  unfolding markBy
+  call-kept by m s marks kept = judged-kept by m s marks kept (ready m table marks) refl
 
-  pub run-kept : (calls : List Call) (marks : List ℕ) → Kept n t marks → Kept n t (runOf table calls marks)
-  run-kept = run-keeps (Kept n t) (markedBy table) (λ call marks k. call-kept (call .n) (call .sheet) marks k)
+  -- confirming and withdrawing change pending marks alone, and the tour's edges have mark 1
+  settle-kept : (mark : ℕ) (marks : List ℕ) → Kept n t marks → (r : Settled) → Kept n t (settledLeft r mark marks)
+  settle-kept mark marks kept (settling.Refused k rec) = kept
+  settle-kept mark marks kept settling.Done =
+      record { whole = settled-size mark marks ∙ kept .whole; all-open = λ a b u. settled-open mark n marks a b (kept .all-open a b u) }
+
+  step-kept : (step : Step) (marks : List ℕ) → Kept n t marks → Kept n t (stepped table step marks)
+  step-kept (marking m s) marks kept = call-kept struckMark m s marks kept
+  step-kept (asking m s) marks kept = call-kept pendingMark m s marks kept
+  step-kept (confirming m) marks kept = settle-kept struckMark marks kept (settledAnswer m marks)
+  step-kept (withdrawing m) marks kept = settle-kept openMark marks kept (settledAnswer m marks)
+
+  pub steps-kept : (steps : List Step) (marks : List ℕ) → Kept n t marks → Kept n t (stepsOf table steps marks)
+  steps-kept = run-keeps (Kept n t) (stepped table) step-kept
 
   -- fresh marks are all open
   pub fresh-kept : Kept n t (freshMarks n)
@@ -77,50 +94,93 @@ in-limits : {n : ℕ} → leastPoints ≤ n → n ≤ mostPoints → inRange n �
 unfolding inRange
 in-limits {n} some most = rw (inRange, le-leb leastPoints n some, le-leb n mostPoints most)
 
--- Take a tour of n points that no exchange of at most three edges shortens. On fresh marks all its edges are open. Suppose that they are
--- open before a call. If the call is refused before its first line, no mark changes. If not, it states the n of the table, since
--- n(n - 1)/2 tells n, and its lines are judged one after the other. An accepted line has a closed argument for its edge ab. If the tour used ab,
--- its own two neighbours of each split point would be a feasible pair, so the argument would have a case for them, and a further
--- split or a 3-opt closing that settles it; going down, some 3-opt closing would settle a set of edges that the tour uses, and one of its two moves
--- would shorten the tour. So ab is no edge of the tour, and striking it leaves the tour's edges open.
+-- THE RUN: for every n from 4 to 180, every table of n(n - 1)/2 lengths, every list of steps (marking, asking, confirming, withdrawing, each with
+-- the n it states) and every 3-optimal tour, each edge of the tour has mark 1 after the run that starts from the marks that *fresh marks*
+-- left in a buffer for this n: it is neither struck nor pending.
+-- On fresh marks all edges of the tour are open. Suppose that they are open before a step. If the step is a sheet that is refused before its
+-- first line, no mark changes. If not, it states the n of the table, since n(n - 1)/2 tells n, and its lines are judged one after the other. An
+-- accepted line has a closed argument for its edge ab. If the tour used ab, its own two neighbours of each split point would be a feasible
+-- pair, so the argument would have a case for them, and a further split or a 3-opt closing that settles it; going down, some 3-opt
+-- closing would settle a set of edges that the tour uses, and one of its two moves would shorten the tour. So ab is no edge of the tour, and
+-- another mark for ab leaves the tour's edges open. Confirming and withdrawing change pending marks alone, and no edge of the tour has one.
 pub three-optimal-open :
     (n : ℕ) → leastPoints ≤ n → n ≤ mostPoints → (table : List ℕ) → length table ≡ edgeCount n → (before : List ℕ) → length before ≡ edgeCount n →
-    (calls : List Call) (t : List ℕ) → ThreeOptimal n (lengthOf n table) t → (a b : ℕ) → Uses t a b →
-    openIn n (runOf table calls (freshLeft (freshAnswer n (length before)) n before)) a b ≡ true
-three-optimal-open n some most table whole before sized calls t best a b u =
-    let kept = run-kept table some whole best calls (freshMarks n) (fresh-kept table some whole best) in
-    rw (fresh-left n before (in-limits some most) sized) (kept .all-open a b u)
+    (steps : List Step) (t : List ℕ) → ThreeOptimal n (lengthOf n table) t → (a b : ℕ) → Uses t a b →
+    markAt (stepsOf table steps (freshLeft (freshAnswer n (length before)) n before)) (place n a b) ≡ openMark
+unfolding openUpTo
+three-optimal-open n some most table whole before sized steps t best a b u =
+    let kept = steps-kept table some whole best steps (freshMarks n) (fresh-kept table some whole best) in
+    rw (fresh-left n before (in-limits some most) sized) (open-mark _ (place n a b) (kept .all-open a b u))
 
--- DEMAND 3: for every n from 4 to 180, every table of n(n - 1)/2 lengths, every list of calls and every shortest tour, each edge of
--- the tour is open after the run that starts from the marks that *fresh marks* left in a buffer for this n.
+-- and so of every shortest tour
+pub shortest-open :
+    (n : ℕ) → leastPoints ≤ n → n ≤ mostPoints → (table : List ℕ) → length table ≡ edgeCount n → (before : List ℕ) → length before ≡ edgeCount n →
+    (steps : List Step) (t : List ℕ) → Shortest n (lengthOf n table) t → (a b : ℕ) → Uses t a b →
+    markAt (stepsOf table steps (freshLeft (freshAnswer n (length before)) n before)) (place n a b) ≡ openMark
+shortest-open n some most table whole before sized steps t best = three-optimal-open n some most table whole before sized steps t (shortest-optimal best)
+
+-- a run of *mark a sheet* alone is such a run
+marking-step : Call → Step
+marking-step call = marking (call .n) (call .sheet)
+
+run-steps : (table : List ℕ) (calls : List Call) (m : List ℕ) → runOf table calls m ≡ stepsOf table (map marking-step calls) m
+unfolding run marking-step
+run-steps table [] m = refl
+run-steps table (call ∷ calls) m = run-steps table calls _
+
+-- DEMAND 3: for every n from 4 to 180, every table of n(n - 1)/2 lengths, every list of calls of *mark a sheet* and every shortest tour, each
+-- edge of the tour is open after the run that starts from the marks that *fresh marks* left in a buffer for this n.
 pub demand-3 :
     (n : ℕ) → leastPoints ≤ n → n ≤ mostPoints → (table : List ℕ) → length table ≡ edgeCount n → (before : List ℕ) → length before ≡ edgeCount n →
     (calls : List Call) (t : List ℕ) → Shortest n (lengthOf n table) t → (a b : ℕ) → Uses t a b →
     openIn n (runOf table calls (freshLeft (freshAnswer n (length before)) n before)) a b ≡ true
-demand-3 n some most table whole before sized calls t best = three-optimal-open n some most table whole before sized calls t (shortest-optimal best)
+unfolding openUpTo
+demand-3 n some most table whole before sized calls t best a b u =
+    ap (λ (m : List ℕ). openIn n m a b) (run-steps table calls (freshLeft (freshAnswer n (length before)) n before))
+    ∙ ap (opens openMark) (shortest-open n some most table whole before sized (map marking-step calls) t best a b u)
 
--- a call over bytes is a call over the numbers that they are
-decoded : Call → Call
-decoded call = record { n = call .n; sheet = whole16 (call .sheet) }
+-- a step over bytes is a step over the numbers that they are
+decoded : Step → Step
+decoded (marking n s) = marking n (whole16 s)
+decoded (asking n s) = asking n (whole16 s)
+decoded (confirming n) = confirming n
+decoded (withdrawing n) = withdrawing n
 
-run-decoded : (table : List ℕ) (calls : List Call) (marks : List ℕ) → runInC table calls marks ≡ runOf (whole32 table) (map decoded calls) marks
+steps-decoded : (table : List ℕ) (steps : List Step) (m : List ℕ) → stepsInC table steps m ≡ stepsOf (whole32 table) (map decoded steps) m
 unfolding run decoded
-run-decoded table [] marks = refl
-run-decoded table (call ∷ calls) marks = run-decoded table calls _
+steps-decoded table [] m = refl
+steps-decoded table (marking n s ∷ steps) m = steps-decoded table steps _
+steps-decoded table (asking n s ∷ steps) m = steps-decoded table steps _
+steps-decoded table (confirming n ∷ steps) m = steps-decoded table steps _
+steps-decoded table (withdrawing n ∷ steps) m = steps-decoded table steps _
 
--- the same for runs of the function for C, from n(n - 1)/2 bytes of 1, which a C program writes: `table` and the sheets are bytes, and the
--- lengths are those that the table's bytes are
+-- the same for runs of the functions for C, from n(n - 1)/2 bytes of 1, which a C program writes or `revosti_fresh_marks` leaves: `table` and the
+-- sheets are bytes, and the lengths are those that the table's bytes are
 pub three-optimal-open-in-C :
     (n : ℕ) → leastPoints ≤ n → n ≤ mostPoints → (table : List ℕ) → length (whole32 table) ≡ edgeCount n →
-    (calls : List Call) (t : List ℕ) → ThreeOptimal n (lengthOf n (whole32 table)) t → (a b : ℕ) → Uses t a b →
-    openIn n (runInC table calls (replicate (edgeCount n) 1)) a b ≡ true
-unfolding freshMarks
-three-optimal-open-in-C n some most table whole calls t best a b u =
-    let kept = run-kept (whole32 table) some whole best (map decoded calls) (freshMarks n) (fresh-kept (whole32 table) some whole best) in
-    ap (λ (m : List ℕ). openIn n m a b) (run-decoded table calls (freshMarks n)) ∙ kept .all-open a b u
+    (steps : List Step) (t : List ℕ) → ThreeOptimal n (lengthOf n (whole32 table)) t → (a b : ℕ) → Uses t a b →
+    markAt (stepsInC table steps (replicate (edgeCount n) 1)) (place n a b) ≡ openMark
+unfolding freshMarks openUpTo
+three-optimal-open-in-C n some most table whole steps t best a b u =
+    let kept = steps-kept (whole32 table) some whole best (map decoded steps) (freshMarks n) (fresh-kept (whole32 table) some whole best) in
+    ap (λ (m : List ℕ). markAt m (place n a b)) (steps-decoded table steps (freshMarks n)) ∙ open-mark _ (place n a b) (kept .all-open a b u)
+
+pub shortest-open-in-C :
+    (n : ℕ) → leastPoints ≤ n → n ≤ mostPoints → (table : List ℕ) → length (whole32 table) ≡ edgeCount n →
+    (steps : List Step) (t : List ℕ) → Shortest n (lengthOf n (whole32 table)) t → (a b : ℕ) → Uses t a b →
+    markAt (stepsInC table steps (replicate (edgeCount n) 1)) (place n a b) ≡ openMark
+shortest-open-in-C n some most table whole steps t best = three-optimal-open-in-C n some most table whole steps t (shortest-optimal best)
+
+run-steps-in-C : (table : List ℕ) (calls : List Call) (m : List ℕ) → runInC table calls m ≡ stepsInC table (map marking-step calls) m
+unfolding run marking-step
+run-steps-in-C table [] m = refl
+run-steps-in-C table (call ∷ calls) m = run-steps-in-C table calls _
 
 pub demand-3-in-C :
     (n : ℕ) → leastPoints ≤ n → n ≤ mostPoints → (table : List ℕ) → length (whole32 table) ≡ edgeCount n →
     (calls : List Call) (t : List ℕ) → Shortest n (lengthOf n (whole32 table)) t → (a b : ℕ) → Uses t a b →
     openIn n (runInC table calls (replicate (edgeCount n) 1)) a b ≡ true
-demand-3-in-C n some most table whole calls t best = three-optimal-open-in-C n some most table whole calls t (shortest-optimal best)
+unfolding openUpTo
+demand-3-in-C n some most table whole calls t best a b u =
+    ap (λ (m : List ℕ). openIn n m a b) (run-steps-in-C table calls (replicate (edgeCount n) 1))
+    ∙ ap (opens openMark) (shortest-open-in-C n some most table whole (map marking-step calls) t best a b u)

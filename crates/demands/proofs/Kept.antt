@@ -12,16 +12,16 @@ use Rattle.lengths.specs.Instance.{leastPoints}
 use Rattle.lengths.specs.Table.{lengthOf}
 use Rattle.lengths.proofs.Tables.{length-symmetric}
 use Rattle.sets.specs.EdgeSet.{Joins, Has, closedEdges, withPair}
-use Rattle.marks.specs.Mark.{openIn, strikeIn}
+use Rattle.marks.specs.Mark.{openIn, markIn}
 use Rattle.rules.specs.Pair.{FeasiblePair}
 use Rattle.tours.specs.Tour.{Uses, ThreeOptimal, Symmetric}
 use Rattle.tours.proofs.Edges.{inside-cons, has-sym}
 use Rattle.tours.proofs.TourNeighbours.{tour-edge}
 use Rattle.argument.specs.Safety.{Upheld, Guarded}
-use Rattle.sheets.specs.Rules.{rulesOf, markingOf}
+use Rattle.sheets.specs.Rules.{rulesOf, markingBy}
 use Rattle.demands.proofs.Lawful.{lawful}
 use Rattle.demands.proofs.Optimal.{OwnPair, optimal-feasible, optimal-not-closed}
-use Rattle.demands.proofs.Strikes.{length-struck, struck-other}
+use Rattle.demands.proofs.Strikes.{length-marked, marked-other}
 
 -- the tour uses every edge of K
 abbrev pub InTour : List ℕ → List Edge → Type 0
@@ -54,22 +54,22 @@ module _ {n : ℕ} (table : List ℕ) {t : List ℕ} (some : leastPoints ≤ n) 
           unsettled = λ K p q r s uses c. optimal-not-closed best symmetric K uses p q r s c;
         }
 
-    -- striking an edge that the tour does not use leaves the tour's edges open
-    spared : (a b : ℕ) → IsEdge n a b → (InTour t (edge a b ∷ []) → ⊥) → Kept n t (strikeIn n marks a b)
-    spared a b e unused =
+    -- another mark for an edge that the tour does not use leaves the tour's edges open
+    spared : (by a b : ℕ) → IsEdge n a b → (InTour t (edge a b ∷ []) → ⊥) → Kept n t (markIn by n marks a b)
+    spared by a b e unused =
         record {
-          whole = length-struck n marks a b ∙ kept .whole;
-          all-open = λ c d u. struck-other marks e (used-edge c d u) (λ j. unused (inside-cons [] (closedEdges t) a b (used c d u j) (λ x y k. absurd k))) ∙ kept .all-open c d u;
+          whole = length-marked by n marks a b ∙ kept .whole;
+          all-open = λ c d u. marked-other by marks e (used-edge c d u) (λ j. unused (inside-cons [] (closedEdges t) a b (used c d u j) (λ x y k. absurd k))) ∙ kept .all-open c d u;
         }
       where
         used : (c d : ℕ) → Uses t c d → Joins (edge a b) c d → Uses t a b
         used c d u (inl s) = rw (s .0, s .1) u
         used c d u (inr s) = has-sym (closedEdges t) b a (rw (s .0, s .1) u)
 
-  pub guarded : Guarded (markingOf n table) (InTour t) (Kept n t)
-  guarded =
+  pub guarded : (by : ℕ) → Guarded (markingBy by n table) (InTour t) (Kept n t)
+  guarded by =
       record {
         lawful = λ m k. lawful n table m;
         upheld = upheld;
-        spares = λ m a b k pa pb ne o unused. spared m k a b (record { first = pa; second = pb; apart = ne }) unused;
+        spares = λ m a b k pa pb ne o unused. spared m k by a b (record { first = pa; second = pb; apart = ne }) unused;
       }

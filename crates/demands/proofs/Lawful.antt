@@ -1,6 +1,7 @@
 -- The rules of an instance are lawful, whatever the marks and lengths: what `argument` asks of rules. The tests that compute agree with the
 -- rules on every set that an argument comes to, since {ab} has the shape that they go by and a feasible pair keeps it. Assumes nothing.
 use Prim.Native.Nat.{ℕ, _≤_}
+use mathlib.Core.Bool.{Bool}
 use mathlib.Core.Path.{_≡_, refl, _∙_, ap}
 use mathlib.Core.Logic.{⊎-elim}
 use mathlib.Core.List.{List, [], _∷_}
@@ -20,7 +21,7 @@ use Rattle.sets.proofs.Exact.{shape-exact, kept-shape, single-shape}
 use Rattle.rules.proofs.PairLists.{feasiblePairs-rising}
 use Rattle.rules.proofs.PairTests.{feasiblePairs-iff}
 use Rattle.argument.specs.Rules.{NamesFeasible, Reached, single, grown, Lawful}
-use Rattle.sheets.specs.Rules.{rulesOf}
+use Rattle.sheets.specs.Rules.{rulesWhere, rulesOf}
 
 zero-settled : (c : ThreeOptOutcome) → refusalOf c ≡ 0 → c ≡ Settled
 unfolding refusalOf
@@ -45,29 +46,29 @@ Within n K = (u v : ℕ) → Has K u v → Point n u × Point n v
 within-edge : {n a b : ℕ} (K : List Edge) → Point n a → Point n b → Within n K → Within n (edge a b ∷ K)
 within-edge K p q w u v h = ⊎-elim (⊎-elim (λ e. (rw (e .0) at p, rw (e .1) at q)) (λ e. (rw (e .1) at q, rw (e .0) at p))) (w u v) h
 
-module _ (n : ℕ) (table marks : List ℕ) where
-  reached-shape : {K : List Edge} → Reached (rulesOf n table marks) K → Shape n K
+module _ (n : ℕ) (table : List ℕ) (open? : ℕ → ℕ → Bool) where
+  reached-shape : {K : List Edge} → Reached (rulesWhere n table open?) K → Shape n K
   reached-shape (single {a} {b} pa pb ne) = single-shape n a b ne
   reached-shape (grown {K} {c} {x} {y} r pc f) =
       kept-shape n K c x y (reached-shape r) (record { x-y = λ e. omega (arith, f .rising); x-c = f .apart-x; y-c = f .apart-y }) (f .two) (f .three)
 
-  reached-within : {K : List Edge} → Reached (rulesOf n table marks) K → Within n K
+  reached-within : {K : List Edge} → Reached (rulesWhere n table open?) K → Within n K
   unfolding withPair
   reached-within (single {a} {b} pa pb ne) = within-edge [] pa pb (λ u v h. absurd h)
   reached-within (grown {K} {c} {x} {y} r pc f) = within-edge (edge c y ∷ K) pc (f .point-x) (within-edge K pc (f .point-y) (reached-within r))
 
   -- the list that the search finds has exactly the feasible pairs
-  names-feasible : (K : List Edge) (c : ℕ) → Reached (rulesOf n table marks) K → NamesFeasible (rulesOf n table marks) K c (feasiblePairs n (lengthOf n table) (openIn n marks) K c)
+  names-feasible : (K : List Edge) (c : ℕ) → Reached (rulesWhere n table open?) K → NamesFeasible (rulesWhere n table open?) K c (feasiblePairs n (lengthOf n table) open? K c)
   names-feasible K c r =
       record {
-        rising = feasiblePairs-rising n (lengthOf n table) (openIn n marks) K c;
+        rising = feasiblePairs-rising n (lengthOf n table) open? K c;
         exactly = λ x y.
-            feasiblePairs-iff (lengthOf n table) (length-symmetric n table) n (openIn n marks) K c x y
+            feasiblePairs-iff (lengthOf n table) (length-symmetric n table) n open? K c x y
             (λ xc yc e. shape-exact n K c x y (reached-shape r) (record { x-y = λ q. omega (arith, e .up); x-c = xc; y-c = yc }));
       }
 
-  pub lawful : Lawful (rulesOf n table marks)
-  lawful =
+  pub lawful-where : Lawful (rulesWhere n table open?)
+  lawful-where =
       record {
         listed = names-feasible;
         settled = λ K p q r s h. settled-exact (lengthOf n table) K p q r s .0 (zero-settled (threeOptOutcome (lengthOf n table) K p q r s) h);
@@ -79,3 +80,7 @@ module _ (n : ℕ) (table marks : List ℕ) where
             (w p q (x .edge-of-K) .0, w p q (x .edge-of-K) .1, w r (c .x) (x .ends-r .has-x) .0, w s (c .z) (x .ends-s .has-x) .0);
         closing-number = λ K p q r s. refused-number (threeOptOutcome (lengthOf n table) K p q r s);
       }
+
+-- the rules of a sheet under its marks
+pub lawful : (n : ℕ) (table marks : List ℕ) → Lawful (rulesOf n table marks)
+lawful n table marks = lawful-where n table (openIn n marks)

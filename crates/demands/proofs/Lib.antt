@@ -1,3 +1,4 @@
+pub mod Asked
 pub mod Changed
 pub mod Demand2
 pub mod Demand3

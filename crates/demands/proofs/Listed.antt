@@ -12,12 +12,12 @@ use Rattle.endian.specs.Bytes.{bytes16}
 use Rattle.endian.proofs.Writing.{bytes-length}
 use Rattle.lengths.specs.Edge.{Edge, edge}
 use Rattle.lists.specs.Test.{unless}
-use Rattle.marks.specs.Mark.{openIn}
+use Rattle.marks.specs.Mark.{unstruckIn}
 use Rattle.argument.specs.Record.{splits, fits}
 use Rattle.argument.specs.Rules.{NamesFeasible, single}
 use Rattle.argument.proofs.Complete.{named-list}
 use Rattle.argument.proofs.Tests.{fits-means}
-use Rattle.sheets.specs.Rules.{rulesOf}
+use Rattle.sheets.specs.Rules.{rulesWhere}
 use Rattle.marking.proofs.Tested.{passed}
 use Rattle.enumeration.specs.Find.{pairsAt, numbersOf}
 use Rattle.marking.specs.Listing.{listTested, listed, listLeft, placesOf}
@@ -27,7 +27,7 @@ use Rattle.marking.specs.declared.listing.Listed.the-variants as listing
 use Rattle.marking.specs.declared.tests.Tested.{Tested}
 use Rattle.marking.specs.declared.tests.Tested.the-variants.{Points, Refused}
 use Rattle.demands.specs.Listed.{ListsFeasible}
-use Rattle.demands.proofs.Lawful.{lawful}
+use Rattle.demands.proofs.Lawful.{lawful-where}
 use Rattle.lists.proofs.Tests.{answered}
 
 length-numbers : (es : List Edge) → length (numbersOf es) ≡ 2 * length es
@@ -40,14 +40,14 @@ not-pairs e = let z : _≡_ {A = ℕ} 0 1 = cc in omega arith
 
 module _ (n : ℕ) (table marks : List ℕ) (a b c : ℕ) where
   -- the pairs of a call that passes test 11 are the feasible ones
-  pairs-feasible : fits n a b (splits c 0) ≡ true → NamesFeasible (rulesOf n table marks) (edge a b ∷ []) c (pairsAt n table marks a b c)
+  pairs-feasible : fits n a b (splits c 0) ≡ true → NamesFeasible (rulesWhere n table (unstruckIn n marks)) (edge a b ∷ []) c (pairsAt n table marks a b c)
   unfolding pairsAt
   pairs-feasible h =
       let f = fits-means n a b (splits c 0) h in
-      lawful n table marks .listed (edge a b ∷ []) c (single (f .point-a) (f .point-b) (f .apart))
+      lawful-where n table (unstruckIn n marks) .listed (edge a b ∷ []) c (single (f .point-a) (f .point-b) (f .apart))
 
   -- "x then y for each pair", 16 bits each, and the rest as it was
-  pairs-written : (list : List ℕ) (count : ℕ) → NamesFeasible (rulesOf n table marks) (edge a b ∷ []) c (pairsAt n table marks a b c) → count ≡ length (pairsAt n table marks a b c) → 2 * count ≤ placesOf list →
+  pairs-written : (list : List ℕ) (count : ℕ) → NamesFeasible (rulesWhere n table (unstruckIn n marks)) (edge a b ∷ []) c (pairsAt n table marks a b c) → count ≡ length (pairsAt n table marks a b c) → 2 * count ≤ placesOf list →
       ListsFeasible n table marks a b c list (bytes16 (numbersOf (pairsAt n table marks a b c)) ++ drop (4 * count) list) count
   pairs-written list count f counted room =
       let written : List ℕ = bytes16 (numbersOf (pairsAt n table marks a b c)) in
@@ -78,7 +78,7 @@ module _ (n : ℕ) (table marks : List ℕ) (a b c : ℕ) where
               ListsFeasible n table marks a b c list (bytes16 (numbersOf (pairsAt n table marks a b c)) ++ drop (4 * count) list) count
           whole z =
               let z1 = answered (fits n a b (splits c 0)) _ _ _ not-pairs z in
-              let z2 = answered (openIn n marks a b) _ _ _ not-pairs (z1 .1) in
+              let z2 = answered (unstruckIn n marks a b) _ _ _ not-pairs (z1 .1) in
               let z3 = answered (leb (2 * length (pairsAt n table marks a b c)) (placesOf list)) _ _ _ not-pairs (z2 .1) in
               let found : listing.Pairs (length (pairsAt n table marks a b c)) ≡ listing.Pairs count = z3 .1 in
               let counted : count ≡ length (pairsAt n table marks a b c) = cc in
@@ -86,10 +86,10 @@ module _ (n : ℕ) (table marks : List ℕ) (a b c : ℕ) where
 
   -- and what a call answers that passes tests 1 to 12: 18 where the list has fewer than twice as many places as there are feasible pairs, else
   -- their number. Only one list has exactly the feasible pairs, rising (`named-list`).
-  pub demand-2-count : tested n table marks ≡ Points n → fits n a b (splits c 0) ≡ true → openIn n marks a b ≡ true → (pairs : List Edge) → NamesFeasible (rulesOf n table marks) (edge a b ∷ []) c pairs →
+  pub demand-2-count : tested n table marks ≡ Points n → fits n a b (splits c 0) ≡ true → unstruckIn n marks a b ≡ true → (pairs : List Edge) → NamesFeasible (rulesWhere n table (unstruckIn n marks)) (edge a b ∷ []) c pairs →
       (size : ℕ) → listed n table marks a b c size ≡ unless (leb (2 * length pairs) size) (listing.Refused 18 0) (listing.Pairs (length pairs))
   unfolding listed pairsAt
   demand-2-count t f o pairs named size =
       let p = fits-means n a b (splits c 0) f in
-      let e = named-list (rulesOf n table marks) (lawful n table marks) [] (edge a b ∷ []) c pairs (single (p .point-a) (p .point-b) (p .apart)) named in
+      let e = named-list (rulesWhere n table (unstruckIn n marks)) (lawful-where n table (unstruckIn n marks)) [] (edge a b ∷ []) c pairs (single (p .point-a) (p .point-b) (p .apart)) named in
       rw (listed, t, f, o, e)

@@ -1,7 +1,7 @@
--- After any run of sheets every point has at least two open edges, and at least n edges are open: a shortest tour exists, its edges are
--- open by demand 3, and a tour has two edges at each point and n different edges. Assumes nothing.
+-- After any run of steps every point has at least two open edges, and at least n edges are open: a shortest tour exists, its edges are
+-- open after it, and a tour has two edges at each point and n different edges. Assumes nothing.
 use Prim.Native.Nat.{ℕ, _≤_}
-use mathlib.Core.Path.{_≡_, refl, _∙_}
+use mathlib.Core.Path.{_≡_, refl, _∙_, ap}
 use mathlib.Core.Bool.{true}
 use mathlib.Core.Logic.{inl, inr}
 use mathlib.Core.List.{List, [], _∷_}
@@ -11,7 +11,7 @@ use Rattle.lengths.specs.Edge.{Point, Edge, edge, IsEdge, edgeCount}
 use Rattle.lengths.specs.Instance.{leastPoints, mostPoints}
 use Rattle.lengths.specs.Table.{lengthOf}
 use Rattle.sets.specs.EdgeSet.{Joins, Has, closedEdges}
-use Rattle.marks.specs.Mark.{openIn, openCount, strikeIn}
+use Rattle.marks.specs.Mark.{struckMark, openMark, opens, openUpTo, openIn, openCount, strikeIn}
 use Rattle.marks.specs.Degree.{openDegree}
 use Rattle.marks.specs.Fresh.{freshAnswer, freshLeft}
 use Rattle.marks.proofs.Degrees.{degree-two}
@@ -20,10 +20,10 @@ use Rattle.tours.proofs.Count.{tour-once, tour-length}
 use Rattle.tours.proofs.Edges.{mark, mark-true, has-total, one, length-one}
 use Rattle.tours.proofs.TourNeighbours.{tour-edge, uses-once, TourNeighbours, tour-neighbours}
 use Rattle.endian.specs.Bytes.{whole32}
-use Rattle.demands.specs.Run.{Call, runOf, runInC}
-use Rattle.demands.proofs.Demand3.{demand-3, demand-3-in-C}
+use Rattle.demands.specs.Run.{Step, stepsOf, stepsInC}
+use Rattle.demands.proofs.Demand3.{shortest-open, shortest-open-in-C}
 use Rattle.demands.proofs.Exists.{shortest-exists}
-use Rattle.demands.proofs.Strikes.{struck-count, struck-other}
+use Rattle.demands.proofs.Strikes.{struck-count, marked-other}
 
 -- Edges of n points, none of them twice and all of them open, are no more than the open marks. Strike the first: one open mark is gone, and
 -- the others are as they were, so that the rest are no more than the open marks left.
@@ -46,7 +46,7 @@ open-few {n} (edge a b ∷ es) marks edges once opens =
     another c d h j = omega (arith, once c d (inr h), mark-true c d a b j, has-total es c d h)
 
     opens-after : (c d : ℕ) → Has es c d → openIn n (strikeIn n marks a b) c d ≡ true
-    opens-after c d h = struck-other marks (edges a b here) (edges c d (inr h)) (another c d h) ∙ opens c d (inr h)
+    opens-after c d h = marked-other struckMark marks (edges a b here) (edges c d (inr h)) (another c d h) ∙ opens c d (inr h)
 
 -- marks in which every edge of a tour is open
 module _ {n : ℕ} (some : leastPoints ≤ n) {t : List ℕ} (T : Tour n t) (marks : List ℕ) (opens : (a b : ℕ) → Uses t a b → openIn n marks a b ≡ true) where
@@ -67,37 +67,41 @@ module _ {n : ℕ} (some : leastPoints ≤ n) {t : List ℕ} (T : Tour n t) (mar
         open-few (closedEdges t) marks (tour-edge T (omega arith)) (uses-once t (tour-once T) (omega (arith, tour-length T))) opens,
       )
 
--- PAPER 9: after any run of sheets every point has at least two open edges, and at least n edges are open.
--- Some tour is shortest under the table's lengths, and after the run all its edges are open, by demand 3. A point v stands in it once, and n is
+-- PAPER 9: after any run of marking, asking, confirming and withdrawing every point has at least two open edges, and at least n edges are open.
+-- Some tour is shortest under the table's lengths, and after the run all its edges are open (`shortest-open`). A point v stands in it once, and n is
 -- at least 3, so the points before and after v are two, neither of them v: two open edges at v. The tour has n edges and none of them
 -- twice: without v it is a path that does not come by v, so an edge at v is one of the two that join v to the path's ends, and these differ.
 -- An edge has one mark, and different edges have different ones. Strike the n edges one after the other: each was open until then, so each takes
 -- one open mark away. So at least n were open.
 pub two-open-edges :
     (n : ℕ) → leastPoints ≤ n → n ≤ mostPoints → (table : List ℕ) → length table ≡ edgeCount n → (before : List ℕ) → length before ≡ edgeCount n →
-    (calls : List Call) (v : ℕ) → Point n v → 2 ≤ openDegree n (runOf table calls (freshLeft (freshAnswer n (length before)) n before)) v
-two-open-edges n some most table whole before sized calls =
+    (steps : List Step) (v : ℕ) → Point n v → 2 ≤ openDegree n (stepsOf table steps (freshLeft (freshAnswer n (length before)) n before)) v
+unfolding openUpTo
+two-open-edges n some most table whole before sized steps =
     let s = shortest-exists n (lengthOf n table) in
-    tour-degree some (s .1 .tour) _ (demand-3 n some most table whole before sized calls (s .0) (s .1))
+    tour-degree some (s .1 .tour) _ (λ a b u. ap (opens openMark) (shortest-open n some most table whole before sized steps (s .0) (s .1) a b u))
 
 pub n-open-edges :
     (n : ℕ) → leastPoints ≤ n → n ≤ mostPoints → (table : List ℕ) → length table ≡ edgeCount n → (before : List ℕ) → length before ≡ edgeCount n →
-    (calls : List Call) → n ≤ openCount (runOf table calls (freshLeft (freshAnswer n (length before)) n before))
-n-open-edges n some most table whole before sized calls =
+    (steps : List Step) → n ≤ openCount (stepsOf table steps (freshLeft (freshAnswer n (length before)) n before))
+unfolding openUpTo
+n-open-edges n some most table whole before sized steps =
     let s = shortest-exists n (lengthOf n table) in
-    tour-count some (s .1 .tour) _ (demand-3 n some most table whole before sized calls (s .0) (s .1))
+    tour-count some (s .1 .tour) _ (λ a b u. ap (opens openMark) (shortest-open n some most table whole before sized steps (s .0) (s .1) a b u))
 
--- both for runs of the function for C, as `demand-3-in-C`
+-- both for runs of the functions for C
 pub two-open-edges-in-C :
     (n : ℕ) → leastPoints ≤ n → n ≤ mostPoints → (table : List ℕ) → length (whole32 table) ≡ edgeCount n →
-    (calls : List Call) (v : ℕ) → Point n v → 2 ≤ openDegree n (runInC table calls (replicate (edgeCount n) 1)) v
-two-open-edges-in-C n some most table whole calls =
+    (steps : List Step) (v : ℕ) → Point n v → 2 ≤ openDegree n (stepsInC table steps (replicate (edgeCount n) 1)) v
+unfolding openUpTo
+two-open-edges-in-C n some most table whole steps =
     let s = shortest-exists n (lengthOf n (whole32 table)) in
-    tour-degree some (s .1 .tour) _ (demand-3-in-C n some most table whole calls (s .0) (s .1))
+    tour-degree some (s .1 .tour) _ (λ a b u. ap (opens openMark) (shortest-open-in-C n some most table whole steps (s .0) (s .1) a b u))
 
 pub n-open-edges-in-C :
     (n : ℕ) → leastPoints ≤ n → n ≤ mostPoints → (table : List ℕ) → length (whole32 table) ≡ edgeCount n →
-    (calls : List Call) → n ≤ openCount (runInC table calls (replicate (edgeCount n) 1))
-n-open-edges-in-C n some most table whole calls =
+    (steps : List Step) → n ≤ openCount (stepsInC table steps (replicate (edgeCount n) 1))
+unfolding openUpTo
+n-open-edges-in-C n some most table whole steps =
     let s = shortest-exists n (lengthOf n (whole32 table)) in
-    tour-count some (s .1 .tour) _ (demand-3-in-C n some most table whole calls (s .0) (s .1))
+    tour-count some (s .1 .tour) _ (λ a b u. ap (opens openMark) (shortest-open-in-C n some most table whole steps (s .0) (s .1) a b u))

@@ -1,4 +1,4 @@
--- What striking one edge does to the marks. Assumes nothing.
+-- What the mark of one edge that a line writes does to the marks. Assumes nothing.
 use Prim.Native.Nat.{ℕ, zero, suc, _+_, _<_}
 use mathlib.Core.Path.{_≡_, refl, sym, _∙_, ap}
 use mathlib.Core.Bool.{Bool, true, false}
@@ -6,14 +6,14 @@ use mathlib.Core.Logic.{⊎-elim, inl, inr}
 use mathlib.Core.List.{List, [], _∷_}
 use native.Mathlib.Omega.{arith}
 use lib.Dec.{eqb}
-use lib.ListN.{length, getD, set, length-set}
-use lib.Seq.{getD-set-same, getD-set-other}
-use borrow.Author.Tests.{eq-eqb, ne-eqb, eqb-true}
+use lib.ListN.{length, getD, set}
+use borrow.Author.Tests.{eq-eqb, ne-eqb}
 use Rattle.lists.proofs.Count.{count-set}
 use Rattle.lengths.specs.Edge.{edge, IsEdge, edgeCount, place}
 use Rattle.lengths.proofs.Edges.{place-below, place-injective, place-symmetric}
 use Rattle.sets.specs.EdgeSet.{Joins}
-use Rattle.marks.specs.Mark.{openMark, struckMark, openCount, openIn, strikeIn}
+use Rattle.marks.specs.Mark.{markAt, setMark, openMark, struckMark, opens, openAt, openUpTo, openCount, openIn, markIn, strikeIn}
+use Rattle.marks.proofs.Marks.{mark-size, mark-same, mark-other, open-one, open-mark}
 use Rattle.demands.specs.Marked.{differences}
 
 -- nothing differs from itself
@@ -42,30 +42,32 @@ place-joined n a b c d (inl e) = rw (sym (e .0), sym (e .1))
 place-joined n a b c d (inr e) = rw (sym (e .0), sym (e .1)) (place-symmetric n b a)
 
 pub open-joined : (n : ℕ) (marks : List ℕ) (a b c d : ℕ) → Joins (edge a b) c d → openIn n marks c d ≡ openIn n marks a b
-unfolding openIn
-open-joined n marks a b c d j = ap (λ (i : ℕ). eqb (getD marks i 0) 1) (place-joined n a b c d j)
+unfolding openUpTo
+open-joined n marks a b c d j = ap (openAt openMark marks) (place-joined n a b c d j)
 
-pub length-struck : (n : ℕ) (marks : List ℕ) (a b : ℕ) → length (strikeIn n marks a b) ≡ length marks
-unfolding strikeIn
-length-struck n marks a b = length-set marks (place n a b) 0
+pub length-marked : (by n : ℕ) (marks : List ℕ) (a b : ℕ) → length (markIn by n marks a b) ≡ length marks
+unfolding markIn
+length-marked by n marks a b = mark-size marks (place n a b) by
 
 -- striking an open edge leaves one open edge less
 pub struck-count : (n : ℕ) (marks : List ℕ) (a b : ℕ) → openIn n marks a b ≡ true → openCount marks ≡ 1 + openCount (strikeIn n marks a b)
-unfolding openIn strikeIn
+unfolding openUpTo markIn markAt setMark
 struck-count n marks a b h =
-    count-set openMark struckMark 0 (λ e. omega arith) (λ e. omega arith) marks (place n a b) (eqb-true (getD marks (place n a b) 0) openMark h)
+    count-set openMark struckMark 0 (λ e. omega arith) (λ e. omega arith) marks (place n a b) (open-mark marks (place n a b) h)
 
-module _ {n : ℕ} (marks : List ℕ) {a b : ℕ} (ab : IsEdge n a b) where
-  -- the struck edge is not open, in either order of its points
-  pub struck-same : length marks ≡ edgeCount n → (c d : ℕ) → Joins (edge a b) c d → openIn n (strikeIn n marks a b) c d ≡ false
-  unfolding openIn strikeIn
-  struck-same whole c d j =
-      ap (λ (m : ℕ). eqb m 1)
-      (ap (λ (i : ℕ). getD (set marks (place n a b) 0) i 0) (place-joined n a b c d j) ∙ getD-set-same marks (place n a b) 0 0 (omega (arith, place-below ab)))
+module _ (by : ℕ) {n : ℕ} (marks : List ℕ) {a b : ℕ} (ab : IsEdge n a b) where
+  -- an edge that gets another mark than 1 is not open to a sheet, in either order of its points
+  pub marked-same : (by ≡ openMark → ⊥) → length marks ≡ edgeCount n → (c d : ℕ) → Joins (edge a b) c d → openIn n (markIn by n marks a b) c d ≡ false
+  unfolding openUpTo markIn
+  marked-same other whole c d j =
+      ap (openAt openMark (setMark marks (place n a b) by)) (place-joined n a b c d j)
+      ∙ ap (opens openMark) (mark-same marks (place n a b) by (omega (arith, place-below ab)))
+      ∙ open-one by
+      ∙ ne-eqb by openMark other
 
   -- any other edge keeps its mark
-  pub struck-other : {c d : ℕ} → IsEdge n c d → (Joins (edge a b) c d → ⊥) → openIn n (strikeIn n marks a b) c d ≡ openIn n marks c d
-  unfolding openIn strikeIn
-  struck-other {c} {d} cd other =
-      ap (λ (m : ℕ). eqb m 1)
-      (getD-set-other marks (place n a b) (place n c d) 0 0 (λ e. other (⊎-elim (λ s. inl (sym (s .0), sym (s .1))) (λ s. inr (sym (s .1), sym (s .0))) (place-injective cd ab e))))
+  pub marked-other : {c d : ℕ} → IsEdge n c d → (Joins (edge a b) c d → ⊥) → openIn n (markIn by n marks a b) c d ≡ openIn n marks c d
+  unfolding openUpTo markIn
+  marked-other {c} {d} cd other =
+      ap (opens openMark)
+      (mark-other marks (place n a b) (place n c d) by (λ e. other (⊎-elim (λ s. inl (s .0, s .1)) (λ s. inr (s .0, s .1)) (place-injective ab cd e))))

@@ -7,13 +7,15 @@ use lib.ListN.{length, take, drop}
 use Rattle.endian.specs.Bytes.{bytes16}
 use Rattle.lengths.specs.Edge.{Edge, edge}
 use Rattle.argument.specs.Rules.{NamesFeasible}
-use Rattle.sheets.specs.Rules.{rulesOf}
+use Rattle.marks.specs.Mark.{unstruckIn}
+use Rattle.sheets.specs.Rules.{rulesWhere}
 use Rattle.enumeration.specs.Find.{numbersOf}
 
--- the list's bytes, once `list` and now `left`, begin with those of the pairs that are feasible under {ab} at c, and nothing past them changed
+-- the list's bytes, once `list` and now `left`, begin with those of the pairs that are feasible under {ab} at c, where a pending edge counts as
+-- open, and nothing past them changed
 pub record ListsFeasible (n : ℕ) (table marks : List ℕ) (a b c : ℕ) (list left : List ℕ) (count : ℕ) : Type 0 where
   pub pairs : List Edge
-  pub feasible : NamesFeasible (rulesOf n table marks) (edge a b ∷ []) c pairs
+  pub feasible : NamesFeasible (rulesWhere n table (unstruckIn n marks)) (edge a b ∷ []) c pairs
   pub counted : count ≡ length pairs
   pub front : take (4 * count) left ≡ bytes16 (numbersOf pairs)
   pub past : drop (4 * count) left ≡ drop (4 * count) list

@@ -14,7 +14,7 @@ use Rattle.lengths.specs.Edge.{Edge, edge, edges}
 use Rattle.lengths.specs.asks.Edge.{IsEdgeUp}
 use Rattle.lengths.specs.Table.{lengthOf}
 use Rattle.sets.specs.Joined.{joins?}
-use Rattle.marks.specs.Mark.{openIn}
+use Rattle.marks.specs.Mark.{pendingMark, unstruckIn}
 use Rattle.search.specs.asks.Pairs.{passes?}
 use Rattle.rules.specs.Pairs.{keep}
 use Rattle.search.specs.asks.Split.{Prepared, SingleAsked, SplitOf}
@@ -27,9 +27,9 @@ use Rattle.enumeration.specs.asks.Find.{unbarred?, barredIn, passesApart
 pub single-asked : {n : ℕ} {table marks : List ℕ} {a b c : ℕ} {found : List ℕ} {k : EdgeSet} → FindAsked n table marks a b c found → Single a b k → SingleAsked n table marks k c
 single-asked {n} g s = record { legs = g .legs; held = s .held n (g .first) (g .second); one = s .one }
 
-pub prepared-single : {n : ℕ} {table marks : List ℕ} {a b c : ℕ} {k : EdgeSet} {legs : List ℕ} {bound : ℕ} → Single a b k → SplitOf n table marks k c legs bound
-    → Prepared n (lengthOf n table) (openIn n marks) (edge a b ∷ []) c legs bound
-prepared-single {n} {table} {marks} {c = c} {legs = legs} {bound = bound} k p = subst (λ (K : List Edge). Prepared n (lengthOf n table) (openIn n marks) K c legs bound) (k .edges) (p .prepared)
+pub prepared-single : {n : ℕ} {table marks : List ℕ} {a b c : ℕ} {k : EdgeSet} {legs : List ℕ} {bound : ℕ} → Single a b k → SplitOf pendingMark n table marks k c legs bound
+    → Prepared n (lengthOf n table) (unstruckIn n marks) (edge a b ∷ []) c legs bound
+prepared-single {n} {table} {marks} {c = c} {legs = legs} {bound = bound} k p = subst (λ (K : List Edge). Prepared n (lengthOf n table) (unstruckIn n marks) K c legs bound) (k .edges) (p .prepared)
 
 same-found : {ps qs : List Edge} {count : ℕ} {found : List ℕ} → ps ≡ qs → Found ps count found → Found qs count found
 same-found e f = record { counted = f .counted ∙ ap length e; front = f .front ∙ ap numbersOf e; few = f .few; room = f .room }
@@ -37,7 +37,7 @@ same-found e f = record { counted = f .counted ∙ ap length e; front = f .front
 -- c is a point of ab
 
 module _ {n : ℕ} {table marks : List ℕ} {a b c : ℕ} {found₀ legs : List ℕ} {bound : ℕ} (g : FindAsked n table marks a b c found₀)
-    (p : Prepared n (lengthOf n table) (openIn n marks) (edge a b ∷ []) c legs bound) where
+    (p : Prepared n (lengthOf n table) (unstruckIn n marks) (edge a b ∷ []) c legs bound) where
   end-found : {other count : ℕ} {found : List ℕ} → EndOf (edge a b ∷ []) c other → Found (keep (atEnd? n table legs bound other) (edges n)) count found
       → Found (pairsAt n table marks a b c) count found
   unfolding pairsAt atEnd?
@@ -119,7 +119,7 @@ barred-edge {a} {b} {low} {high} o x z first up = go (o .points)
     go (inr e) = barred-down low high x z (o .rises) first up ∙ ap₂ (λ (p q : ℕ). joins? p q x z) (sym (e .0)) (sym (e .1))
 
 module _ {n : ℕ} {table marks : List ℕ} {a b c : ℕ} {found₀ legs : List ℕ} {bound : ℕ} (g : FindAsked n table marks a b c found₀)
-    (p : Prepared n (lengthOf n table) (openIn n marks) (edge a b ∷ []) c legs bound) (c-a : c ≡ a → ⊥) (c-b : c ≡ b → ⊥) where
+    (p : Prepared n (lengthOf n table) (unstruckIn n marks) (edge a b ∷ []) c legs bound) (c-a : c ≡ a → ⊥) (c-b : c ≡ b → ⊥) where
   apart-pairs : {low high : ℕ} → Ordered a b low high → keep (passesApart? n table legs bound low high) (edges n) ≡ pairsAt n table marks a b c
   unfolding pairsAt passesApart? unbarred?
   apart-pairs {low} {high} o = single-pairs (g .legs .lengths) p (g .least) (g .apart) c-a c-b (passesApart? n table legs bound low high) same

@@ -3,12 +3,12 @@ use Prim.Native.Nat.{ℕ}
 use mathlib.Core.List.{List, [], _∷_}
 use Rattle.lengths.specs.Edge.{Edge, edge}
 use Rattle.lengths.specs.Table.{lengthOf}
-use Rattle.marks.specs.Mark.{openIn}
+use Rattle.marks.specs.Mark.{unstruckIn}
 use Rattle.rules.specs.Pairs.{feasiblePairs}
 
--- the feasible pairs of {ab} at c
+-- the feasible pairs of {ab} at c; the pair list counts a pending edge as open
 unfoldable pub pairsAt : ℕ → List ℕ → List ℕ → ℕ → ℕ → ℕ → List Edge
-pairsAt n table marks a b c = feasiblePairs n (lengthOf n table) (openIn n marks) (edge a b ∷ []) c
+pairsAt n table marks a b c = feasiblePairs n (lengthOf n table) (unstruckIn n marks) (edge a b ∷ []) c
 
 -- x then y for each pair
 unfoldable pub numbersOf : List Edge → List ℕ

@@ -118,7 +118,8 @@ fn tour(
     figure(b", byte 8 is ", last as u64);
     text(b":");
     let points = [1, 0, 2, 0, 3, 0, 4, last, 0, 0, 0, 0, 0, 0, 0, 0];
-    let got = check(n, table_of(high), table, bytes, mark_1, points, size);
+    let fresh = [mark_1, 1, 1, 1, 1, 1, 1];
+    let got = check(n, table_of(high), table, fresh, bytes, points, size);
     figure(b" ", got);
     figure(b", should be ", number);
     t.judged(got == number)
@@ -175,14 +176,15 @@ fn long_sheets(t: Tally) -> Tally {
 
 // No whole number of entries, and the other refusals of the call.
 fn sizes(t: Tally) -> Tally {
-    subject(b"mark a sheet for C: 1, 2, 5, 6, 7");
+    subject(b"mark a sheet for C: 1, 2, 5, 6, 20, 7");
     let t = lent(t, 3, 12, 0, 3, 1, 16, 1);
     let t = lent(t, 4, 23, 0, 6, 1, 16, 2);
     let t = lent(t, 4, 25, 0, 6, 1, 16, 2);
     let t = lent(t, 4, 20, 0, 6, 1, 16, 2);
     let t = lent(t, 4, 24, 1, 6, 1, 16, 5);
     let t = lent(t, 4, 24, 0, 5, 1, 16, 6);
-    let t = lent(t, 4, 24, 0, 6, 2, 16, 6);
+    let t = lent(t, 4, 24, 0, 6, 3, 16, 6);
+    let t = lent(t, 4, 24, 0, 6, 2, 16, 20);
     let t = lent(t, 4, 24, 0, 6, 1, 0, 7);
     let t = lent(t, 4, 24, 0, 6, 1, 14, 7);
     let t = lent(t, 4, 24, 0, 6, 1, 15, 7);
@@ -206,6 +208,7 @@ fn tours(t: Tally) -> Tally {
     subject(b"check a tour for C: 65536 length + 256 open; 1, 2, 5, 6, 17");
     let t = tour(t, 4, 24, 0, 6, 1, 8, 0, 2_621_696);
     let t = tour(t, 4, 24, 0, 6, 0, 8, 0, 2_621_440);
+    let t = tour(t, 4, 24, 0, 6, 2, 8, 0, 2_621_696);
     let t = tour(t, 3, 12, 0, 3, 1, 6, 0, 1);
     let t = tour(t, 4, 23, 0, 6, 1, 8, 0, 2);
     let t = tour(t, 4, 25, 0, 6, 1, 8, 0, 2);

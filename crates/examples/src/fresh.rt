@@ -1,4 +1,4 @@
-// "Fresh marks": each refusal and their order. A refused call leaves the marks as they were, 0202020.
+// "Fresh marks": each refusal and their order. A refused call leaves the marks as they were, 0230230: 3 is no mark.
 use answers::data::some_bytes;
 use answers::tally::Tally;
 use answers::tally::figure;
@@ -9,7 +9,7 @@ use check::same;
 use revosti::fresh::revosti_fresh_marks;
 
 // Marks that nothing was written to.
-const UNTOUCHED: [u8; 7] = [0, 2, 0, 2, 0, 2, 0];
+const UNTOUCHED: [u8; 7] = [0, 2, 3, 0, 2, 3, 0];
 
 // Makes so many marks of n points fresh.
 fn fresh(t: Tally, n: u32, size: usize, number: u64, left: [u8; 7]) -> Tally {

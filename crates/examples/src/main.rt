@@ -4,6 +4,7 @@ mod c;
 mod fresh;
 mod measure;
 mod pairs;
+mod pending;
 mod tour_checks;
 
 use answers::tally::Tally;
@@ -14,5 +15,6 @@ fn main() {
     let t = pairs::run(t);
     let t = tour_checks::run(t);
     let t = c::run(t);
+    let t = pending::run(t);
     t.print();
 }

@@ -35,5 +35,9 @@ pub const TOUR: u8 = 17;
 
 pub const LIST: u8 = 18;
 
+pub const SOMETHING_PENDING: u8 = 20;
+
+pub const NOTHING_PENDING: u8 = 21;
+
 // The record of a refusal where no record is at fault.
 pub const NO_RECORD: u16 = 0;

@@ -12,7 +12,7 @@ use Rattle.endian.specs.Bytes.{bytes16}
 use Rattle.endian.specs.asks.Bytes.{EncodeAsked}
 use Rattle.lengths.specs.Edge.{Edge, edgeCount}
 use Rattle.lists.specs.Test.{unless}
-use Rattle.marks.specs.Mark.{openIn}
+use Rattle.marks.specs.Mark.{unstruckIn}
 use Rattle.marks.specs.asks.Mark.{MarkAsked}
 use Rattle.argument.specs.Record.{splits, fits}
 use Rattle.argument.proofs.Tests.{Fits, fits-means}
@@ -37,7 +37,7 @@ pub record Fitted (n : ℕ) (table marks : List ℕ) (m a b c : ℕ) : Type 0 wh
 -- and test 12
 pub record Listable (n : ℕ) (table marks : List ℕ) (m a b c : ℕ) : Type 0 where
   pub fitted : Fitted n table marks m a b c
-  pub is-open : openIn m marks a b ≡ true
+  pub is-open : unstruckIn m marks a b ≡ true
 
 module _ {n : ℕ} {table marks : List ℕ} {m a b c : ℕ} where
   fitting : Fitted n table marks m a b c → Fits m a b (splits c 0)
@@ -86,7 +86,7 @@ module _ (n : ℕ) (table marks : List ℕ) (a b c : ℕ) where
     unfolding listTests
     tests-points p e = rw (listTests, p .answer, e)
 
-    pub tests-struck : Fitted n table marks m a b c → openIn m marks a b ≡ false → tests.Refused 12 ≡ listTests n table marks a b c
+    pub tests-struck : Fitted n table marks m a b c → unstruckIn m marks a b ≡ false → tests.Refused 12 ≡ listTests n table marks a b c
     unfolding listTests
     tests-struck f e = rw (listTests, f .passed .answer, f .fit, e)
 
@@ -114,7 +114,7 @@ module _ (n : ℕ) (table marks : List ℕ) (a b c : ℕ) where
     where
       by : (t : Tested) → askTested t marks a b c ≡ tests.Refused k → listTested t table marks a b c size ≡ Refused k 0
       by (tests.Refused j) e = let q : j ≡ k = cc in ap (λ (i : ℕ). Refused i 0) q
-      by (tests.Points m) e = refused-at (fits m a b (splits c 0)) (openIn m marks a b) m k _ e
+      by (tests.Points m) e = refused-at (fits m a b (splits c 0)) (unstruckIn m marks a b) m k _ e
 
   pub tests-passed : {m : ℕ} → listTests n table marks a b c ≡ tests.Points m → Listable n table marks m a b c
   unfolding listTests
@@ -123,10 +123,10 @@ module _ (n : ℕ) (table marks : List ℕ) (a b c : ℕ) where
       by : (t : Tested) → tested n table marks ≡ t → askTested t marks a b c ≡ tests.Points m → Listable n table marks m a b c
       by (tests.Refused j) e g = absurd (let z : _≡_ {A = ℕ} 0 1 = cc in omega arith)
       by (tests.Points i) e g =
-          let p = passed-at (fits i a b (splits c 0)) (openIn i marks a b) i m g in
+          let p = passed-at (fits i a b (splits c 0)) (unstruckIn i marks a b) i m g in
           record {
             fitted = record { passed = passed (e ∙ ap tests.Points (p .0)); fit = ap (λ (j : ℕ). fits j a b (splits c 0)) (sym (p .0)) ∙ p .1 .0 };
-            is-open = ap (λ (j : ℕ). openIn j marks a b) (sym (p .0)) ∙ p .1 .1;
+            is-open = ap (λ (j : ℕ). unstruckIn j marks a b) (sym (p .0)) ∙ p .1 .1;
           }
 
 module _ {n : ℕ} {table marks : List ℕ} {a b c : ℕ} {list : List ℕ} where

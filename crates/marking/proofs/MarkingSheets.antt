@@ -1,4 +1,4 @@
--- "Mark a sheet" in code: room for the rows of lengths that its lines are marked by, and one lemma for each way out of `markSheet`.
+-- "Mark a sheet" in code: room for the rows of lengths that its lines are marked by, and one lemma for each way out of `markBy`.
 -- Assumes nothing.
 use Prim.Native.Nat.{ℕ, _+_, _*_, _≤_}
 use mathlib.Core.Path.{_≡_, sym, _∙_, ap}
@@ -13,7 +13,7 @@ use Rattle.argument.specs.Sheet.{Result, sheet}
 use Rattle.sheets.proofs.Records.{sheet-records, sheet-admitted, sheet-refused}
 use Rattle.sheet_lines.specs.asks.Line.{RowsAsked}
 use Rattle.sheets.specs.Verdict.{resultOf}
-use Rattle.sheets.specs.Rules.{markingOf}
+use Rattle.sheets.specs.Rules.{markingBy}
 use Rattle.sheets.specs.Sheet.{wholeSheet}
 use Rattle.sheets.specs.asks.Sheet.{sheetAdmission}
 use Rattle.sheets.specs.asks.Walk.{Admitted}
@@ -22,9 +22,9 @@ use Rattle.sheets.specs.declared.sheet.SheetAdmission.{SheetAdmission}
 use Rattle.sheets.specs.declared.sheet.SheetAdmission.the-variants as admitting
 use Rattle.sheets.specs.declared.verdict.Verdict.{Verdict}
 use Rattle.sheets.specs.declared.verdict.Verdict.the-variants as verdict
-use Rattle.marking.proofs.Tested.{passed}
-use Rattle.marking.specs.Mark.{turnedDown, markTested, markSheet}
-use Rattle.marking.specs.Tests.{tested}
+use Rattle.marking.proofs.Tested.{passed, ready-tested}
+use Rattle.marking.specs.Mark.{turnedDown, markTested, markBy}
+use Rattle.marking.specs.Tests.{ready}
 use Rattle.marking.specs.declared.tests.Tested.{Tested}
 use Rattle.marking.specs.declared.tests.Tested.the-variants.{Points, Refused}
 
@@ -34,34 +34,36 @@ rows-room {n} most a h e =
     let up : n + 1 ≤ most + 1 = omega arith in
     record { admitted = a; room = omega (arith, mul-le-mul up up) }
 
+-- a sheet that the tests pass is admitted with its instance
+pub sheet-admits : (n : ℕ) {table marks s : List ℕ} {r : Tested} {p : ℕ} {a : SheetAdmission} {x : declared.Sheet} → r ≡ ready n table marks → r ≡ Points p
+    → a ≡ sheetAdmission (length s) → a ≡ admitting.Admitted x → Admitted p table marks s (x .records)
+unfolding records
+sheet-admits n {s = s} e g w z =
+    let t = passed (ready-tested (sym e ∙ g) .tests) in
+    let i = sheet-admitted (sym w ∙ z) in
+    let h = sheet-records s (i .passed) in
+    record { least = t .least; lengths = t .lengths; marked = t .marked; whole = record { exact = h .whole; counted = i .counted }; few = h .few }
+
 -- the ways out
 
 turns-down : {v : Verdict} {number : ℕ} (marks : List ℕ) → v ≡ verdict.Refused number 0 0 → resultOf v marks ≡ turnedDown number marks
 turns-down marks h = ap (λ (v : Verdict). resultOf v marks) h
 
-module _ (n : ℕ) (table marks s : List ℕ) {r : Tested} (e : r ≡ tested n table marks) where
-  as-tested : {r′ : Tested} → r ≡ r′ → markTested r′ table marks s ≡ markSheet n table marks s
-  unfolding markSheet
-  as-tested g = ap (λ (t : Tested). markTested t table marks s) (sym g ∙ e)
+module _ (by n : ℕ) (table marks s : List ℕ) {r : Tested} (e : r ≡ ready n table marks) where
+  as-tested : {r′ : Tested} → r ≡ r′ → markTested by r′ table marks s ≡ markBy by n table marks s
+  unfolding markBy
+  as-tested g = ap (λ (t : Tested). markTested by t table marks s) (sym g ∙ e)
 
-  pub sheet-untested : {number : ℕ} {v : Verdict} → r ≡ Refused number → v ≡ verdict.Refused number 0 0 → resultOf v marks ≡ markSheet n table marks s
+  pub sheet-untested : {number : ℕ} {v : Verdict} → r ≡ Refused number → v ≡ verdict.Refused number 0 0 → resultOf v marks ≡ markBy by n table marks s
   sheet-untested g h = turns-down marks h ∙ as-tested g
 
   module _ {p : ℕ} (g : r ≡ Points p) {a : SheetAdmission} (w : a ≡ sheetAdmission (length s)) where
-    as-whole : (b : Bool) → wholeSheet (length s) ≡ b → unless b (turnedDown 7 marks) (sheet (markingOf p table) s marks) ≡ markSheet n table marks s
-    as-whole b h = ap (λ (t : Bool). unless t (turnedDown 7 marks) (sheet (markingOf p table) s marks)) (sym h) ∙ as-tested g
+    as-whole : (b : Bool) → wholeSheet (length s) ≡ b → unless b (turnedDown 7 marks) (sheet (markingBy by p table) s marks) ≡ markBy by n table marks s
+    as-whole b h = ap (λ (t : Bool). unless t (turnedDown 7 marks) (sheet (markingBy by p table) s marks)) (sym h) ∙ as-tested g
 
-    pub sheet-not-whole : {v : Verdict} → a ≡ admitting.Refused → v ≡ verdict.Refused 7 0 0 → resultOf v marks ≡ markSheet n table marks s
+    pub sheet-not-whole : {v : Verdict} → a ≡ admitting.Refused → v ≡ verdict.Refused 7 0 0 → resultOf v marks ≡ markBy by n table marks s
     sheet-not-whole z h = turns-down marks h ∙ as-whole false (sheet-refused (length s) (sym w ∙ z))
 
     module _ {x : declared.Sheet} (z : a ≡ admitting.Admitted x) where
-      pub sheet-admits : Admitted p table marks s (x .records)
-      unfolding records
-      sheet-admits =
-          let t = passed (sym e ∙ g) in
-          let i = sheet-admitted (sym w ∙ z) in
-          let h = sheet-records s (i .passed) in
-          record { least = t .least; lengths = t .lengths; marked = t .marked; whole = record { exact = h .whole; counted = i .counted }; few = h .few }
-
-      pub sheet-marked : {v : Result (List ℕ)} → v ≡ sheet (markingOf p table) s marks → v ≡ markSheet n table marks s
+      pub sheet-marked : {v : Result (List ℕ)} → v ≡ sheet (markingBy by p table) s marks → v ≡ markBy by n table marks s
       sheet-marked q = q ∙ as-whole true (sheet-admitted (sym w ∙ z) .passed)

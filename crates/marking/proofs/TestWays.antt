@@ -1,18 +1,19 @@
--- The shared tests: `tested` at each way out of `test_instance`. Assumes nothing.
+-- The shared tests: `tested` at each way out of `test_instance`, and `ready` at each of `test_ready`. Assumes nothing.
 use Prim.Native.Nat.{ℕ}
 use mathlib.Core.Path.{_≡_, refl, sym, _∙_, ap}
 use mathlib.Core.Bool.{Bool, true, false}
 use mathlib.Core.List.{List}
 use lib.ListN.{length}
 use borrow.Author.Tests.{eq-eqb, ne-eqb}
-use Rattle.marks.specs.Mark.{areMarks}
+use Rattle.marks.specs.Mark.{areMarks, nonePending}
 use Rattle.lengths.specs.Edge.{edgeCount}
 use Rattle.lengths.specs.Instance.{inRange, admission, mostLength}
 use Rattle.lists.specs.Test.{allAtMost, unless}
 use Rattle.lengths.specs.declared.instance.Admission.the-variants.{OutOfRange}
 use Rattle.lengths.specs.declared.instance.Instance.{Instance}
 use Rattle.lengths.proofs.Instances.{Admits, out-of-range}
-use Rattle.marking.specs.Tests.{tested}
+use Rattle.marking.specs.Tests.{tested, untilPending, ready}
+use Rattle.marking.specs.declared.tests.Tested.{Tested}
 use Rattle.marking.specs.declared.tests.Tested.the-variants.{Points, Refused}
 
 -- as many as the instance has edges
@@ -77,3 +78,19 @@ wrong-size n table marks h = go (inRange n) refl
     go : (b : Bool) → inRange n ≡ b → tested n table marks ≡ unless (inRange n) (Refused 1) (Refused 2)
     go true e = rw (tested, e, ne-eqb (length table) (edgeCount n) (h e))
     go false e = rw (tested, e)
+
+-- 20 behind them: `ready` at each way out of `test_ready`
+module _ (n : ℕ) (table marks : List ℕ) {t : Tested} (e : t ≡ tested n table marks) where
+  as-ready : {t′ : Tested} → t ≡ t′ → untilPending t′ marks ≡ ready n table marks
+  unfolding ready
+  as-ready g = ap (λ (r : Tested). untilPending r marks) (sym g ∙ e)
+
+  pub ready-refused : {k : ℕ} → t ≡ Refused k → Refused k ≡ ready n table marks
+  ready-refused g = as-ready g
+
+  module _ {m : ℕ} (g : t ≡ Points m) where
+    pub ready-pending : nonePending marks ≡ false → Refused 20 ≡ ready n table marks
+    ready-pending h = ap (λ (b : Bool). unless b (Refused 20) (Points m)) (sym h) ∙ as-ready g
+
+    pub ready-passed : nonePending marks ≡ true → Points m ≡ ready n table marks
+    ready-passed h = ap (λ (b : Bool). unless b (Refused 20) (Points m)) (sym h) ∙ as-ready g

@@ -1,14 +1,13 @@
 -- What the shared tests say of an instance that they pass: each test is taken off in its order. Assumes nothing.
 use Prim.Native.Nat.{ℕ, _≤_}
-use mathlib.Core.Path.{_≡_}
+use mathlib.Core.Path.{_≡_, refl, _∙_}
 use mathlib.Core.Bool.{true}
 use mathlib.Core.List.{List}
-use native.Mathlib.Decide.{decLt}
 use native.Mathlib.Omega.{arith}
 use lib.Dec.{eqb}
-use lib.ListN.{length, getD, List·getD-eq-default}
+use lib.ListN.{length}
 use borrow.Author.Tests.{eqb-true}
-use Rattle.marks.specs.Mark.{areMarks}
+use Rattle.marks.specs.Mark.{areMarks, nonePending}
 use Rattle.lists.proofs.Tests.{answered}
 use Rattle.lengths.specs.Edge.{edgeCount}
 use Rattle.lengths.specs.Instance.{inRange, leastPoints, admission, mostLength}
@@ -16,7 +15,8 @@ use Rattle.lists.specs.Test.{allAtMost}
 use Rattle.lengths.proofs.Instances.{Admits, admitted}
 use Rattle.lengths.proofs.Limits.{limit-each}
 use Rattle.lengths.specs.Table.{Lengths}
-use Rattle.marking.specs.Tests.{tested}
+use Rattle.marking.specs.Tests.{tested, ready}
+use Rattle.marking.specs.declared.tests.Tested.{Tested}
 use Rattle.marking.specs.declared.tests.Tested.the-variants.{Points, Refused}
 
 -- the tests pass an instance of n points, and answer n
@@ -27,7 +27,7 @@ pub record InstancePassed (n : ℕ) (table marks : List ℕ) (m : ℕ) : Type 0 
   pub least : leastPoints ≤ m
   pub lengths : Lengths m table
   pub marked : length marks ≡ edgeCount m
-  pub bytes : (i : ℕ) → getD marks i 0 ≤ 1
+  pub bytes : areMarks marks ≡ true
 
 not-points : {k m : ℕ} → Refused k ≡ Points m → ⊥
 not-points e = let z : _≡_ {A = ℕ} 0 1 = cc in omega arith
@@ -59,5 +59,18 @@ passed {n} {table} {marks} {m} h =
         small = limit-each mostLength table (p3 .0);
       };
       marked = rw e (eqb-true (length marks) (edgeCount n) (p4 .0));
-      bytes = limit-each 1 marks (p5 .0);
+      bytes = p5 .0;
     }
+
+-- 20 is passed: the tests before it are, and nothing is pending
+pub record Ready (n : ℕ) (table marks : List ℕ) (m : ℕ) : Type 0 where
+  pub tests : tested n table marks ≡ Points m
+  pub none : nonePending marks ≡ true
+
+pub ready-tested : {n : ℕ} {table marks : List ℕ} {m : ℕ} → ready n table marks ≡ Points m → Ready n table marks m
+unfolding ready
+ready-tested {n} {table} {marks} {m} h = by (tested n table marks) refl
+  where
+    by : (t : Tested) → tested n table marks ≡ t → Ready n table marks m
+    by (Refused k) e = absurd (not-points (rw e at h))
+    by (Points p) e = let q = answered (nonePending marks) _ _ (Points m) not-points (rw e at h) in record { tests = e ∙ q .1; none = q .0 }

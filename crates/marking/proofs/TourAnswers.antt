@@ -9,7 +9,7 @@ use Rattle.lengths.specs.Edge.{Edge, edge}
 use Rattle.lengths.specs.Instance.{mostLength}
 use Rattle.lengths.specs.Table.{lengthOf}
 use Rattle.sets.specs.EdgeSet.{pathEdges, closedEdges}
-use Rattle.marks.specs.Mark.{openIn}
+use Rattle.marks.specs.Mark.{unstruckIn}
 use Rattle.rules.specs.PairTest.{every}
 use Rattle.lengths.proofs.Tables.{length-small}
 use Rattle.tours.specs.Tour.{total, tourLength}
@@ -59,7 +59,7 @@ module _ {n : ℕ} {table marks t : List ℕ} where
       pub asked-marks : TourAsked m marks t
       asked-marks = record { few = h .passed .lengths .few; some = h .passed .least; whole = h .passed .marked; tour = h .tour }
 
-      pub checked-tour : {sum : ℕ} {open? : Bool} → sum ≡ tourLength (lengthOf m table) t → open? ≡ every (openIn m marks) (closedEdges t)
+      pub checked-tour : {sum : ℕ} {open? : Bool} → sum ≡ tourLength (lengthOf m table) t → open? ≡ every (unstruckIn m marks) (closedEdges t)
           → CheckedAs n table marks t (Tour sum open?)
       unfolding tourChecked tourLength
       checked-tour {sum} {open?} s o = record {

@@ -15,7 +15,7 @@ use Rattle.lists.proofs.Bools.{and-left, and-right, and-both}
 use Rattle.lengths.proofs.Edges.{place-symmetric}
 use Rattle.lists.specs.Count.{count}
 use Rattle.sets.specs.EdgeSet.{closedEdges}
-use Rattle.marks.specs.Mark.{openIn}
+use Rattle.marks.specs.Mark.{pendingMark, openAt, openUpTo, unstruckIn}
 use Rattle.rules.specs.PairTest.{every}
 use Rattle.rules.proofs.PairTests.{every-has, has-every}
 use Rattle.tours.specs.Tour.{Tour, Uses}
@@ -55,10 +55,10 @@ tour-is n t T = and-both (eqb (length t) n) (onceEach n t) (eq-eqb (length t) n 
 pub is-tour-exact : (n : ℕ) (t : List ℕ) → (isTour n t ≡ true) ↔ Tour n t
 is-tour-exact n t = (is-tour n t, tour-is n t)
 
-open-turned : (n : ℕ) (marks : List ℕ) (a b : ℕ) → openIn n marks a b ≡ true → openIn n marks b a ≡ true
-unfolding openIn
-open-turned n marks a b h = ap (λ (i : ℕ). eqb (getD marks i 0) 1) (place-symmetric n b a) ∙ h
+open-turned : (n : ℕ) (marks : List ℕ) (a b : ℕ) → unstruckIn n marks a b ≡ true → unstruckIn n marks b a ≡ true
+unfolding openUpTo
+open-turned n marks a b h = ap (openAt pendingMark marks) (place-symmetric n b a) ∙ h
 
 -- the answer's second part: every edge of the tour is open
-pub all-open-exact : (n : ℕ) (marks t : List ℕ) → (every (openIn n marks) (closedEdges t) ≡ true) ↔ ((a b : ℕ) → Uses t a b → openIn n marks a b ≡ true)
-all-open-exact n marks t = (every-has (openIn n marks) (open-turned n marks) (closedEdges t), has-every (openIn n marks) (closedEdges t))
+pub all-open-exact : (n : ℕ) (marks t : List ℕ) → (every (unstruckIn n marks) (closedEdges t) ≡ true) ↔ ((a b : ℕ) → Uses t a b → unstruckIn n marks a b ≡ true)
+all-open-exact n marks t = (every-has (unstruckIn n marks) (open-turned n marks) (closedEdges t), has-every (unstruckIn n marks) (closedEdges t))

@@ -13,7 +13,7 @@ use Rattle.lengths.specs.Edge.{Edge, edge, Point}
 use Rattle.lengths.specs.Table.{lengthOf}
 use Rattle.lengths.specs.asks.Table.{Spans, LengthIs}
 use Rattle.sets.specs.EdgeSet.{pathEdges, closedEdges}
-use Rattle.marks.specs.Mark.{openIn}
+use Rattle.marks.specs.Mark.{unstruckIn}
 use Rattle.marks.specs.asks.Mark.{MarkAsked}
 use Rattle.rules.specs.PairTest.{every}
 use Rattle.tours.specs.Tour.{Tour, total, tourLength}
@@ -135,26 +135,26 @@ module _ {n : ℕ} {table t : List ℕ} {sum a i d : ℕ} (g : TourAsked n table
 
 pub record CheckingOpen (n : ℕ) (marks t : List ℕ) (a i : ℕ) : Type 0 where
   pub preceding : Preceding t a i
-  pub opened : every (openIn n marks) (left t a i) ≡ every (openIn n marks) (closedEdges t)
+  pub opened : every (unstruckIn n marks) (left t a i) ≡ every (unstruckIn n marks) (closedEdges t)
 
 pub checking-start : {n : ℕ} {marks t : List ℕ} {v : ℕ} → TourAsked n marks t → v ≡ getD t 0 0 → CheckingOpen n marks t v 1
-checking-start {n} {marks} {t} g is = record { preceding = preceding-start g is; opened = ap (every (openIn n marks)) (left-start t (first-there g) is) }
+checking-start {n} {marks} {t} g is = record { preceding = preceding-start g is; opened = ap (every (unstruckIn n marks)) (left-start t (first-there g) is) }
 
 module _ {n : ℕ} {marks t : List ℕ} {a i : ℕ} (g : TourAsked n marks t) (o : CheckingOpen n marks t a i) where
   module _ {v : ℕ} (h : i < length t) (to : v ≡ getD t i 0) where
-    edge-on : every (openIn n marks) (left t a i) ≡ (openIn n marks a v && every (openIn n marks) (left t v (i + 1)))
+    edge-on : every (unstruckIn n marks) (left t a i) ≡ (unstruckIn n marks a v && every (unstruckIn n marks) (left t v (i + 1)))
     unfolding every
-    edge-on = ap (every (openIn n marks)) (left-on t a i h to)
+    edge-on = ap (every (unstruckIn n marks)) (left-on t a i h to)
 
-    pub checking-on : {b : Bool} → b ≡ openIn n marks a v → b ≡ true → CheckingOpen n marks t v (i + 1)
+    pub checking-on : {b : Bool} → b ≡ unstruckIn n marks a v → b ≡ true → CheckingOpen n marks t v (i + 1)
     checking-on is e = record {
       preceding = preceding-on g (o .preceding) h to;
       opened = and-go (sym is ∙ e) refl ∙ sym edge-on ∙ o .opened;
     }
 
-    pub struck-on : {b : Bool} → b ≡ openIn n marks a v → b ≡ false → false ≡ every (openIn n marks) (closedEdges t)
+    pub struck-on : {b : Bool} → b ≡ unstruckIn n marks a v → b ≡ false → false ≡ every (unstruckIn n marks) (closedEdges t)
     struck-on is e = and-stop _ (sym is ∙ e) ∙ sym edge-on ∙ o .opened
 
-  pub all-opened : {b : Bool} {v : ℕ} → length t ≤ i → v ≡ getD t 0 0 → b ≡ openIn n marks a v → b ≡ every (openIn n marks) (closedEdges t)
+  pub all-opened : {b : Bool} {v : ℕ} → length t ≤ i → v ≡ getD t 0 0 → b ≡ unstruckIn n marks a v → b ≡ every (unstruckIn n marks) (closedEdges t)
   unfolding every
-  all-opened {v = v} h to is = is ∙ sym (and-yes (openIn n marks a v)) ∙ ap (every (openIn n marks)) (sym (left-end t a i h to)) ∙ o .opened
+  all-opened {v = v} h to is = is ∙ sym (and-yes (unstruckIn n marks a v)) ∙ ap (every (unstruckIn n marks)) (sym (left-end t a i h to)) ∙ o .opened

@@ -1,4 +1,4 @@
--- The operation "list pairs", for K = {ab} and split c: 1, 2, 5, 6, 11, 12, 18.
+-- The operation "list pairs", for K = {ab} and split c: 1, 2, 5, 6, 11, 12, 18. A pending edge counts as open.
 use Prim.Native.Nat.{ℕ, _*_, _/_}
 use mathlib.Core.Path.{_≡_}
 use mathlib.Core.List.{List, _++_}
@@ -6,7 +6,7 @@ use lib.Dec.{leb}
 use lib.ListN.{length, drop}
 use Rattle.endian.specs.Bytes.{bytes16}
 use Rattle.lists.specs.Test.{unless}
-use Rattle.marks.specs.Mark.{openIn}
+use Rattle.marks.specs.Mark.{unstruckIn}
 use Rattle.argument.specs.Record.{splits, fits}
 use Rattle.marking.specs.Tests.{tested}
 use Rattle.marking.specs.declared.tests.Tested.{Tested}
@@ -20,7 +20,7 @@ abbrev pub listTested : Tested → List ℕ → List ℕ → ℕ → ℕ → ℕ
 listTested (tests.Refused number) table marks a b c size = Refused number 0
 listTested (tests.Points n) table marks a b c size =
     unless (fits n a b (splits c 0)) (Refused 11 0)
-    (unless (openIn n marks a b) (Refused 12 0)
+    (unless (unstruckIn n marks a b) (Refused 12 0)
     (unless (leb (2 * length (pairsAt n table marks a b c)) size) (Refused 18 0)
     (Pairs (length (pairsAt n table marks a b c)))))
 

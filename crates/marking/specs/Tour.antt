@@ -1,4 +1,4 @@
--- The operation "check a tour": 1, 2, 5, 6; 17, not n numbers, or not each point from 1 to n exactly once.
+-- The operation "check a tour": 1, 2, 5, 6; 17, not n numbers, or not each point from 1 to n exactly once. A pending edge counts as open.
 use Prim.Native.Nat.{ℕ, zero, suc, _<_, _^_}
 use mathlib.Core.Path.{_≡_}
 use mathlib.Core.Bool.{Bool, true, _&&_}
@@ -9,7 +9,7 @@ use Rattle.lengths.specs.Table.{lengthOf}
 use Rattle.lists.specs.Test.{unless}
 use Rattle.lists.specs.Count.{count}
 use Rattle.sets.specs.EdgeSet.{closedEdges}
-use Rattle.marks.specs.Mark.{openIn}
+use Rattle.marks.specs.Mark.{unstruckIn}
 use Rattle.rules.specs.PairTest.{every}
 use Rattle.tours.specs.Tour.{tourLength}
 use Rattle.marking.specs.Tests.{tested}
@@ -32,7 +32,7 @@ abbrev pub checkTested : Tested → List ℕ → List ℕ → List ℕ → Check
 checkTested (tests.Refused number) table marks t = checked.Refused number 0
 checkTested (tests.Points n) table marks t =
     unless (isTour n t) (checked.Refused 17 0)
-    (checked.Tour (tourLength (lengthOf n table) t) (every (openIn n marks) (closedEdges t)))
+    (checked.Tour (tourLength (lengthOf n table) t) (every (unstruckIn n marks) (closedEdges t)))
 
 unfoldable pub tourChecked : ℕ → List ℕ → List ℕ → List ℕ → Checked
 tourChecked n table marks t = checkTested (tested n table marks) table marks t

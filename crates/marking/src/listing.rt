@@ -5,6 +5,7 @@ use endian::bytes::encode16;
 use enumeration::find::find_pairs;
 use lengths::instance::Instance;
 use lengths::refusal;
+use marks::mark;
 use marks::mark::is_open;
 use sheets::sheet::Closing;
 use sheets::walk::points_fit;
@@ -46,7 +47,7 @@ fn list_into(
     Listed::Pairs(count)
 }
 
-// Tests 1, 2, 5, 6, 11 and 12: the number of points, or the number of the first refusal.
+// Tests 1, 2, 5, 6, 11 and 12, which a pending edge passes: the number of points, or the number of the first refusal.
 fn test_listing(n: u32, table: &[u8], marks: &[u8], a: u16, b: u16, c: u16) -> Tested
     ensures { λ r. ⌜ r ≡ listTests n (whole32 (now (table .entry))) (now (marks .entry)) a b c ⌝ }
 {
@@ -59,7 +60,7 @@ fn test_listing(n: u32, table: &[u8], marks: &[u8], a: u16, b: u16, c: u16) -> T
     if !points_fit(points, a, b, split) {
         return Tested::Refused(refusal::POINT);
     }
-    if !is_open(points, marks, a, b) {
+    if !is_open(points, marks, a, b, mark::PENDING) {
         return Tested::Refused(refusal::STRUCK);
     }
     Tested::Points(points)

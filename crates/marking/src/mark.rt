@@ -1,10 +1,11 @@
-// The operation "mark a sheet".
+// The operations "mark a sheet" and "ask a sheet": the same lines, with another mark for an accepted one.
 use crate::tests::Tested;
-use crate::tests::test_instance;
+use crate::tests::test_ready;
 use endian::bytes::count16;
 use lengths::instance::Instance;
 use lengths::refusal;
 use lengths::rows::fill_rows;
+use marks::mark;
 use sheet_lines::line::mark_lines;
 use sheets::sheet::Sheet;
 use sheets::sheet::SheetAdmission;
@@ -14,9 +15,9 @@ ghost use Rattle.endian.specs.Bytes.{whole16, whole32};
 ghost use Rattle.argument.specs.Sheet as lines;
 ghost use Rattle.sheet_lines.specs.asks.Line.{RowsAsked};
 ghost use Rattle.sheets.specs.Verdict.{resultOf};
-ghost use Rattle.sheets.specs.Rules.{markingOf};
+ghost use Rattle.sheets.specs.Rules.{markingBy};
 ghost use Rattle.sheets.specs.asks.Walk.{Admitted};
-ghost use Rattle.marking.specs.Mark.{markSheet};
+ghost use Rattle.marking.specs.Mark.{markBy, markSheet, askSheet};
 
 // The numbers in the rows of few points: a place for each point and one for 0, in the row of each point and of 0.
 const FEW_ROWS: usize = Instance::FEW_PLACES * Instance::FEW_PLACES;
@@ -27,6 +28,7 @@ const MOST_ROWS: usize = Instance::PLACES * Instance::PLACES;
 // Writes the rows of lengths, and marks the lines by them.
 fn mark_by_rows(
     n: u16,
+    by: u8,
     table: &[u8],
     rows: &mut [u32],
     marks: &mut [u8],
@@ -34,23 +36,30 @@ fn mark_by_rows(
     count: u16,
 ) -> Verdict
     requires { ⌜ RowsAsked n (whole32 (now table)) (now rows) (now marks) (whole16 (now sheet)) count ⌝ }
-    ensures { λ r. ⌜ resultOf r (now (marks .exit)) ≡ lines.sheet (markingOf n (whole32 (now (table .entry)))) (whole16 (now (sheet .entry))) (now (marks .entry)) ⌝ }
+    ensures { λ r. ⌜ resultOf r (now (marks .exit)) ≡ lines.sheet (markingBy by n (whole32 (now (table .entry)))) (whole16 (now (sheet .entry))) (now (marks .entry)) ⌝ }
 {
     fill_rows(n, table, rows);
-    mark_lines(n, table, rows, marks, sheet, count)
+    mark_lines(n, by, table, rows, marks, sheet, count)
 }
 
 // Marks the lines of a sheet that passed the tests, and has so many records. Few points take a small array, which is cleared sooner.
-fn mark_admitted(n: u16, table: &[u8], marks: &mut [u8], sheet: &[u8], count: u16) -> Verdict
+fn mark_admitted(
+    n: u16,
+    by: u8,
+    table: &[u8],
+    marks: &mut [u8],
+    sheet: &[u8],
+    count: u16,
+) -> Verdict
     requires { ⌜ Admitted n (whole32 (now table)) (now marks) (whole16 (now sheet)) count ⌝ }
-    ensures { λ r. ⌜ resultOf r (now (marks .exit)) ≡ lines.sheet (markingOf n (whole32 (now (table .entry)))) (whole16 (now (sheet .entry))) (now (marks .entry)) ⌝ }
+    ensures { λ r. ⌜ resultOf r (now (marks .exit)) ≡ lines.sheet (markingBy by n (whole32 (now (table .entry)))) (whole16 (now (sheet .entry))) (now (marks .entry)) ⌝ }
 {
     if n <= Instance::FEW_POINTS {
         let mut rows = [0u32; FEW_ROWS];
-        return mark_by_rows(n, table, &mut rows, marks, sheet, count);
+        return mark_by_rows(n, by, table, &mut rows, marks, sheet, count);
     }
     let mut rows = [0u32; MOST_ROWS];
-    mark_by_rows(n, table, &mut rows, marks, sheet, count)
+    mark_by_rows(n, by, table, &mut rows, marks, sheet, count)
 }
 
 // The answer where a test of the call fails: no record is at fault, and no line was accepted.
@@ -64,11 +73,11 @@ fn turned_down(number: u8) -> Verdict
     }
 }
 
-// Marks a sheet: tests 1, 2, 5, 6 and 7, then its lines.
-pub fn mark_sheet(n: u32, table: &[u8], marks: &mut [u8], sheet: &[u8]) -> Verdict
-    ensures { λ r. ⌜ resultOf r (now (marks .exit)) ≡ markSheet n (whole32 (now (table .entry))) (now (marks .entry)) (whole16 (now (sheet .entry))) ⌝ }
+// A sheet whose accepted lines write the mark `by`: tests 1, 2, 5, 6, 20 and 7, then its lines.
+fn mark_with(by: u8, n: u32, table: &[u8], marks: &mut [u8], sheet: &[u8]) -> Verdict
+    ensures { λ r. ⌜ resultOf r (now (marks .exit)) ≡ markBy by n (whole32 (now (table .entry))) (now (marks .entry)) (whole16 (now (sheet .entry))) ⌝ }
 {
-    let points = match test_instance(n, table, marks) {
+    let points = match test_ready(n, table, marks) {
         Tested::Points(points) => points,
         Tested::Refused(number) => return turned_down(number),
     };
@@ -77,10 +86,25 @@ pub fn mark_sheet(n: u32, table: &[u8], marks: &mut [u8], sheet: &[u8]) -> Verdi
         SheetAdmission::Refused => turned_down(refusal::SHEET),
         SheetAdmission::Admitted(admitted) => mark_admitted(
             points,
+            by,
             table,
             marks,
             sheet,
             admitted.records,
         ),
     }
+}
+
+// Marks a sheet: an accepted line strikes its edge.
+pub fn mark_sheet(n: u32, table: &[u8], marks: &mut [u8], sheet: &[u8]) -> Verdict
+    ensures { λ r. ⌜ resultOf r (now (marks .exit)) ≡ markSheet n (whole32 (now (table .entry))) (now (marks .entry)) (whole16 (now (sheet .entry))) ⌝ }
+{
+    mark_with(mark::STRUCK, n, table, marks, sheet)
+}
+
+// Asks a sheet: an accepted line's edge is pending, until it is confirmed or withdrawn.
+pub fn ask_sheet(n: u32, table: &[u8], marks: &mut [u8], sheet: &[u8]) -> Verdict
+    ensures { λ r. ⌜ resultOf r (now (marks .exit)) ≡ askSheet n (whole32 (now (table .entry))) (now (marks .entry)) (whole16 (now (sheet .entry))) ⌝ }
+{
+    mark_with(mark::PENDING, n, table, marks, sheet)
 }

@@ -1,14 +1,15 @@
-// The tests that the operations share: 1, 2, 5 and 6, in 01's order.
+// The tests that the operations share: 1, 2, 5 and 6, in 01's order, and 20 behind them, of marking and asking.
 use endian::bytes::count32;
 use lengths::edge;
 use lengths::instance::Admission;
 use lengths::instance::Instance;
 use lengths::limit::all_at_most;
 use lengths::refusal;
+use marks::mark;
 use marks::mark::marks_within;
 ghost use mathlib.Core.Path.{_≡_};
 ghost use Rattle.endian.specs.Bytes.{whole32};
-ghost use Rattle.marking.specs.Tests.{tested};
+ghost use Rattle.marking.specs.Tests.{tested, ready};
 
 // What the tests answer: the number of points, or the number of the first refusal.
 pub enum Tested {
@@ -34,8 +35,23 @@ pub fn test_instance(n: u32, table: &[u8], marks: &[u8]) -> Tested
     if marks.len() != edges {
         return Tested::Refused(refusal::MARKS);
     }
-    if !marks_within(marks) {
+    if !marks_within(marks, mark::PENDING) {
         return Tested::Refused(refusal::MARKS);
+    }
+    Tested::Points(points)
+}
+
+// Tests 1, 2, 5, 6 and 20: nothing is pending.
+pub fn test_ready(n: u32, table: &[u8], marks: &[u8]) -> Tested
+    ensures { λ r. ⌜ r ≡ ready n (whole32 (now (table .entry))) (now (marks .entry)) ⌝ }
+{
+    let tested = test_instance(n, table, marks);
+    let points = match tested {
+        Tested::Points(points) => points,
+        Tested::Refused(number) => return Tested::Refused(number),
+    };
+    if !marks_within(marks, mark::OPEN) {
+        return Tested::Refused(refusal::SOMETHING_PENDING);
     }
     Tested::Points(points)
 }

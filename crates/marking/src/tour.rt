@@ -7,6 +7,7 @@ use lengths::instance::Instance;
 use lengths::instance::is_point;
 use lengths::refusal;
 use lengths::table::length_between;
+use marks::mark;
 use marks::mark::is_open;
 ghost use mathlib.Core.Path.{_≡_};
 ghost use Prim.Native.Nat.{_≤_};
@@ -14,7 +15,7 @@ ghost use Rattle.endian.specs.Bytes.{whole16, whole32};
 ghost use Rattle.lengths.specs.Instance.{mostPoints};
 ghost use Rattle.lengths.specs.Table.{lengthOf};
 ghost use Rattle.sets.specs.EdgeSet.{closedEdges};
-ghost use Rattle.marks.specs.Mark.{openIn};
+ghost use Rattle.marks.specs.Mark.{unstruckIn};
 ghost use Rattle.rules.specs.PairTest.{every};
 ghost use Rattle.tours.specs.Tour.{tourLength};
 ghost use Rattle.marking.specs.Tour.{isTour, CheckedAs};
@@ -70,10 +71,10 @@ fn length_of(n: u16, table: &[u8], tour: &[u8]) -> u64
     sum + length_between(n, table, from, first)
 }
 
-// Is every edge of the tour open, last to first included?
+// Is every edge of the tour open, last to first included? A pending edge counts as open.
 fn all_open(n: u16, marks: &[u8], tour: &[u8]) -> bool
     requires { ⌜ TourAsked n (now marks) (whole16 (now tour)) ⌝ }
-    ensures { λ r. ⌜ r ≡ every (openIn n (now (marks .entry))) (closedEdges (whole16 (now (tour .entry)))) ⌝ }
+    ensures { λ r. ⌜ r ≡ every (unstruckIn n (now (marks .entry))) (closedEdges (whole16 (now (tour .entry)))) ⌝ }
 {
     let count = n as usize;
     let first = number16(tour, 0);
@@ -81,13 +82,13 @@ fn all_open(n: u16, marks: &[u8], tour: &[u8]) -> bool
     let mut i = 1;
     while i < count {
         let to = number16(tour, i);
-        if !is_open(n, marks, from, to) {
+        if !is_open(n, marks, from, to, mark::PENDING) {
             return false;
         }
         from = to;
         i += 1;
     }
-    is_open(n, marks, from, first)
+    is_open(n, marks, from, first, mark::PENDING)
 }
 
 // Checks that the numbers are a tour of the n points, and answers its length and whether all its edges are open.

@@ -10,7 +10,7 @@ use Rattle.lists.specs.CountFrom.{countFrom}
 use Rattle.lists.proofs.Bools.{and-both}
 use Rattle.lists.proofs.CountFrom.{countFrom-two}
 use Rattle.lengths.specs.Edge.{Point, edgeCount, place, placeUp, tri}
-use Rattle.marks.specs.Mark.{openIn, strikeIn}
+use Rattle.marks.specs.Mark.{markAt, setMark, openUpTo, openIn, markIn, strikeIn}
 use Rattle.marks.specs.Degree.{openTo, openDegree}
 use Rattle.marks.specs.Fresh.{freshMarks}
 
@@ -28,9 +28,9 @@ degree-two {n} marks v {x} {y} px py d dx dy hx hy =
 
 -- examples: on fresh marks of 4 points each has 3 open edges, and where 1-2 is struck both its ends have 2
 degree-fresh : map (openDegree 4 (freshMarks 4)) (1 ∷ 2 ∷ 3 ∷ 4 ∷ []) ≡ 3 ∷ 3 ∷ 3 ∷ 3 ∷ []
-unfolding openDegree countFrom openIn freshMarks edgeCount place placeUp tri
+unfolding openDegree countFrom openUpTo markAt freshMarks edgeCount place placeUp tri
 degree-fresh = refl
 
 degree-struck : map (openDegree 4 (strikeIn 4 (freshMarks 4) 1 2)) (1 ∷ 2 ∷ 3 ∷ 4 ∷ []) ≡ 2 ∷ 2 ∷ 3 ∷ 3 ∷ []
-unfolding openDegree countFrom openIn strikeIn freshMarks edgeCount place placeUp tri
+unfolding openDegree countFrom openUpTo markAt markIn setMark freshMarks edgeCount place placeUp tri
 degree-struck = refl

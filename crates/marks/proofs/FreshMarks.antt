@@ -4,7 +4,6 @@ use mathlib.Core.Path.{_≡_, refl, sym, _∙_, ap}
 use mathlib.Core.Bool.{true}
 use mathlib.Core.List.{List, _++_, append-nil}
 use native.Mathlib.Omega.{arith}
-use lib.Dec.{eqb}
 use lib.ListN.{length, drop, set, length-set, replicate, getD-replicate, length-replicate}
 use lib.Seq.{drop-length}
 use borrow.Author.Fill.{fill-none, fill-more}
@@ -15,7 +14,7 @@ use Rattle.lengths.specs.declared.instance.Admission.the-variants.{OutOfRange}
 use Rattle.lengths.specs.declared.instance.Instance.{Instance}
 use Rattle.lengths.proofs.Edges.{place-below}
 use Rattle.lengths.proofs.Instances.{Admits, out-of-range}
-use Rattle.marks.specs.Mark.{openIn}
+use Rattle.marks.specs.Mark.{markAt, openMark, opens, openUpTo, openIn}
 use Rattle.marks.specs.Fresh.{freshAnswer, freshLeft, freshMarks, FreshAs}
 use Rattle.marks.specs.declared.fresh.Fresh.the-variants.{Done, Refused}
 
@@ -75,5 +74,5 @@ fresh-size n = length-replicate (edgeCount n) 1
 
 -- and every edge is open
 pub fresh-open : {n a b : ℕ} → IsEdge n a b → openIn n (freshMarks n) a b ≡ true
-unfolding openIn freshMarks
-fresh-open {n} {a} {b} e = ap (λ (m : ℕ). eqb m 1) (getD-replicate (edgeCount n) (place n a b) 1 0 (place-below e))
+unfolding openUpTo markAt freshMarks
+fresh-open {n} {a} {b} e = ap (opens openMark) (getD-replicate (edgeCount n) (place n a b) 1 0 (place-below e))

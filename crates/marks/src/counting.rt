@@ -1,4 +1,5 @@
 // How many edges are open.
+use crate::mark;
 use crate::mark::open_at;
 ghost use Prim.Native.Nat.{_≤_};
 ghost use lib.ListN.{length};
@@ -13,7 +14,7 @@ pub fn open_edges(marks: &[u8]) -> u16
     let mut opens: u16 = 0;
     let mut i = 0;
     while i < marks.len() {
-        if open_at(marks, i) {
+        if open_at(marks, i, mark::OPEN) {
             opens += 1;
         }
         i += 1;

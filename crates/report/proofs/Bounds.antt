@@ -55,7 +55,7 @@ marks-length : (es : List Edge) (marks : List ℕ) (i : ℕ) → Small es → le
 unfolding markLines
 marks-length [] marks i h = omega arith
 marks-length (edge a b ∷ es) marks i (h, g, k) =
-    omega (arith, length-append (markLine (openAt marks i) a b) (markLines es marks (suc i)), mark-length (openAt marks i) a b h g, marks-length es marks (suc i) k)
+    omega (arith, length-append (markLine (openAt openMark marks i) a b) (markLines es marks (suc i)), mark-length (openAt openMark marks i) a b h g, marks-length es marks (suc i) k)
 
 strikes-length : (n : ℕ) (marks : List ℕ) → 2 ≤ n → n ≤ mostPoints → length (struckLines n marks) ≤ 15 * mostEdges
 unfolding struckLines edges

@@ -11,7 +11,7 @@ use lib.Seq.{drop-cons, length-take-le}
 use Rattle.lengths.specs.Edge.{Edge, edge, edges, placeUp}
 use Rattle.lengths.specs.asks.Edge.{Cursor, Follows, IsEdgeUp}
 use Rattle.lengths.proofs.Edges.{cursor-start, length-edges, edges-at}
-use Rattle.marks.specs.Mark.{openAt}
+use Rattle.marks.specs.Mark.{openMark, openAt}
 use Rattle.text.specs.Words.{Room, Wrote}
 use Rattle.report.specs.Lines.{struckLine, markLine, markLines, struckLines}
 use Rattle.report.specs.asks.Lines.{StrikesAsked}
@@ -70,33 +70,33 @@ module _ {n at : ℕ} {marks out₀ out : List ℕ} {a b i next : ℕ} (p : Stri
       ∙ ap (λ (e : Edge). e ∷ drop (suc i) (edges n)) (ap (λ (j : ℕ). getD (edges n) j (edge 0 0)) (sym (at-edge .1)) ∙ edges-at (at-edge .0))
       ∙ ap (λ (j : ℕ). edge a b ∷ drop j (edges n)) (sym (add-one i))
 
-  lines-here : markLines (drop i (edges n)) marks i ≡ markLine (openAt marks i) a b ++ markLines (drop (i + 1) (edges n)) marks (i + 1)
+  lines-here : markLines (drop i (edges n)) marks i ≡ markLine (openAt openMark marks i) a b ++ markLines (drop (i + 1) (edges n)) marks (i + 1)
   unfolding markLines
   lines-here =
       ap (λ (es : List Edge). markLines es marks i) edges-here
-      ∙ ap (λ (j : ℕ). markLine (openAt marks i) a b ++ markLines (drop (i + 1) (edges n)) marks j) (sym (add-one i))
+      ∙ ap (λ (j : ℕ). markLine (openAt openMark marks i) a b ++ markLines (drop (i + 1) (edges n)) marks j) (sym (add-one i))
 
-  room-here : Room out next (markLine (openAt marks i) a b)
+  room-here : Room out next (markLine (openAt openMark marks i) a b)
   room-here = record {
     room = omega (
       arith,
       lengths-together p s,
       ap length lines-here,
-      length-append (markLine (openAt marks i) a b) (markLines (drop (i + 1) (edges n)) marks (i + 1)),
+      length-append (markLine (openAt openMark marks i) a b) (markLines (drop (i + 1) (edges n)) marks (i + 1)),
       p .room .room,
       s .kept,
     );
   }
 
   -- the mark that was read
-  pub mark-room : {is-open : Bool} → is-open ≡ openAt marks i → Room out next (markLine is-open a b)
+  pub mark-room : {is-open : Bool} → is-open ≡ openAt openMark marks i → Room out next (markLine is-open a b)
   mark-room e = subst (λ (o : Bool). Room out next (markLine o a b)) (sym e) room-here
 
-  module _ {r : ℕ} {left : List ℕ} (w : Wrote out next (markLine (openAt marks i) a b) r left) where
+  module _ {r : ℕ} {left : List ℕ} (w : Wrote out next (markLine (openAt openMark marks i) a b) r left) where
     text-on : take r left ++ markLines (drop (i + 1) (edges n)) marks (i + 1) ≡ take at out₀ ++ struckLines n marks
     text-on =
         ap (λ (l : List ℕ). l ++ markLines (drop (i + 1) (edges n)) marks (i + 1)) (w .front)
-        ∙ append-assoc (take next out) (markLine (openAt marks i) a b) (markLines (drop (i + 1) (edges n)) marks (i + 1))
+        ∙ append-assoc (take next out) (markLine (openAt openMark marks i) a b) (markLines (drop (i + 1) (edges n)) marks (i + 1))
         ∙ ap (λ (l : List ℕ). take next out ++ l) (sym lines-here)
         ∙ s .whole
 
@@ -109,7 +109,7 @@ module _ {n at : ℕ} {marks out₀ out : List ℕ} {a b i next : ℕ} (p : Stri
       whole = text-on;
     }
 
-  pub striking-on : {is-open : Bool} {r low high : ℕ} {left : List ℕ} → is-open ≡ openAt marks i → Wrote out next (markLine is-open a b) r left → Follows n a b low high
+  pub striking-on : {is-open : Bool} {r low high : ℕ} {left : List ℕ} → is-open ≡ openAt openMark marks i → Wrote out next (markLine is-open a b) r left → Follows n a b low high
       → Striking n marks out₀ at left low high (i + 1) r
   striking-on {r = r} {left = left} e w = struck-on (subst (λ (o : Bool). Wrote out next (markLine o a b) r left) e w)
 

@@ -3,7 +3,7 @@ use Prim.Native.Nat.{ℕ, suc}
 use mathlib.Core.Bool.{Bool, true, false}
 use mathlib.Core.List.{List, [], _∷_, _++_}
 use Rattle.lengths.specs.Edge.{Edge, edge, edges, edgeCount}
-use Rattle.marks.specs.Mark.{openAt, openCount}
+use Rattle.marks.specs.Mark.{openMark, openAt, openCount}
 use Rattle.text.specs.Decimal.{fieldText}
 
 -- `points `, ` edges `, `struck `, a space, `verdict `, ` record `, ` open ` and the end of a line
@@ -46,7 +46,7 @@ markLine is-open a b = elim is-open [ true ↦ [] | false ↦ struckLine a b ]
 -- the lines of edges, the first of which has its mark at the place i
 unfoldable pub markLines : List Edge → List ℕ → ℕ → List ℕ
 markLines [] marks i = []
-markLines (edge a b ∷ es) marks i = markLine (openAt marks i) a b ++ markLines es marks (suc i)
+markLines (edge a b ∷ es) marks i = markLine (openAt openMark marks i) a b ++ markLines es marks (suc i)
 
 -- "One line an accepted strike, .. in edge order"
 unfoldable pub struckLines : ℕ → List ℕ → List ℕ

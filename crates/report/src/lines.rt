@@ -2,6 +2,7 @@
 use lengths::edge;
 use lengths::refusal;
 use marks::counting::open_edges;
+use marks::mark;
 use marks::mark::open_at;
 use text::decimal::put_field;
 use text::words::put_word;
@@ -54,7 +55,7 @@ fn put_strikes(n: u16, marks: &[u8], out: &mut [u8], at: usize) -> usize
     let mut i = 0;
     let mut next = at;
     while i < marks.len() {
-        next = put_mark(open_at(marks, i), a as u32, b as u32, out, next);
+        next = put_mark(open_at(marks, i, mark::OPEN), a as u32, b as u32, out, next);
         let following = edge::following(points, a, b);
         a = following.low;
         b = following.high;

@@ -2,4 +2,5 @@ pub mod FreshAnswers
 pub mod ListAnswers
 pub mod MarkAnswers
 pub mod MeasureAnswers
+pub mod PendingAnswers
 pub mod TourAnswers

@@ -1,4 +1,4 @@
--- "Mark a sheet" for C: the number of a verdict. Assumes nothing.
+-- "Mark a sheet" and "ask a sheet" for C: the number of a verdict. Assumes nothing.
 use Prim.Native.Nat.{ℕ, _+_, _*_}
 use mathlib.Core.Path.{_≡_, refl, sym, _∙_, ap}
 use mathlib.Core.List.{List}
@@ -7,7 +7,7 @@ use Rattle.sheets.specs.Verdict.{resultOf}
 use Rattle.sheets.specs.declared.verdict.Verdict.{Verdict}
 use Rattle.sheets.specs.declared.verdict.Verdict.the-variants as verdict
 use Rattle.endian.specs.Bytes.{whole16, whole32}
-use Rattle.marking.specs.Mark.{markSheet}
+use Rattle.marking.specs.Mark.{markBy}
 use Rattle.revosti.specs.Mark.{resultNumber, MarkedInC}
 use Rattle.revosti.specs.asks.Mark.{MarkNumber}
 
@@ -27,7 +27,7 @@ marks-of (verdict.Accepted lines) left = refl
 marks-of (verdict.Refused number rec lines) left = refl
 
 -- what the function for C returns, from what its callees ensure
-pub marked-in-c : (n : ℕ) (table marks s : List ℕ) {v : Verdict} {r : ℕ} {left : List ℕ} → resultOf v left ≡ markSheet n (whole32 table) marks (whole16 s)
-    → MarkNumber v r → MarkedInC n table marks s r left
-marked-in-c n table marks s {v} {r} {left} h k =
+pub marked-in-c : (by n : ℕ) (table marks s : List ℕ) {v : Verdict} {r : ℕ} {left : List ℕ} → resultOf v left ≡ markBy by n (whole32 table) marks (whole16 s)
+    → MarkNumber v r → MarkedInC by n table marks s r left
+marked-in-c by n table marks s {v} {r} {left} h k =
     record { answered = k .number left ∙ ap resultNumber h; marks-left = sym (marks-of v left) ∙ ap (λ (x : Result (List ℕ)). x .marks) h }

@@ -3,4 +3,5 @@ pub mod Fresh
 pub mod Listing
 pub mod Mark
 pub mod Measure
+pub mod Pending
 pub mod Tour

@@ -3,4 +3,5 @@ pub mod fresh;
 pub mod listing;
 pub mod mark;
 pub mod measure;
+pub mod pending;
 pub mod tour;

@@ -5,7 +5,6 @@ use mathlib.Core.Bool.{Bool, true, false, cond}
 use mathlib.Core.List.{List, []}
 use native.Mathlib.Omega.{arith}
 use native.Mathlib.Decide.{decLt, ℕ-discrete}
-use lib.Dec.{eqb}
 use lib.ListN.{length, getD, set, replicate, length-set, length-replicate, getD-replicate, List·getD-eq-default}
 use lib.Seq.{getD-set-same, getD-set-other}
 use Rattle.lengths.specs.Edge.{Point, tri, place, placeUp}
@@ -13,7 +12,7 @@ use Rattle.lengths.specs.asks.Edge.{IsEdgeUp, Placed}
 use Rattle.lengths.proofs.Edges.{tri-row, placeUp-sum, placeUp-below, edgeCount-tri, edges-fit, place-up, place-down, place-along}
 use Rattle.lengths.specs.Instance.{mostLength, mostPoints, pointPlaces}
 use Rattle.rules.specs.asks.Legs.{legOf, narrowedBy, LegList, rowOf, OpenAsked, OpenFrom, OpenBelow, OpenLegs, NarrowAsked, Narrowed, far}
-use Rattle.marks.specs.Mark.{openAt, openIn}
+use Rattle.marks.specs.Mark.{openAt, openUpTo}
 use Rattle.rules.proofs.LegsAndBound.{legOf-self, legOf-open, legOf-shut, narrowed-at-most-far}
 
 -- lists of legs
@@ -53,41 +52,41 @@ choice : (t : Bool) {m : ℕ} → m ≤ mostLength → cond t m far ≤ far
 choice true h = omega arith
 choice false h = omega arith
 
-away-leg : (rows : List ℕ) (n : ℕ) (marks : List ℕ) (c at x : ℕ) → (x ≡ c → ⊥)
-    → cond (eqb (getD marks (place n c x) 0) 1) (getD rows (at + x) 0) far ≡ legOf (rowOf rows at) (openIn n marks) [] c x
-unfolding openIn rowOf
-away-leg rows n marks c at x h = go (openIn n marks c x) refl
+away-leg : (rows : List ℕ) (most n : ℕ) (marks : List ℕ) (c at x : ℕ) → (x ≡ c → ⊥)
+    → cond (openAt most marks (place n c x)) (getD rows (at + x) 0) far ≡ legOf (rowOf rows at) (openUpTo most n marks) [] c x
+unfolding openUpTo rowOf
+away-leg rows most n marks c at x h = go (openUpTo most n marks c x) refl
   where
-    go : (t : Bool) → openIn n marks c x ≡ t → cond (openIn n marks c x) (rowOf rows at c x) far ≡ legOf (rowOf rows at) (openIn n marks) [] c x
-    go true e = rw e (sym (legOf-open (rowOf rows at) (openIn n marks) c x h e))
-    go false e = rw e (sym (legOf-shut (rowOf rows at) (openIn n marks) c x h e))
+    go : (t : Bool) → openUpTo most n marks c x ≡ t → cond (openUpTo most n marks c x) (rowOf rows at c x) far ≡ legOf (rowOf rows at) (openUpTo most n marks) [] c x
+    go true e = rw e (sym (legOf-open (rowOf rows at) (openUpTo most n marks) c x h e))
+    go false e = rw e (sym (legOf-shut (rowOf rows at) (openUpTo most n marks) c x h e))
 
-open-self : {n : ℕ} {marks rows : List ℕ} {c at : ℕ} {legs : List ℕ} → OpenAsked n marks rows c at → OpenBelow n marks rows c at legs c → OpenBelow n marks rows c at legs (c + 1)
-open-self {n} {marks} {rows} {c} {at} {legs} a s = record {
+open-self : {most n : ℕ} {marks rows : List ℕ} {c at : ℕ} {legs : List ℕ} → OpenAsked n marks rows c at → OpenBelow most n marks rows c at legs c → OpenBelow most n marks rows c at legs (c + 1)
+open-self {most} {n} {marks} {rows} {c} {at} {legs} a s = record {
   list = s .list;
   done = λ i g k. elim (ℕ-discrete i c) [
-    | yes q ↦ s .rest i (omega arith) (omega (arith, a .few, a .centre .high)) ∙ sym (legOf-self (rowOf rows at) (openIn n marks) c i q)
+    | yes q ↦ s .rest i (omega arith) (omega (arith, a .few, a .centre .high)) ∙ sym (legOf-self (rowOf rows at) (openUpTo most n marks) c i q)
     | no q ↦ s .done i g (omega arith)
   ];
   rest = λ i g k. s .rest i (omega arith) k;
 }
 
-pub open-start : {n : ℕ} {marks rows : List ℕ} {c at : ℕ} {legs : List ℕ} → legs ≡ replicate pointPlaces far → OpenAsked n marks rows c at → OpenFrom n marks rows c at legs 1
+pub open-start : {most n : ℕ} {marks rows : List ℕ} {c at : ℕ} {legs : List ℕ} → legs ≡ replicate pointPlaces far → OpenAsked n marks rows c at → OpenFrom most n marks rows c at legs 1
 open-start e a = record {
   asked = a;
   below = record { list = rw e far-legs; done = λ i g k. absurd (omega arith); rest = λ i g k. rw e (getD-replicate {A = ℕ} pointPlaces i far 0 (omega arith)) };
 }
 
-pub open-middle : {n : ℕ} {marks rows : List ℕ} {c at : ℕ} {legs : List ℕ} → OpenAsked n marks rows c at → OpenBelow n marks rows c at legs c → OpenFrom n marks rows c at legs (c + 1)
+pub open-middle : {most n : ℕ} {marks rows : List ℕ} {c at : ℕ} {legs : List ℕ} → OpenAsked n marks rows c at → OpenBelow most n marks rows c at legs c → OpenFrom most n marks rows c at legs (c + 1)
 open-middle a s = record { asked = a; below = open-self a s }
 
-pub open-end : {n : ℕ} {marks rows : List ℕ} {c at : ℕ} {legs : List ℕ} → OpenBelow n marks rows c at legs (n + 1) → OpenLegs n marks rows c at legs
+pub open-end : {most n : ℕ} {marks rows : List ℕ} {c at : ℕ} {legs : List ℕ} → OpenBelow most n marks rows c at legs (n + 1) → OpenLegs most n marks rows c at legs
 open-end s = record { list = s .list; each = λ x p. s .done x (p .low) (omega (arith, p .high)) }
 
 -- one more leg, of a point that is not c, by the mark that stands at the place of its edge to c
-open-on : {n : ℕ} {marks rows : List ℕ} {c at : ℕ} {legs : List ℕ} {x spot m : ℕ} {b : Bool} → OpenAsked n marks rows c at → OpenBelow n marks rows c at legs x → Point n x → (x ≡ c → ⊥)
-    → spot ≡ place n c x → b ≡ openAt marks spot → m ≡ cond b (getD rows (at + x) 0) far → OpenBelow n marks rows c at (set legs x m) (x + 1)
-open-on {n} {marks} {rows} {c} {at} {legs} {x} {spot} {m} {b} a s p away e o is = record {
+open-on : {most n : ℕ} {marks rows : List ℕ} {c at : ℕ} {legs : List ℕ} {x spot m : ℕ} {b : Bool} → OpenAsked n marks rows c at → OpenBelow most n marks rows c at legs x → Point n x → (x ≡ c → ⊥)
+    → spot ≡ place n c x → b ≡ openAt most marks spot → m ≡ cond b (getD rows (at + x) 0) far → OpenBelow most n marks rows c at (set legs x m) (x + 1)
+open-on {most} {n} {marks} {rows} {c} {at} {legs} {x} {spot} {m} {b} a s p away e o is = record {
   list = stored-list (s .list) x m inside at-most-far;
   done = stored-below (s .list) x m inside (s .done) leg;
   rest = λ i g k. getD-set-other legs x i m 0 (λ r. omega arith) ∙ s .rest i (omega arith) k;
@@ -96,26 +95,26 @@ open-on {n} {marks} {rows} {c} {at} {legs} {x} {spot} {m} {b} a s p away e o is 
     inside : x ≤ mostPoints
     inside = omega (arith, p .high, a .few)
 
-    leg : m ≡ legOf (rowOf rows at) (openIn n marks) [] c x
-    leg = is ∙ ap (λ (t : Bool). cond t (getD rows (at + x) 0) far) (o ∙ ap (openAt marks) e) ∙ away-leg rows n marks c at x away
+    leg : m ≡ legOf (rowOf rows at) (openUpTo most n marks) [] c x
+    leg = is ∙ ap (λ (t : Bool). cond t (getD rows (at + x) 0) far) (o ∙ ap (openAt most marks) e) ∙ away-leg rows most n marks c at x away
 
     at-most-far : m ≤ far
     at-most-far = rw is (choice b (a .row .small x p))
 
 -- the points below c: `next` is one more than the place of the edge xc
-pub record OpeningBelow (n : ℕ) (marks rows : List ℕ) (c at : ℕ) (legs : List ℕ) (next x : ℕ) : Type 0 where
+pub record OpeningBelow (most n : ℕ) (marks rows : List ℕ) (c at : ℕ) (legs : List ℕ) (next x : ℕ) : Type 0 where
   pub asked : OpenAsked n marks rows c at
-  pub below : OpenBelow n marks rows c at legs x
+  pub below : OpenBelow most n marks rows c at legs x
   pub low : 1 ≤ x
   pub high : x ≤ c
   pub here : next + tri (n + 1 - x) ≡ tri n + (c - x)
 
-pub below-start : {n : ℕ} {marks rows : List ℕ} {c at : ℕ} {legs : List ℕ} → OpenFrom n marks rows c at legs 1 → OpeningBelow n marks rows c at legs (c - 1) 1
-below-start {n} f =
+pub below-start : {most n : ℕ} {marks rows : List ℕ} {c at : ℕ} {legs : List ℕ} → OpenFrom most n marks rows c at legs 1 → OpeningBelow most n marks rows c at legs (c - 1) 1
+below-start {n = n} f =
     let e : n + 1 - 1 ≡ n = omega arith in
     record { asked = f .asked; below = f .below; low = omega arith; high = f .asked .centre .low; here = omega (arith, ap tri e) }
 
-module _ {n : ℕ} {marks rows : List ℕ} {c at : ℕ} {legs : List ℕ} {next x : ℕ} (s : OpeningBelow n marks rows c at legs next x) (h : x < c) where
+module _ {most n : ℕ} {marks rows : List ℕ} {c at : ℕ} {legs : List ℕ} {next x : ℕ} (s : OpeningBelow most n marks rows c at legs next x) (h : x < c) where
   below-edge : IsEdgeUp n x c
   below-edge = record { low = s .low; up = h; high = s .asked .centre .high }
 
@@ -131,8 +130,8 @@ module _ {n : ℕ} {marks rows : List ℕ} {c at : ℕ} {legs : List ℕ} {next 
   pub below-small : next < 2 ^ 32
   below-small = omega (arith, below-place, placeUp-below below-edge, edges-fit {n = n} (omega (arith, s .asked .few)))
 
-  pub below-on : {b : Bool} {m : ℕ} → b ≡ openAt marks (next - 1) → m ≡ cond b (getD rows (at + x) 0) far
-      → OpeningBelow n marks rows c at (set legs x m) (next + (n - x - 1)) (x + 1)
+  pub below-on : {b : Bool} {m : ℕ} → b ≡ openAt most marks (next - 1) → m ≡ cond b (getD rows (at + x) 0) far
+      → OpeningBelow most n marks rows c at (set legs x m) (next + (n - x - 1)) (x + 1)
   below-on o is =
       let t : n + 1 - (x + 1) ≡ n - x = omega arith in
       let e : next - 1 ≡ placeUp n x c = omega (arith, below-place) in
@@ -144,29 +143,29 @@ module _ {n : ℕ} {marks rows : List ℕ} {c at : ℕ} {legs : List ℕ} {next 
         here = omega (arith, s .here, ap tri t, tri-row n x (omega (arith, s .asked .centre)), s .asked .centre);
       }
 
-pub below-end : {n : ℕ} {marks rows : List ℕ} {c at : ℕ} {legs : List ℕ} {next x : ℕ} → OpeningBelow n marks rows c at legs next x → c ≤ x → OpenBelow n marks rows c at legs c
-below-end {n} {marks} {rows} {c} {at} {legs} {next} {x} s h = let e : x ≡ c = omega (arith, s .high) in rw e at (s .below)
+pub below-end : {most n : ℕ} {marks rows : List ℕ} {c at : ℕ} {legs : List ℕ} {next x : ℕ} → OpeningBelow most n marks rows c at legs next x → c ≤ x → OpenBelow most n marks rows c at legs c
+below-end {most} {n} {marks} {rows} {c} {at} {legs} {next} {x} s h = let e : x ≡ c = omega (arith, s .high) in rw e at (s .below)
 
 -- the points above c: the edge to c + 1 stands at `first`, the others behind it
-pub record OpeningAbove (n : ℕ) (marks rows : List ℕ) (c at : ℕ) (legs : List ℕ) (first i : ℕ) : Type 0 where
+pub record OpeningAbove (most n : ℕ) (marks rows : List ℕ) (c at : ℕ) (legs : List ℕ) (first i : ℕ) : Type 0 where
   pub asked : OpenAsked n marks rows c at
-  pub below : OpenBelow n marks rows c at legs (c + 1 + i)
+  pub below : OpenBelow most n marks rows c at legs (c + 1 + i)
   pub placed : Placed n c (c + 1) first
   pub some : c < n
   pub high : c + i ≤ n
 
-pub above-none : {n : ℕ} {marks rows : List ℕ} {c at : ℕ} {legs : List ℕ} → OpenFrom n marks rows c at legs (c + 1) → n ≤ c → OpenBelow n marks rows c at legs (n + 1)
-above-none {n} {marks} {rows} {c} {at} {legs} f h =
+pub above-none : {most n : ℕ} {marks rows : List ℕ} {c at : ℕ} {legs : List ℕ} → OpenFrom most n marks rows c at legs (c + 1) → n ≤ c → OpenBelow most n marks rows c at legs (n + 1)
+above-none {most} {n} {marks} {rows} {c} {at} {legs} f h =
     let e : c + 1 ≡ n + 1 = omega (arith, f .asked .centre) in
-    subst (λ (x : ℕ). OpenBelow n marks rows c at legs x) e (f .below)
+    subst (λ (x : ℕ). OpenBelow most n marks rows c at legs x) e (f .below)
 
-pub above-start : {n : ℕ} {marks rows : List ℕ} {c at : ℕ} {legs : List ℕ} {first : ℕ} → OpenFrom n marks rows c at legs (c + 1) → c < n → Placed n c (c + 1) first
-    → OpeningAbove n marks rows c at legs first 0
-above-start {n} {marks} {rows} {c} {at} {legs} f h p =
+pub above-start : {most n : ℕ} {marks rows : List ℕ} {c at : ℕ} {legs : List ℕ} {first : ℕ} → OpenFrom most n marks rows c at legs (c + 1) → c < n → Placed n c (c + 1) first
+    → OpeningAbove most n marks rows c at legs first 0
+above-start {most} {n} {marks} {rows} {c} {at} {legs} f h p =
     let e : c + 1 ≡ c + 1 + 0 = omega arith in
-    record { asked = f .asked; below = subst (λ (x : ℕ). OpenBelow n marks rows c at legs x) e (f .below); placed = p; some = h; high = omega arith }
+    record { asked = f .asked; below = subst (λ (x : ℕ). OpenBelow most n marks rows c at legs x) e (f .below); placed = p; some = h; high = omega arith }
 
-module _ {n : ℕ} {marks rows : List ℕ} {c at : ℕ} {legs : List ℕ} {first i : ℕ} (s : OpeningAbove n marks rows c at legs first i) (h : i < n - c) where
+module _ {most n : ℕ} {marks rows : List ℕ} {c at : ℕ} {legs : List ℕ} {first i : ℕ} (s : OpeningAbove most n marks rows c at legs first i) (h : i < n - c) where
   above-here : IsEdgeUp n c (c + 1 + i)
   above-here = record { low = s .asked .centre .low; up = omega arith; high = omega arith }
 
@@ -176,15 +175,15 @@ module _ {n : ℕ} {marks rows : List ℕ} {c at : ℕ} {legs : List ℕ} {first
   pub above-inside : first + i < length marks
   above-inside = omega (arith, above-place, placeUp-below above-here, s .asked .marked, edgeCount-tri n)
 
-  pub above-on : {b : Bool} {m : ℕ} → b ≡ openAt marks (first + i) → m ≡ cond b (getD rows (at + (c + 1 + i)) 0) far
-      → OpeningAbove n marks rows c at (set legs (c + 1 + i) m) first (i + 1)
+  pub above-on : {b : Bool} {m : ℕ} → b ≡ openAt most marks (first + i) → m ≡ cond b (getD rows (at + (c + 1 + i)) 0) far
+      → OpeningAbove most n marks rows c at (set legs (c + 1 + i) m) first (i + 1)
   above-on {m = m} o is =
       let t : c + 1 + i + 1 ≡ c + 1 + (i + 1) = omega arith in
       record {
         asked = s .asked;
         below =
             subst
-            (λ (x : ℕ). OpenBelow n marks rows c at (set legs (c + 1 + i) m) x)
+            (λ (x : ℕ). OpenBelow most n marks rows c at (set legs (c + 1 + i) m) x)
             t
             (open-on (s .asked) (s .below) (record { low = omega arith; high = omega arith }) (λ g. omega arith) (above-place ∙ sym (place-up n c (c + 1 + i) (omega arith))) o is);
         placed = s .placed;
@@ -192,10 +191,10 @@ module _ {n : ℕ} {marks rows : List ℕ} {c at : ℕ} {legs : List ℕ} {first
         high = omega arith;
       }
 
-pub above-end : {n : ℕ} {marks rows : List ℕ} {c at : ℕ} {legs : List ℕ} {first i : ℕ} → OpeningAbove n marks rows c at legs first i → n - c ≤ i → OpenBelow n marks rows c at legs (n + 1)
-above-end {n} {marks} {rows} {c} {at} {legs} {first} {i} s h =
+pub above-end : {most n : ℕ} {marks rows : List ℕ} {c at : ℕ} {legs : List ℕ} {first i : ℕ} → OpeningAbove most n marks rows c at legs first i → n - c ≤ i → OpenBelow most n marks rows c at legs (n + 1)
+above-end {most} {n} {marks} {rows} {c} {at} {legs} {first} {i} s h =
     let e : c + 1 + i ≡ n + 1 = omega (arith, s .high) in
-    subst (λ (x : ℕ). OpenBelow n marks rows c at legs x) e (s .below)
+    subst (λ (x : ℕ). OpenBelow most n marks rows c at legs x) e (s .below)
 
 -- narrowing: the legs below x have taken in pq, the others are as they were
 

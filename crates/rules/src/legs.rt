@@ -24,20 +24,21 @@ fn open_leg(opened: bool, length: u32) -> u32
 fn open_below(
     n: u16,
     marks: &[u8],
+    most: u8,
     c: u16,
     rows: &[u32],
     at: usize,
     legs: &mut [u32; Instance::PLACES],
 )
-    requires { ⌜ OpenFrom n (now marks) (now rows) c at (now legs) 1 ⌝ }
-    ensures { λ _. ⌜ OpenBelow n (now (marks .entry)) (now (rows .entry)) c at (now (legs .exit)) c ⌝ }
+    requires { ⌜ OpenFrom most n (now marks) (now rows) c at (now legs) 1 ⌝ }
+    ensures { λ _. ⌜ OpenBelow most n (now (marks .entry)) (now (rows .entry)) c at (now (legs .exit)) c ⌝ }
 {
     let size = n as usize;
     let last = c as usize;
     let mut next = last - 1;
     let mut x = 1;
     while x < last {
-        legs[x] = open_leg(open_at(marks, next - 1), rows[at + x]);
+        legs[x] = open_leg(open_at(marks, next - 1, most), rows[at + x]);
         next += size - x - 1;
         x += 1;
     }
@@ -47,13 +48,14 @@ fn open_below(
 fn open_above(
     n: u16,
     marks: &[u8],
+    most: u8,
     c: u16,
     rows: &[u32],
     at: usize,
     legs: &mut [u32; Instance::PLACES],
 )
-    requires { ⌜ OpenFrom n (now marks) (now rows) c at (now legs) (c + 1) ⌝ }
-    ensures { λ _. ⌜ OpenBelow n (now (marks .entry)) (now (rows .entry)) c at (now (legs .exit)) (n + 1) ⌝ }
+    requires { ⌜ OpenFrom most n (now marks) (now rows) c at (now legs) (c + 1) ⌝ }
+    ensures { λ _. ⌜ OpenBelow most n (now (marks .entry)) (now (rows .entry)) c at (now (legs .exit)) (n + 1) ⌝ }
 {
     if n <= c {
         return;
@@ -64,25 +66,26 @@ fn open_above(
     let mut i = 0;
     while i < left {
         let x = first + i;
-        legs[x] = open_leg(open_at(marks, place + i), rows[at + x]);
+        legs[x] = open_leg(open_at(marks, place + i, most), rows[at + x]);
         i += 1;
     }
 }
 
-// The legs of all points where K is empty, by the row of c that stands at `at`. The legs lent are all FAR.
+// The legs of all points where K is empty and marks up to `most` count as open, by the row of c that stands at `at`. The legs lent are all FAR.
 pub fn open_legs(
     n: u16,
     marks: &[u8],
+    most: u8,
     c: u16,
     rows: &[u32],
     at: usize,
     legs: &mut [u32; Instance::PLACES],
 )
-    requires { ⌜ OpenFrom n (now marks) (now rows) c at (now legs) 1 ⌝ }
-    ensures { λ _. ⌜ OpenLegs n (now (marks .entry)) (now (rows .entry)) c at (now (legs .exit)) ⌝ }
+    requires { ⌜ OpenFrom most n (now marks) (now rows) c at (now legs) 1 ⌝ }
+    ensures { λ _. ⌜ OpenLegs most n (now (marks .entry)) (now (rows .entry)) c at (now (legs .exit)) ⌝ }
 {
-    open_below(n, marks, c, rows, at, legs);
-    open_above(n, marks, c, rows, at, legs);
+    open_below(n, marks, most, c, rows, at, legs);
+    open_above(n, marks, most, c, rows, at, legs);
 }
 
 // The leg with an edge taken in: FAR where the leg and the edge are together longer than both exchanges.

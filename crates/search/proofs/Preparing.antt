@@ -19,7 +19,7 @@ use Rattle.lengths.specs.Instance.{mostLength, pointPlaces}
 use Rattle.rules.specs.asks.Legs.{legOf, narrowed, LegList, LegsOf, RowLent, rowOf, OpenAsked, OpenLegs, NarrowAsked, Narrowed, far}
 use Rattle.rules.specs.asks.Bound.{tightened, tightenedBy, boundOf, Short, loose}
 use Rattle.search.specs.asks.Split.{Prepared, Bounded, TriangleAsked, TriangleIn, SplitAsked, SplitOf, TakeAsked, TakenIn, EdgeAsked, EdgeRowsAsked, EdgeRows, EdgeTriangle, EdgeLegsAsked, EdgeLegs, SingleAsked}
-use Rattle.marks.specs.Mark.{openIn}
+use Rattle.marks.specs.Mark.{openMark, pendingMark, openUpTo, openIn, unstruckIn}
 use Rattle.rules.specs.PairTest.{leg?}
 use Rattle.sets.specs.asks.Stored.{edgesOf, edgeList}
 use Rattle.sets.specs.declared.edge_set.EdgeSet.{EdgeSet}
@@ -31,10 +31,10 @@ use Rattle.rules.proofs.LegsAndBound.{legOf-by, legOf-narrowed, narrowed-by, ti
 row-lent : {n : ℕ} {table rows : List ℕ} {at v : ℕ} → Lengths n table → RowAt n table rows at v → RowLent n rows at
 row-lent {n} {table} {rows} {at} {v} l r = record { room = r .room; small = λ x p. omega (arith, r .each x p, length-small l v x) }
 
-row-opens : {n : ℕ} {table marks rows : List ℕ} {c at : ℕ} {legs : List ℕ} → RowAt n table rows at c → OpenLegs n marks rows c at legs
-    → LegsOf n (lengthOf n table) (openIn n marks) [] c legs
+row-opens : {most n : ℕ} {table marks rows : List ℕ} {c at : ℕ} {legs : List ℕ} → RowAt n table rows at c → OpenLegs most n marks rows c at legs
+    → LegsOf n (lengthOf n table) (openUpTo most n marks) [] c legs
 unfolding rowOf
-row-opens {n} {table} {marks} {rows} {c} {at} r o x p = o .each x p ∙ legOf-by (rowOf rows at) (lengthOf n table) (openIn n marks) c x (r .each x p)
+row-opens {most} {n} {table} {marks} {rows} {c} {at} r o x p = o .each x p ∙ legOf-by (rowOf rows at) (lengthOf n table) (openUpTo most n marks) c x (r .each x p)
 
 short-of : {n : ℕ} {table : List ℕ} → Lengths n table → (p q c : ℕ) {pq cp cq : ℕ} → pq ≡ lengthOf n table p q → cp ≡ lengthOf n table c p → cq ≡ lengthOf n table c q → Short pq cp cq
 short-of l p q c e1 e2 e3 =
@@ -96,7 +96,7 @@ pub record Taking (n : ℕ) (table rows marks : List ℕ) (k : EdgeSet) (c : ℕ
   pub prepared : Prepared n (lengthOf n table) (openIn n marks) (edgesOf (k .from) (k .to) i) c legs bound
 
 pub take-start : {n : ℕ} {table rows marks : List ℕ} {k : EdgeSet} {c at : ℕ} {legs : List ℕ} → SplitAsked n table rows marks k c → at ≡ (n + 1) * c
-    → OpenLegs n marks rows c at legs → Taking n table rows marks k c legs loose 0
+    → OpenLegs openMark n marks rows c at legs → Taking n table rows marks k c legs loose 0
 unfolding edgesOf boundOf
 take-start a e o = record {
   asked = a;
@@ -195,7 +195,7 @@ module _ {n : ℕ} {table rows marks : List ℕ} {k : EdgeSet} {c : ℕ} {legs :
       }
 
 pub take-end : {n : ℕ} {table rows marks : List ℕ} {k : EdgeSet} {c : ℕ} {legs : List ℕ} {bound i : ℕ}
-    → Taking n table rows marks k c legs bound i → k .count ≤ i → SplitOf n table marks k c legs bound
+    → Taking n table rows marks k c legs bound i → k .count ≤ i → SplitOf openMark n table marks k c legs bound
 unfolding edgeList
 take-end {n} {table} {rows} {marks} {k} {c} {legs} {bound} {i} s h =
     let e : i ≡ k .count = omega (arith, s .within) in
@@ -233,7 +233,7 @@ module _ {n : ℕ} {table marks rows : List ℕ} {a b c : ℕ} (q : EdgeLegsAske
   pub edge-open : OpenAsked n marks rows c 0
   edge-open = record { few = q .asked .lengths .few; marked = q .marked; centre = q .asked .centre; row = row-lent (q .asked .lengths) (s .row-c) }
 
-  module _ {t : Triangle} (i : EdgeTriangle n table a b c t) {legs : List ℕ} (o : OpenLegs n marks rows c 0 legs) where
+  module _ {t : Triangle} (i : EdgeTriangle n table a b c t) {legs : List ℕ} (o : OpenLegs pendingMark n marks rows c 0 legs) where
     edge-hand : AtHand n table rows c a b (t .ps) (t .qs) (t .pq) (t .cp) (t .cq)
     edge-hand = record {
       lengths = q .asked .lengths;
@@ -248,7 +248,7 @@ module _ {n : ℕ} {table marks rows : List ℕ} {a b c : ℕ} (q : EdgeLegsAske
     edge-narrow = hand-asks edge-hand (o .list)
 
     pub edge-legs : {r : List ℕ} → Narrowed n rows legs (t .ps) (t .qs) (t .pq) (t .cp) (t .cq) r → EdgeLegs n table marks a b c r
-    edge-legs w = record { list = w .list; each = hand-legs edge-hand (openIn n marks) [] (row-opens (s .row-c) o) w }
+    edge-legs w = record { list = w .list; each = hand-legs edge-hand (unstruckIn n marks) [] (row-opens (s .row-c) o) w }
 
 -- the set of one edge: its only edge is the first that is stored
 module _ {n : ℕ} {table marks : List ℕ} {k : EdgeSet} {c : ℕ} (g : SingleAsked n table marks k c) where
@@ -275,8 +275,8 @@ module _ {n : ℕ} {table marks : List ℕ} {k : EdgeSet} {c : ℕ} (g : SingleA
   single-tight = tightened-le (lengthOf n table) c (getD (k .from) 0 0) (getD (k .to) 0 0) loose
 
   pub single-split : {legs : List ℕ} {bound : ℕ} → EdgeLegs n table marks (getD (k .from) 0 0) (getD (k .to) 0 0) c legs
-      → bound ≡ boundOf (lengthOf n table) (edge (getD (k .from) 0 0) (getD (k .to) 0 0) ∷ []) c → SplitOf n table marks k c legs bound
+      → bound ≡ boundOf (lengthOf n table) (edge (getD (k .from) 0 0) (getD (k .to) 0 0) ∷ []) c → SplitOf pendingMark n table marks k c legs bound
   single-split {legs} {bound} l b = record {
     bounded = record { list = l .list; tight = omega (arith, b, single-tight) };
-    prepared = subst (λ (K : List Edge). Prepared n (lengthOf n table) (openIn n marks) K c legs bound) (sym single-list) (record { each = l .each; least = b });
+    prepared = subst (λ (K : List Edge). Prepared n (lengthOf n table) (unstruckIn n marks) K c legs bound) (sym single-list) (record { each = l .each; least = b });
   }

@@ -3,6 +3,7 @@ use lengths::edge;
 use lengths::instance::Instance;
 use lengths::rows::fill_row;
 use lengths::table::length_between;
+use marks::mark;
 use rules::bound;
 use rules::bound::tighten;
 use rules::legs;
@@ -20,6 +21,7 @@ ghost use Rattle.rules.specs.asks.Bound.{boundOf};
 ghost use Rattle.lengths.specs.Edge.{edge};
 ghost use Rattle.lengths.specs.Instance.{pointPlaces};
 ghost use Rattle.lengths.specs.Table.{lengthOf};
+ghost use Rattle.marks.specs.Mark.{openMark, pendingMark};
 
 // legs[x] is the length from the split point c to x where cx is open and compatible with every edge of K, else FAR.
 // A pair x, y meets conditions 1, 4 and 5 exactly when legs[x] + legs[y] + MOST_LENGTH is at most l(xy) + bound.
@@ -97,7 +99,7 @@ fn take_in(
     tighten(c, u, v, t.pq, t.cp, t.cq, bound)
 }
 
-// What the search looks up for k at c: writes the legs, which are all FAR when lent, and answers the bound.
+// What the search looks up for k at c within a sheet, to which a pending edge is struck: writes the legs, which are all FAR when lent, and answers the bound.
 // The table is there to name the lengths: the rows hold them.
 pub fn prepare(
     n: u16,
@@ -110,13 +112,13 @@ pub fn prepare(
 ) -> u32
     requires { ⌜ SplitAsked n (whole32 (now table)) (now rows) (now marks) k c ⌝ }
     requires { ⌜ now legs ≡ replicate pointPlaces far ⌝ }
-    ensures { λ r. ⌜ SplitOf n (whole32 (now (table .entry))) (now (marks .entry)) k c (now (legs .exit)) r ⌝ }
+    ensures { λ r. ⌜ SplitOf openMark n (whole32 (now (table .entry))) (now (marks .entry)) k c (now (legs .exit)) r ⌝ }
 {
     let from = k.from;
     let to = k.to;
     let count = k.count;
     let at = row_start(n, c);
-    open_legs(n, marks, c, rows, at, legs);
+    open_legs(n, marks, mark::OPEN, c, rows, at, legs);
     let mut bound = bound::LOOSE;
     let mut i = 0;
     while i < count {
@@ -153,7 +155,7 @@ fn edge_triangle(n: u16, table: &[u8], a: u16, b: u16, c: u16) -> Triangle
     }
 }
 
-// The legs of K = {ab} at c.
+// The legs of K = {ab} at c, where a pending edge counts as open.
 fn legs_for_edge(
     n: u16,
     table: &[u8],
@@ -168,7 +170,7 @@ fn legs_for_edge(
     let mut rows = [0u32; 3 * Instance::PLACES];
     fill_edge_rows(n, table, a, b, c, &mut rows);
     let mut legs = [legs::FAR; Instance::PLACES];
-    open_legs(n, marks, c, &rows, 0, &mut legs);
+    open_legs(n, marks, mark::PENDING, c, &rows, 0, &mut legs);
     let t = edge_triangle(n, table, a, b, c);
     narrow(n, &rows, &mut legs, t.ps, t.qs, t.pq, t.cp, t.cq);
     legs
@@ -183,10 +185,10 @@ fn bound_for_edge(n: u16, table: &[u8], a: u16, b: u16, c: u16) -> u32
     tighten(c, a, b, t.pq, t.cp, t.cq, bound::LOOSE)
 }
 
-// What the search looks up for a set k of one edge at c, by three rows alone.
+// What the search looks up for a set k of one edge at c in the pair list, which counts a pending edge as open, by three rows alone.
 pub fn prepare_single(n: u16, table: &[u8], marks: &[u8], k: EdgeSet, c: u16) -> Split
     requires { ⌜ SingleAsked n (whole32 (now table)) (now marks) k c ⌝ }
-    ensures { λ r. ⌜ SplitOf n (whole32 (now (table .entry))) (now (marks .entry)) k c (r .legs) (r .bound) ⌝ }
+    ensures { λ r. ⌜ SplitOf pendingMark n (whole32 (now (table .entry))) (now (marks .entry)) k c (r .legs) (r .bound) ⌝ }
 {
     let from = k.from;
     let to = k.to;

@@ -12,6 +12,9 @@ pub const FRESH: [u8; 10] = [1, 1, 1, 1, 1, 1, 1, 1, 1, 1];
 // The same with 1-3 struck.
 pub const STRUCK: [u8; 10] = [1, 0, 1, 1, 1, 1, 1, 1, 1, 1];
 
+// The same with 1-3 and 2-4 pending: the square's sheet is asked.
+pub const PENDING: [u8; 10] = [1, 2, 1, 1, 2, 1, 1, 1, 1, 1];
+
 // The shortest sheet that the square accepts: it strikes 1-3.
 pub const GOOD: [u16; 8] = [1, 1, 3, 0, 0, 2, 0, 0];
 

@@ -1,5 +1,6 @@
-// *Mark a sheet*: 01's examples that are not starred, and further ones for every refusal, executed by its function for C: a line for each, with
+// *Mark a sheet* and *ask a sheet*: 01's examples that are not starred, and further ones for every refusal, executed by their functions for C: a line for each, with
 // what it should be.
+mod asking;
 mod cases;
 mod fixtures;
 mod records;
@@ -11,5 +12,6 @@ fn main() {
     let t = sheet_checks::run(Tally::new());
     let t = records::run(t);
     let t = cases::run(t);
+    let t = asking::run(t);
     t.print();
 }

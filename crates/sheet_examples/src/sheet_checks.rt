@@ -1,4 +1,4 @@
-// "Mark a sheet": how an example is run, 01's examples, and the tests 1, 2, 5, 6 and 7 of the call.
+// "Mark a sheet": how an example is run, 01's examples, and the tests 1, 2, 5, 6 and 7 of the call (20: `asking.rt`).
 use crate::fixtures;
 use answers::data;
 use answers::data::begin;
@@ -12,6 +12,7 @@ use answers::tally::numbers;
 use answers::tally::subject;
 use answers::tally::text;
 use check::same;
+use revosti::mark::revosti_ask_sheet;
 use revosti::mark::revosti_mark_sheet;
 
 // Writes a sheet: its numbers, or how many there are.
@@ -56,9 +57,27 @@ fn hold(
     t.judged(refusal == number && at == record && count == lines && same_marks)
 }
 
-// Marks a sheet with the first so many of the lengths and marks.
-fn mark(
+// Writes the operation.
+pub fn operation(asks: bool) {
+    if asks {
+        text(b"ask,");
+        return;
+    }
+    text(b"mark,");
+}
+
+// Asks a sheet, or marks it.
+fn ask_or_mark(asks: bool, n: u32, table: &[u8], marks: &mut [u8], sheet: &[u8]) -> u64 {
+    if asks {
+        return revosti_ask_sheet(n, table, marks, sheet);
+    }
+    revosti_mark_sheet(n, table, marks, sheet)
+}
+
+// Asks a sheet, or marks it, with the first so many of the lengths and marks.
+fn hand_in(
     t: Tally,
+    asks: bool,
     n: u32,
     table: [u8; 40],
     entries: u32,
@@ -74,13 +93,14 @@ fn mark(
     let mut found = fresh;
     let k = some_bytes(4 * entries as usize, &table);
     let m = some_bytes(bytes, &found);
-    let got = revosti_mark_sheet(n, &table[..k], &mut found[..m], sheet);
+    let got = ask_or_mark(asks, n, &table[..k], &mut found[..m], sheet);
     hold(t, got, found, bytes, number, record, lines, left)
 }
 
 // The same with the first so many numbers of a sheet that was made.
-fn mark_part(
+pub fn hand_in_part(
     t: Tally,
+    asks: bool,
     n: u32,
     table: [u8; 40],
     entries: u32,
@@ -94,8 +114,9 @@ fn mark_part(
     left: [u8; 10],
 ) -> Tally {
     let p = some_bytes(2 * size as usize, &sheet);
-    mark(
+    hand_in(
         t,
+        asks,
         n,
         table,
         entries,
@@ -120,8 +141,9 @@ pub fn four(
     lines: u64,
     left: [u8; 10],
 ) -> Tally {
-    mark_part(
+    hand_in_part(
         t,
+        false,
         4,
         table,
         6,
@@ -147,8 +169,9 @@ pub fn five(
     lines: u64,
     left: [u8; 10],
 ) -> Tally {
-    mark_part(
+    hand_in_part(
         t,
+        false,
         5,
         table,
         10,
@@ -196,8 +219,9 @@ pub fn struck(t: Tally, sheet: [u8; 112], size: u32, number: u64, record: u64) -
 // A sheet of no more than zeros on the square, which is refused.
 fn zeros(t: Tally, sheet: &[u8], number: u64, record: u64) -> Tally {
     text(b"mark, square,");
-    mark(
+    hand_in(
         t,
+        false,
         4,
         data::square(10),
         6,
@@ -226,6 +250,7 @@ pub fn under(t: Tally, record: [u16; 8], number: u64) -> Tally {
 // of a sheet. The marks stay.
 pub fn given(
     t: Tally,
+    asks: bool,
     n: u32,
     entries: u32,
     first: u32,
@@ -236,10 +261,12 @@ pub fn given(
     number: u64,
     record: u64,
 ) -> Tally {
-    given_text(b"mark,", n, entries, first, bytes, mark_1);
+    operation(asks);
+    given_text(n, entries, first, bytes, mark_1);
     let fresh = [mark_1, 1, 1, 1, 1, 1, 1, 1, 1, 1];
-    mark_part(
+    hand_in_part(
         t,
+        asks,
         n,
         data::square(first),
         entries,
@@ -266,6 +293,7 @@ fn good(
 ) -> Tally {
     given(
         t,
+        false,
         n,
         entries,
         first,
@@ -279,8 +307,9 @@ fn good(
 }
 
 // The same with seven numbers for a sheet.
-fn broken(
+pub fn broken(
     t: Tally,
+    asks: bool,
     n: u32,
     entries: u32,
     first: u32,
@@ -290,6 +319,7 @@ fn broken(
 ) -> Tally {
     given(
         t,
+        asks,
         n,
         entries,
         first,
@@ -314,6 +344,7 @@ fn kind_0(
 ) -> Tally {
     given(
         t,
+        false,
         n,
         entries,
         first,
@@ -355,9 +386,21 @@ fn sizes(t: Tally) -> Tally {
     let t = good(t, 4, 6, 2_000_001, 6, 1, 5);
     let t = good(t, 4, 6, 10, 5, 1, 6);
     let t = good(t, 4, 6, 10, 7, 1, 6);
-    let t = good(t, 4, 6, 10, 6, 2, 6);
+    let t = good(t, 4, 6, 10, 6, 3, 6);
     // 2,000,000 is a length: now (3,4) stands at 2.
-    given(t, 4, 6, 2_000_000, 6, 1, begin(fixtures::GOOD), 8, 14, 1)
+    given(
+        t,
+        false,
+        4,
+        6,
+        2_000_000,
+        6,
+        1,
+        begin(fixtures::GOOD),
+        8,
+        14,
+        1,
+    )
 }
 
 // 7: no record, a broken one, and one too many. 4,000 records are read.
@@ -377,8 +420,8 @@ fn points_first(t: Tally) -> Tally {
     subject(b"mark a sheet: 1 before 2, 5, 6, 7, 10");
     let t = good(t, 3, 6, 10, 3, 1, 1);
     let t = good(t, 3, 3, 2_000_001, 3, 1, 1);
-    let t = good(t, 3, 3, 10, 3, 2, 1);
-    let t = broken(t, 3, 3, 10, 3, 1, 1);
+    let t = good(t, 3, 3, 10, 3, 3, 1);
+    let t = broken(t, false, 3, 3, 10, 3, 1, 1);
     kind_0(t, 3, 3, 10, 3, 1, 1)
 }
 
@@ -387,7 +430,7 @@ fn table_size_first(t: Tally) -> Tally {
     subject(b"mark a sheet: 2 before 5, 6, 7, 10");
     let t = good(t, 4, 5, 2_000_001, 6, 1, 2);
     let t = good(t, 4, 5, 10, 5, 1, 2);
-    let t = broken(t, 4, 5, 10, 6, 1, 2);
+    let t = broken(t, false, 4, 5, 10, 6, 1, 2);
     kind_0(t, 4, 5, 10, 6, 1, 2)
 }
 
@@ -395,12 +438,12 @@ fn table_size_first(t: Tally) -> Tally {
 fn entries_first(t: Tally) -> Tally {
     subject(b"mark a sheet: 5 before 6, 7, 10; 6 before 7, 10; 7 before 10");
     let t = good(t, 4, 6, 2_000_001, 5, 1, 5);
-    let t = good(t, 4, 6, 2_000_001, 6, 2, 5);
-    let t = broken(t, 4, 6, 2_000_001, 6, 1, 5);
+    let t = good(t, 4, 6, 2_000_001, 6, 3, 5);
+    let t = broken(t, false, 4, 6, 2_000_001, 6, 1, 5);
     let t = kind_0(t, 4, 6, 2_000_001, 6, 1, 5);
-    let t = broken(t, 4, 6, 10, 5, 1, 6);
-    let t = broken(t, 4, 6, 10, 6, 2, 6);
-    let t = kind_0(t, 4, 6, 10, 6, 2, 6);
+    let t = broken(t, false, 4, 6, 10, 5, 1, 6);
+    let t = broken(t, false, 4, 6, 10, 6, 3, 6);
+    let t = kind_0(t, 4, 6, 10, 6, 3, 6);
     let nine = put(begin(fixtures::KIND_0), 1, [1, 0, 0, 0, 0, 0, 0, 0]);
     refused(t, nine, 9, 7, 0)
 }

@@ -8,7 +8,7 @@ use native.Mathlib.Numerals.{add-one}
 use native.Mathlib.Omega.{arith}
 use lib.ListN.{length}
 use Rattle.lengths.specs.Edge.{Edge, edge}
-use Rattle.marks.specs.Mark.{openIn, strikeIn}
+use Rattle.marks.specs.Mark.{openIn, markIn}
 use Rattle.marks.specs.asks.Mark.{MarkAsked}
 use Rattle.sets.specs.asks.Stored.{edgeList, Single}
 use Rattle.sets.specs.declared.edge_set.EdgeSet.{EdgeSet}
@@ -26,7 +26,7 @@ use Rattle.argument.proofs.Equations.{close-splits, judged}
 use Rattle.argument.proofs.Sheet.{turn-over, turn-8, turn-9, turn-stops, turn-strikes, turn-rises, lines-over, lines-stop, lines-go-on}
 use Rattle.sheet_lines.specs.asks.Line.{LineAsked, TurnedAs, judgedOf, placeOf, turnedOf, marksAfter}
 use Rattle.sheets.specs.Verdict.{resultOf}
-use Rattle.sheets.specs.Rules.{rulesOf, markingOf}
+use Rattle.sheets.specs.Rules.{rulesOf, markingBy}
 use Rattle.sheets.specs.Sheet.{mostRecords}
 use Rattle.sheets.specs.asks.Sheet.{recordOf}
 use Rattle.sheets.specs.asks.Walk.{walkedOf, Tried, ChainAsked}
@@ -101,34 +101,34 @@ module _ (R : Rules) (open? : ℕ → ℕ → Bool) (s : List ℕ) (i : ℕ) {r 
 
 -- one line from an index
 
-module _ (n : ℕ) (table marks s : List ℕ) (last index high : ℕ) where
+module _ (by n : ℕ) (table marks s : List ℕ) (last index high : ℕ) where
   abbrev at : ℕ → Place (List ℕ)
   at lines = placeOf marks lines last index high
 
-  turned-as : (r : Turned) (left : List ℕ) → ((lines : ℕ) → turn (markingOf n table) s (at lines) ≡ turnedOf (at lines) r left) → ((lines : ℕ) → left ≡ marksAfter (at lines) (turnedOf (at lines) r left)) → TurnedAs n table marks s last index high r left
+  turned-as : (r : Turned) (left : List ℕ) → ((lines : ℕ) → turn (markingBy by n table) s (at lines) ≡ turnedOf (at lines) r left) → ((lines : ℕ) → left ≡ marksAfter (at lines) (turnedOf (at lines) r left)) → TurnedAs by n table marks s last index high r left
   turned-as r left t m = record { answered = λ lines. sym (t lines); marks-left = λ lines. m lines ∙ ap (marksAfter (at lines)) (sym (t lines)) }
 
-  pub mark-over : index ≡ 0 → TurnedAs n table marks s last index high turned.Over marks
-  mark-over e = turned-as turned.Over marks (λ lines. turn-over (markingOf n table) s (at lines) e) (λ lines. refl)
+  pub mark-over : index ≡ 0 → TurnedAs by n table marks s last index high turned.Over marks
+  mark-over e = turned-as turned.Over marks (λ lines. turn-over (markingBy by n table) s (at lines) e) (λ lines. refl)
 
-  pub mark-above : records s < index → TurnedAs n table marks s last index high (turned.Refused 8 last) marks
-  mark-above h = turned-as (turned.Refused 8 last) marks (λ lines. turn-8 (markingOf n table) s (at lines) h) (λ lines. refl)
+  pub mark-above : records s < index → TurnedAs by n table marks s last index high (turned.Refused 8 last) marks
+  mark-above h = turned-as (turned.Refused 8 last) marks (λ lines. turn-8 (markingBy by n table) s (at lines) h) (λ lines. refl)
 
-  pub mark-low : (index ≡ 0 → ⊥) → index ≤ records s → index ≤ high → TurnedAs n table marks s last index high (turned.Refused 9 last) marks
-  mark-low z h l = turned-as (turned.Refused 9 last) marks (λ lines. turn-9 (markingOf n table) s (at lines) z h l) (λ lines. refl)
+  pub mark-low : (index ≡ 0 → ⊥) → index ≤ records s → index ≤ high → TurnedAs by n table marks s last index high (turned.Refused 9 last) marks
+  mark-low z h l = turned-as (turned.Refused 9 last) marks (λ lines. turn-9 (markingBy by n table) s (at lines) z h l) (λ lines. refl)
 
   module _ (h : Enters s high index) {v : Judged} (z : judgedOf v ≡ judge (rulesOf n table marks) (openIn n marks) s index) where
     judges : {v′ : Judged} → v ≡ v′ → judge (rulesOf n table marks) (openIn n marks) s index ≡ judgedOf v′
     judges g = sym z ∙ ap judgedOf g
 
-    pub mark-stops : {m r : ℕ} → v ≡ judging.Refused m r → TurnedAs n table marks s last index high (turned.Refused m r) marks
-    mark-stops {m} {r} g = turned-as (turned.Refused m r) marks (λ lines. turn-stops (markingOf n table) s (at lines) h m r (judges g)) (λ lines. refl)
+    pub mark-stops : {m r : ℕ} → v ≡ judging.Refused m r → TurnedAs by n table marks s last index high (turned.Refused m r) marks
+    mark-stops {m} {r} g = turned-as (turned.Refused m r) marks (λ lines. turn-stops (markingBy by n table) s (at lines) h m r (judges g)) (λ lines. refl)
 
-    pub mark-strikes : {a b next reached : ℕ} {left : List ℕ} → v ≡ judging.Strikes a b next reached → left ≡ strikeIn n marks a b → TurnedAs n table marks s last index high (turned.Struck next reached) left
+    pub mark-strikes : {a b next reached : ℕ} {left : List ℕ} → v ≡ judging.Strikes a b next reached → left ≡ markIn by n marks a b → TurnedAs by n table marks s last index high (turned.Struck next reached) left
     unfolding struck
     mark-strikes {a} {b} {next} {reached} {left} g e =
         turned-as (turned.Struck next reached) left (λ lines.
-        turn-strikes (markingOf n table) s (at lines) h (strikes a b next reached) (judges g) ∙ ap (λ (m : List ℕ). accepted (onward (placeOf m (suc lines) index next reached))) (sym e))
+        turn-strikes (markingBy by n table) s (at lines) h (strikes a b next reached) (judges g) ∙ ap (λ (m : List ℕ). accepted (onward (placeOf m (suc lines) index next reached))) (sym e))
         (λ lines. refl)
 
 -- an accepted line strikes an edge
@@ -140,43 +140,43 @@ mark-marked {n} {table} {rows} {marks} {s} {count} t index {v} {a} {b} {next} {r
 -- the lines of a sheet
 
 -- the loop's invariant: the lines from here are the lines of the sheet
-pub record Proceeding (n : ℕ) (table rows marks₀ s : List ℕ) (count : ℕ) (marks : List ℕ) (lines last index high : ℕ) : Type 0 where
+pub record Proceeding (by n : ℕ) (table rows marks₀ s : List ℕ) (count : ℕ) (marks : List ℕ) (lines last index high : ℕ) : Type 0 where
   pub tried : Tried n table rows marks s count
   pub kept : length marks ≡ length marks₀
   pub counted : lines ≤ high
-  pub goes : linesFrom (markingOf n table) s (placeOf marks lines last index high) ≡ sheet (markingOf n table) s marks₀
+  pub goes : linesFrom (markingBy by n table) s (placeOf marks lines last index high) ≡ sheet (markingBy by n table) s marks₀
 
-pub lines-start : {n : ℕ} {table rows marks s : List ℕ} {count : ℕ} → Tried n table rows marks s count → Proceeding n table rows marks s count marks 0 0 1 0
+pub lines-start : {by n : ℕ} {table rows marks s : List ℕ} {count : ℕ} → Tried n table rows marks s count → Proceeding by n table rows marks s count marks 0 0 1 0
 unfolding sheet start
 lines-start t = record { tried = t; kept = refl; counted = omega arith; goes = refl }
 
-module _ {n : ℕ} {table rows marks₀ s : List ℕ} {count : ℕ} {marks : List ℕ} {lines last index high : ℕ} (p : Proceeding n table rows marks₀ s count marks lines last index high) {r : Turned} {left : List ℕ} (t : TurnedAs n table marks s last index high r left) where
+module _ {by n : ℕ} {table rows marks₀ s : List ℕ} {count : ℕ} {marks : List ℕ} {lines last index high : ℕ} (p : Proceeding by n table rows marks₀ s count marks lines last index high) {r : Turned} {left : List ℕ} (t : TurnedAs by n table marks s last index high r left) where
   abbrev here : Place (List ℕ)
   here = placeOf marks lines last index high
 
-  turns : {r′ : Turned} → r ≡ r′ → turn (markingOf n table) s here ≡ turnedOf here r′ left
+  turns : {r′ : Turned} → r ≡ r′ → turn (markingBy by n table) s here ≡ turnedOf here r′ left
   turns g = sym (t .answered lines) ∙ ap (λ (x : Turned). turnedOf here x left) g
 
   leaves : {r′ : Turned} → r ≡ r′ → left ≡ marksAfter here (turnedOf here r′ left)
   leaves g = t .marks-left lines ∙ ap (marksAfter here) (turns g)
 
-  pub lines-accepted : r ≡ turned.Over → resultOf (verdict.Accepted lines) left ≡ sheet (markingOf n table) s marks₀
+  pub lines-accepted : r ≡ turned.Over → resultOf (verdict.Accepted lines) left ≡ sheet (markingBy by n table) s marks₀
   unfolding answer
   lines-accepted g =
       ap (λ (m : List ℕ). resultOf (verdict.Accepted lines) m) (leaves g)
-      ∙ sym (lines-over (markingOf n table) s here (turns g))
+      ∙ sym (lines-over (markingBy by n table) s here (turns g))
       ∙ p .goes
 
-  pub lines-refused : {m i : ℕ} → r ≡ turned.Refused m i → resultOf (verdict.Refused m i lines) left ≡ sheet (markingOf n table) s marks₀
+  pub lines-refused : {m i : ℕ} → r ≡ turned.Refused m i → resultOf (verdict.Refused m i lines) left ≡ sheet (markingBy by n table) s marks₀
   unfolding answer
   lines-refused {m} {i} g =
       ap (λ (x : List ℕ). resultOf (verdict.Refused m i lines) x) (leaves g)
-      ∙ sym (lines-stop (markingOf n table) s here m i (turns g))
+      ∙ sym (lines-stop (markingBy by n table) s here m i (turns g))
       ∙ p .goes
 
   module _ {next reached : ℕ} (g : r ≡ turned.Struck next reached) where
     risen : Enters s high index × (index ≤ reached)
-    risen = turn-rises (markingOf n table) s here (placeOf left (suc lines) index next reached) (turns g)
+    risen = turn-rises (markingBy by n table) s here (placeOf left (suc lines) index next reached) (turns g)
 
     pub lines-few : lines + 1 ≤ mostRecords
     lines-few = omega (arith, risen .0, p .tried .admitted .few, p .counted)
@@ -184,11 +184,11 @@ module _ {n : ℕ} {table rows marks₀ s : List ℕ} {count : ℕ} {marks : Lis
     pub lines-fall : records s - reached < records s - high
     lines-fall = omega (arith, risen .0, risen .1)
 
-    pub lines-on : length left ≡ length marks → Proceeding n table rows marks₀ s count left (lines + 1) index next reached
+    pub lines-on : length left ≡ length marks → Proceeding by n table rows marks₀ s count left (lines + 1) index next reached
     lines-on e =
         record {
           tried = let a = p .tried .admitted in record { admitted = record { least = a .least; lengths = a .lengths; marked = e ∙ a .marked; whole = a .whole; few = a .few }; in-rows = p .tried .in-rows };
           kept = e ∙ p .kept;
           counted = omega (arith, risen .0, risen .1, p .counted);
-          goes = ap (λ (m : ℕ). linesFrom (markingOf n table) s (placeOf left m index next reached)) (add-one lines) ∙ sym (lines-go-on (markingOf n table) s here (placeOf left (suc lines) index next reached) (turns g)) ∙ p .goes;
+          goes = ap (λ (m : ℕ). linesFrom (markingBy by n table) s (placeOf left m index next reached)) (add-one lines) ∙ sym (lines-go-on (markingBy by n table) s here (placeOf left (suc lines) index next reached) (turns g)) ∙ p .goes;
         }

@@ -1,7 +1,8 @@
 // One line of a sheet: judged against the marks as they are, and then marked; and a sheet as the repetition of one line.
 use lengths::refusal;
+use marks::mark;
 use marks::mark::is_open;
-use marks::mark::strike;
+use marks::mark::set_mark;
 use sets::edge_set::EdgeSet;
 use sheets::sheet::Closing;
 use sheets::sheet::Line;
@@ -19,7 +20,7 @@ ghost use Rattle.argument.specs.Line as judging;
 ghost use Rattle.argument.specs.Sheet as lines;
 ghost use Rattle.sheet_lines.specs.asks.Line.{LineAsked, TurnedAs, judgedOf};
 ghost use Rattle.sheets.specs.Verdict.{resultOf};
-ghost use Rattle.sheets.specs.Rules.{rulesOf, markingOf};
+ghost use Rattle.sheets.specs.Rules.{rulesOf, markingBy};
 ghost use Rattle.sheets.specs.asks.Sheet.{recordOf};
 ghost use Rattle.sheets.specs.asks.Walk.{Tried};
 
@@ -62,7 +63,7 @@ fn judge_line(
     if !points_fit(n, line.a, line.b, closing) {
         return Judged::Refused(refusal::POINT, i);
     }
-    if !is_open(n, marks, line.a, line.b) {
+    if !is_open(n, marks, line.a, line.b, mark::OPEN) {
         return Judged::Refused(refusal::STRUCK, i);
     }
     let k = EdgeSet::single(line.a, line.b);
@@ -109,9 +110,10 @@ pub fn judge(
     }
 }
 
-// One line from an index, which the record `last` has: judged and, if it is accepted, marked.
+// One line from an index, which the record `last` has: judged and, if it is accepted, marked with `by`.
 pub fn mark_line(
     n: u16,
+    by: u8,
     table: &[u8],
     rows: &[u32],
     marks: &mut [u8],
@@ -122,7 +124,7 @@ pub fn mark_line(
     high: u16,
 ) -> Turned
     requires { ⌜ Tried n (whole32 (now table)) (now rows) (now marks) (whole16 (now sheet)) count ⌝ }
-    ensures { λ r. ⌜ TurnedAs n (whole32 (now (table .entry))) (now (marks .entry)) (whole16 (now (sheet .entry))) last index high r (now (marks .exit)) ⌝ }
+    ensures { λ r. ⌜ TurnedAs by n (whole32 (now (table .entry))) (now (marks .entry)) (whole16 (now (sheet .entry))) last index high r (now (marks .exit)) ⌝ }
 {
     if index == 0 {
         return Turned::Over;
@@ -135,7 +137,7 @@ pub fn mark_line(
     }
     match judge(n, table, rows, marks, sheet, count, index) {
         Judged::Strikes { a, b, next, high } => {
-            strike(n, marks, a, b);
+            set_mark(n, marks, a, b, by);
             Turned::Struck {
                 next: next,
                 high: high,
@@ -145,9 +147,10 @@ pub fn mark_line(
     }
 }
 
-// The lines of a sheet of so many records, from record 1 on.
+// The lines of a sheet of so many records, from record 1 on; an accepted line marks its edge with `by`.
 pub fn mark_lines(
     n: u16,
+    by: u8,
     table: &[u8],
     rows: &[u32],
     marks: &mut [u8],
@@ -155,14 +158,14 @@ pub fn mark_lines(
     count: u16,
 ) -> Verdict
     requires { ⌜ Tried n (whole32 (now table)) (now rows) (now marks) (whole16 (now sheet)) count ⌝ }
-    ensures { λ r. ⌜ resultOf r (now (marks .exit)) ≡ lines.sheet (markingOf n (whole32 (now (table .entry)))) (whole16 (now (sheet .entry))) (now (marks .entry)) ⌝ }
+    ensures { λ r. ⌜ resultOf r (now (marks .exit)) ≡ lines.sheet (markingBy by n (whole32 (now (table .entry)))) (whole16 (now (sheet .entry))) (now (marks .entry)) ⌝ }
 {
     let mut lines: u16 = 0;
     let mut last: u16 = 0;
     let mut index: u16 = 1;
     let mut high: u16 = 0;
     loop {
-        match mark_line(n, table, rows, marks, sheet, count, last, index, high) {
+        match mark_line(n, by, table, rows, marks, sheet, count, last, index, high) {
             Turned::Over => return Verdict::Accepted { lines: lines },
             Turned::Refused(number, at) => return Verdict::Refused {
                 refusal: number,

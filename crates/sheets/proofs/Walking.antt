@@ -9,7 +9,7 @@ use native.Mathlib.Omega.{arith}
 use Rattle.lists.proofs.Bools.{and-true}
 use Rattle.lengths.specs.Edge.{Edge, edge}
 use Rattle.lengths.specs.Table.{lengthOf}
-use Rattle.marks.specs.Mark.{openIn}
+use Rattle.marks.specs.Mark.{openMark, openIn}
 use Rattle.sets.specs.EdgeSet.{withPair}
 use Rattle.rules.specs.asks.Pairs.{feasibleAfter}
 use Rattle.sets.specs.Neighbours.{neighboursOf}
@@ -77,7 +77,7 @@ module _ {n : ℕ} {table rows marks sheet : List ℕ} {count : ℕ} {k : EdgeSe
   pub chain-split : SplitAsked n table rows marks k c
   chain-split = record { legs = record { lengths = asked .tried .admitted .lengths; marked = asked .tried .admitted .marked; centre = asked .centre }; in-rows = asked .tried .in-rows; held = asked .held }
 
-  pub follow-start : {legs candidates rank : List ℕ} {bound : ℕ} {centre : Neighbours} (i first : ℕ) → SplitOf n table marks k c legs bound → centre ≡ neighboursOf (edgeList k) c
+  pub follow-start : {legs candidates rank : List ℕ} {bound : ℕ} {centre : Neighbours} (i first : ℕ) → SplitOf openMark n table marks k c legs bound → centre ≡ neighboursOf (edgeList k) c
       → CandidatesOf n legs candidates rank → Following n table rows marks sheet count k left i c first legs candidates rank bound centre 1 1 i first i
   unfolding opening
   follow-start i first s own listed =

@@ -19,7 +19,7 @@ use Rattle.sets.specs.EdgeSet.{DegreeTwo}
 use Rattle.closings.specs.Closing.{ThreeOptMoves}
 use Rattle.closings.specs.ClosingTest.{saves?, labelling?, centresApart?, placed?, settledBy, threeOptOutcome}
 use Rattle.sets.specs.Joined.{joins?, has?}
-use Rattle.marks.specs.Mark.{openIn}
+use Rattle.marks.specs.Mark.{openUpTo, markAt}
 use Rattle.sets.specs.Neighbours.{withPoint, seen, neighboursOf, bothOf, endsOf, within?, either?, beyond}
 use Rattle.rules.specs.Pair.{FeasiblePair}
 use Rattle.rules.specs.PairTest.{every, compatible?, leg?, stays?, unmoved?, feasible?}
@@ -130,7 +130,7 @@ each (d ∷ es) (h & hs) e m = ⊎-elim (λ q. subst (λ (x : Example). Claim x)
 -- the square's numbers, the standing pairs and the 3-opt closing's answer are computed
 proved : Proved starred
 unfolding starred distanceBy bisect passes square allOpen eight centres lengthOf measuredTable edgeDistance gapDistance squares xOf yOf xGap yGap gapOf
-    edgeCount place placeUp tri edges rows row openIn feasiblePairs keep feasible? leg? unmoved? stays? every compatible? shape? shuts? reaches? goesOn
+    edgeCount place placeUp tri edges rows row openUpTo markAt feasiblePairs keep feasible? leg? unmoved? stays? every compatible? shape? shuts? reaches? goesOn
     neighboursOf seen withPoint within? either? beyond threeOptOutcome placed? has? joins? centresApart? endsOf bothOf settledBy labelling? saves?
 proved =
     distances-hold 1 1 2 1 2 1 2 1 (omega arith) refl refl refl refl refl refl &

@@ -5,7 +5,7 @@ use mathlib.Core.List.{List}
 use lib.Dec.{leb}
 use lib.ListN.{length}
 use Rattle.lists.specs.Test.{unless}
-use Rattle.marks.specs.Mark.{openIn}
+use Rattle.marks.specs.Mark.{unstruckIn}
 use Rattle.argument.specs.Record.{splits, fits}
 use Rattle.marking.specs.Tests.{tested}
 use Rattle.marking.specs.declared.tests.Tested.{Tested}
@@ -20,7 +20,7 @@ abbrev pub askTested : Tested → List ℕ → ℕ → ℕ → ℕ → Tested
 askTested (tests.Refused number) marks a b c = tests.Refused number
 askTested (tests.Points n) marks a b c =
     unless (fits n a b (splits c 0)) (tests.Refused 11)
-    (unless (openIn n marks a b) (tests.Refused 12)
+    (unless (unstruckIn n marks a b) (tests.Refused 12)
     (tests.Points n))
 
 unfoldable pub listTests : ℕ → List ℕ → List ℕ → ℕ → ℕ → ℕ → Tested

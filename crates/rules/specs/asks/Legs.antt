@@ -8,7 +8,7 @@ use lib.ListN.{length, getD}
 use Rattle.lengths.specs.Edge.{Edge, Point, edgeCount}
 use Rattle.lengths.specs.Instance.{mostLength, mostPoints, pointPlaces}
 use Rattle.rules.specs.PairTest.{leg?}
-use Rattle.marks.specs.Mark.{openIn}
+use Rattle.marks.specs.Mark.{openUpTo}
 use Rattle.rules.specs.asks.Bound.{Short}
 
 -- more than any pair may cost
@@ -52,21 +52,21 @@ pub record OpenAsked (n : ℕ) (marks rows : List ℕ) (c at : ℕ) : Type 0 whe
   pub centre : Point n c
   pub row : RowLent n rows at
 
--- the legs of the points below x are those where K is empty, the others are far
-pub record OpenBelow (n : ℕ) (marks rows : List ℕ) (c at : ℕ) (legs : List ℕ) (x : ℕ) : Type 0 where
+-- the legs of the points below x are those where K is empty and marks up to `most` count as open, the others are far
+pub record OpenBelow (most n : ℕ) (marks rows : List ℕ) (c at : ℕ) (legs : List ℕ) (x : ℕ) : Type 0 where
   pub list : LegList legs
-  pub done : (i : ℕ) → 1 ≤ i → i < x → getD legs i 0 ≡ legOf (rowOf rows at) (openIn n marks) [] c i
+  pub done : (i : ℕ) → 1 ≤ i → i < x → getD legs i 0 ≡ legOf (rowOf rows at) (openUpTo most n marks) [] c i
   pub rest : (i : ℕ) → x ≤ i → i ≤ mostPoints → getD legs i 0 ≡ far
 
 -- what filling in the legs from x on is asked about
-pub record OpenFrom (n : ℕ) (marks rows : List ℕ) (c at : ℕ) (legs : List ℕ) (x : ℕ) : Type 0 where
+pub record OpenFrom (most n : ℕ) (marks rows : List ℕ) (c at : ℕ) (legs : List ℕ) (x : ℕ) : Type 0 where
   pub asked : OpenAsked n marks rows c at
-  pub below : OpenBelow n marks rows c at legs x
+  pub below : OpenBelow most n marks rows c at legs x
 
 -- what `open_legs` answers: the legs where K is empty
-pub record OpenLegs (n : ℕ) (marks rows : List ℕ) (c at : ℕ) (legs : List ℕ) : Type 0 where
+pub record OpenLegs (most n : ℕ) (marks rows : List ℕ) (c at : ℕ) (legs : List ℕ) : Type 0 where
   pub list : LegList legs
-  pub each : LegsOf n (rowOf rows at) (openIn n marks) [] c legs
+  pub each : LegsOf n (rowOf rows at) (openUpTo most n marks) [] c legs
 
 -- what taking pq into all legs is asked about: the rows of p and q, which begin at ps and qs, and the lengths pq, cp and cq
 pub record NarrowAsked (n : ℕ) (rows legs : List ℕ) (ps qs pq cp cq : ℕ) : Type 0 where

@@ -8,7 +8,7 @@ use Rattle.lengths.specs.Edge.{Edge, edge, Point, edgeCount}
 use Rattle.lengths.specs.Instance.{pointPlaces}
 use Rattle.lengths.specs.asks.Rows.{RowAt, Rows}
 use Rattle.lengths.specs.Table.{lengthOf, Lengths}
-use Rattle.marks.specs.Mark.{openIn}
+use Rattle.marks.specs.Mark.{openUpTo, unstruckIn}
 use Rattle.sets.specs.asks.Stored.{edgeList, Held}
 use Rattle.sets.specs.declared.edge_set.EdgeSet.{EdgeSet}
 use Rattle.search.specs.declared.split.Triangle.{Triangle}
@@ -96,10 +96,10 @@ pub record EdgeLegsAsked (n : ℕ) (table marks : List ℕ) (a b c : ℕ) : Type
   pub asked : EdgeAsked n table a b c
   pub marked : length marks ≡ edgeCount n
 
--- what `legs_for_edge` answers: the legs of K = {ab}
+-- what `legs_for_edge` answers: the legs of K = {ab}, where a pending edge counts as open
 pub record EdgeLegs (n : ℕ) (table marks : List ℕ) (a b c : ℕ) (legs : List ℕ) : Type 0 where
   pub list : LegList legs
-  pub each : LegsOf n (lengthOf n table) (openIn n marks) (edge a b ∷ []) c legs
+  pub each : LegsOf n (lengthOf n table) (unstruckIn n marks) (edge a b ∷ []) c legs
 
 -- what a split of one edge is prepared from: a table, the marks, the split point, and the set of that edge
 pub record SingleAsked (n : ℕ) (table marks : List ℕ) (k : EdgeSet) (c : ℕ) : Type 0 where
@@ -107,7 +107,7 @@ pub record SingleAsked (n : ℕ) (table marks : List ℕ) (k : EdgeSet) (c : ℕ
   pub held : Held n k
   pub one : k .count ≡ 1
 
--- what `prepare` and `prepare_single` answer
-pub record SplitOf (n : ℕ) (table marks : List ℕ) (k : EdgeSet) (c : ℕ) (legs : List ℕ) (bound : ℕ) : Type 0 where
+-- what `prepare` (with open) and `prepare_single` (with pending) answer: marks up to `most` count as open
+pub record SplitOf (most n : ℕ) (table marks : List ℕ) (k : EdgeSet) (c : ℕ) (legs : List ℕ) (bound : ℕ) : Type 0 where
   pub bounded : Bounded legs bound
-  pub prepared : Prepared n (lengthOf n table) (openIn n marks) (edgeList k) c legs bound
+  pub prepared : Prepared n (lengthOf n table) (openUpTo most n marks) (edgeList k) c legs bound

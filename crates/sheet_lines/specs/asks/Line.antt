@@ -6,7 +6,7 @@ use lib.ListN.{length}
 use Rattle.argument.specs.Verdict.{Verdict, accepted, refused}
 use Rattle.argument.specs.Line.{Struck, strikes}
 use Rattle.argument.specs.Sheet.{Place, Turn, over, onward, turn}
-use Rattle.sheets.specs.Rules.{markingOf}
+use Rattle.sheets.specs.Rules.{markingBy}
 use Rattle.sheets.specs.Sheet.{Readable}
 use Rattle.sheets.specs.asks.Walk.{Admitted, Tried}
 use Rattle.sheet_lines.specs.declared.line.Judged.{Judged}
@@ -39,10 +39,10 @@ marksAfter p (accepted over) = p .marks
 marksAfter p (accepted (onward q)) = q .marks
 marksAfter p (refused number rec) = p .marks
 
--- what `mark_line` ensures, however many lines were accepted before
-pub record TurnedAs (n : ℕ) (table marks sheet : List ℕ) (last index high : ℕ) (r : Turned) (left : List ℕ) : Type 0 where
-  pub answered : (lines : ℕ) → turnedOf (placeOf marks lines last index high) r left ≡ turn (markingOf n table) sheet (placeOf marks lines last index high)
-  pub marks-left : (lines : ℕ) → left ≡ marksAfter (placeOf marks lines last index high) (turn (markingOf n table) sheet (placeOf marks lines last index high))
+-- what `mark_line` ensures, which writes the mark `by`, however many lines were accepted before
+pub record TurnedAs (by n : ℕ) (table marks sheet : List ℕ) (last index high : ℕ) (r : Turned) (left : List ℕ) : Type 0 where
+  pub answered : (lines : ℕ) → turnedOf (placeOf marks lines last index high) r left ≡ turn (markingBy by n table) sheet (placeOf marks lines last index high)
+  pub marks-left : (lines : ℕ) → left ≡ marksAfter (placeOf marks lines last index high) (turn (markingBy by n table) sheet (placeOf marks lines last index high))
 
 -- what marking by rows that are still to be written is asked about: there is room for them
 pub record RowsAsked (n : ℕ) (table rows marks sheet : List ℕ) (count : ℕ) : Type 0 where

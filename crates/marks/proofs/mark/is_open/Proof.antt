@@ -1,9 +1,6 @@
 -- `marks::mark::is_open` meets its contract: the mark stands at the edge's place. Assumes nothing.
-use Prim.Native.Nat.{ℕ}
 use mathlib.Core.Path.{_∙_, ap}
-use lib.Dec.{eqb}
-use lib.ListN.{getD}
-use Rattle.marks.specs.Mark.{openIn}
+use Rattle.marks.specs.Mark.{openAt, openUpTo}
 use borrow.Author.Needs.{needs}
 use Rattle.marks.proofs.mark.is_open.Statement.{statement}
 use Rattle.marks.proofs.mark.is_open.Tie as tie
@@ -15,8 +12,8 @@ open-at-requires : tie.Need-open-at-requires
 open-at-requires c κs = search needs
 
 returns : tie.Need-returns
-unfolding openIn
-returns c = c .open-at .ensures ∙ ap (λ (i : ℕ). eqb (getD (c .before .before .before .args .marks .now) i 0) 1) (c .before .place .ensures .at)
+unfolding openUpTo
+returns c = c .open-at .ensures ∙ ap (openAt _ _) (c .before .place .ensures .at)
 
 pub is-open-spec : {M : Type 1} → statement M
 is-open-spec = tie.close (tie.spec place-requires open-at-requires returns)

@@ -9,13 +9,13 @@ use Rattle.marks.proofs.mark.marks_within.Statement.{statement}
 use Rattle.marks.proofs.mark.marks_within.Tie as tie
 
 abbrev Inv-loop : tie.InvT-loop
-Inv-loop marks within₀ i₀ within i = Limiting 1 marks within i
+Inv-loop marks most within₀ i₀ within i = Limiting most marks within i
 
 abbrev μ-loop : tie.MeasureT-loop
-μ-loop marks within₀ i₀ within i = length marks - i
+μ-loop marks most within₀ i₀ within i = length marks - i
 
 loop-holds : tie.Need-loop-holds Inv-loop μ-loop
-loop-holds c = limiting-start 1 _
+loop-holds c = limiting-start _ _
 
 shared-slice-read-if1 : tie.Need-shared-slice-read-if1 Inv-loop μ-loop
 shared-slice-read-if1 c = search needs

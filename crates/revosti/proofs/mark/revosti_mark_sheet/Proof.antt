@@ -14,7 +14,7 @@ same-length : tie.Need-same-length
 same-length c = search needs
 
 returns : tie.Need-returns
-returns c = marked-in-c _ _ _ _ (c .before .before .before .mark-sheet .ensures) (c .marked-number .ensures)
+returns c = marked-in-c _ _ _ _ _ (c .before .before .before .mark-sheet .ensures) (c .marked-number .ensures)
 
 pub revosti-mark-sheet-spec : {M : Type 1} → statement M
 revosti-mark-sheet-spec =

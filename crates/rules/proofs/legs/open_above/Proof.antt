@@ -6,10 +6,10 @@ use Rattle.rules.proofs.legs.open_above.Statement.{statement}
 use Rattle.rules.proofs.legs.open_above.Tie as tie
 
 abbrev Inv-loop : tie.InvT-loop
-Inv-loop n marks c rows at legs₀ first left place i₀ legs i = OpeningAbove n marks rows c at legs place i
+Inv-loop n marks most c rows at legs₀ first left place i₀ legs i = OpeningAbove most n marks rows c at legs place i
 
 abbrev μ-loop : tie.MeasureT-loop
-μ-loop n marks c rows at legs₀ first left place i₀ legs i = n - c - i
+μ-loop n marks most c rows at legs₀ first left place i₀ legs i = n - c - i
 
 returns : tie.Need-returns Inv-loop μ-loop
 returns c = above-none (c .before .before .before .pre) (c .if1 .taken)

@@ -7,10 +7,10 @@ use Rattle.rules.proofs.legs.open_below.Statement.{statement}
 use Rattle.rules.proofs.legs.open_below.Tie as tie
 
 abbrev Inv-loop : tie.InvT-loop
-Inv-loop n marks c rows at legs₀ size last next₀ x₀ legs next x = OpeningBelow n marks rows c at legs next x
+Inv-loop n marks most c rows at legs₀ size last next₀ x₀ legs next x = OpeningBelow most n marks rows c at legs next x
 
 abbrev μ-loop : tie.MeasureT-loop
-μ-loop n marks c rows at legs₀ size last next₀ x₀ legs next x = c - x
+μ-loop n marks most c rows at legs₀ size last next₀ x₀ legs next x = c - x
 
 sub-next : tie.Need-sub-next Inv-loop μ-loop
 sub-next c = search needs

@@ -11,11 +11,11 @@ use Rattle.sheet_lines.proofs.line.mark_lines.Statement.{statement}
 use Rattle.sheet_lines.proofs.line.mark_lines.Tie as tie
 
 abbrev Inv-loop : tie.InvT-loop
-Inv-loop n table rows marks₀ sheet count lines₀ last₀ index₀ high₀ marks lines last index high =
-    Proceeding n (whole32 table) rows marks₀ (whole16 sheet) count marks lines last index high
+Inv-loop n by table rows marks₀ sheet count lines₀ last₀ index₀ high₀ marks lines last index high =
+    Proceeding by n (whole32 table) rows marks₀ (whole16 sheet) count marks lines last index high
 
 abbrev μ-loop : tie.MeasureT-loop
-μ-loop n table rows marks₀ sheet count lines₀ last₀ index₀ high₀ marks lines last index high = records (whole16 sheet) - high
+μ-loop n by table rows marks₀ sheet count lines₀ last₀ index₀ high₀ marks lines last index high = records (whole16 sheet) - high
 
 loop-holds : tie.Need-loop-holds Inv-loop μ-loop
 loop-holds c = lines-start (c .before .before .before .before .pre)
@@ -27,7 +27,7 @@ enum-told : tie.Need-enum-told Inv-loop μ-loop
 enum-told c = search needs
 
 same-length : tie.Need-same-length Inv-loop μ-loop
-same-length c = c .before .before .before .before .mark-line .kept .1 .1 .1 .0 ∙ c .before .before .before .before .before .before .loop .inv .kept
+same-length c = c .before .before .before .before .mark-line .kept .1 .1 .1 .1 .0 ∙ c .before .before .before .before .before .before .loop .inv .kept
 
 returns : tie.Need-returns Inv-loop μ-loop
 returns c = lines-accepted (c .before .before .before .before .before .before .loop .inv) (c .before .before .before .before .mark-line .ensures) (c .enum-told .given .1)
@@ -36,7 +36,7 @@ enum-known-number : tie.Need-enum-known-number Inv-loop μ-loop
 enum-known-number c = search needs
 
 same-length-2 : tie.Need-same-length-2 Inv-loop μ-loop
-same-length-2 c = c .before .before .before .before .before .mark-line .kept .1 .1 .1 .0 ∙ c .before .before .before .before .before .before .before .loop .inv .kept
+same-length-2 c = c .before .before .before .before .before .mark-line .kept .1 .1 .1 .1 .0 ∙ c .before .before .before .before .before .before .before .loop .inv .kept
 
 returns-2 : tie.Need-returns-2 Inv-loop μ-loop
 returns-2 c = lines-refused (c .before .before .before .before .before .before .before .loop .inv) (c .before .before .before .before .before .mark-line .ensures) (c .before .number .given .1)
@@ -51,7 +51,7 @@ loop-less : tie.Need-loop-less Inv-loop μ-loop
 loop-less c = lines-fall (c .before .before .before .before .before .before .before .loop .inv) (c .before .before .before .before .before .mark-line .ensures) (c .before .next .given .1)
 
 loop-again : tie.Need-loop-again Inv-loop μ-loop
-loop-again c = lines-on (c .before .before .before .before .before .before .before .loop .inv) (c .before .before .before .before .before .mark-line .ensures) (c .before .next .given .1) (c .before .before .before .before .before .mark-line .kept .1 .1 .1 .0)
+loop-again c = lines-on (c .before .before .before .before .before .before .before .loop .inv) (c .before .before .before .before .before .mark-line .ensures) (c .before .next .given .1) (c .before .before .before .before .before .mark-line .kept .1 .1 .1 .1 .0)
 
 pub mark-lines-spec : {M : Type 1} → statement M
 mark-lines-spec =

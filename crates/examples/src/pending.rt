@@ -1,0 +1,132 @@
+// "Confirm" and "withdraw" on four points: each refusal and their order. A refused call leaves the marks as they were. And the square's sheet
+// asked: 01's example.
+use crate::tour_checks::check;
+use answers::data::begin;
+use answers::data::numbers_as_bytes;
+use answers::data::put;
+use answers::data::some_bytes;
+use answers::data::square;
+use answers::tally::Tally;
+use answers::tally::figure;
+use answers::tally::hold;
+use answers::tally::marks;
+use answers::tally::numbers;
+use answers::tally::subject;
+use answers::tally::text;
+use revosti::mark::revosti_ask_sheet;
+use revosti::mark::revosti_mark_sheet;
+use revosti::pending::revosti_confirm;
+use revosti::pending::revosti_withdraw;
+
+// Fresh marks of four points, and a byte behind them.
+const FRESH: [u8; 7] = [1, 1, 1, 1, 1, 1, 1];
+
+// The same once the square's two lines are asked; the byte behind is no mark.
+const PENDING: [u8; 7] = [1, 2, 1, 1, 2, 1, 2];
+
+// Confirms, or withdraws.
+fn settle(confirms: bool, n: u32, marks: &mut [u8]) -> u64 {
+    if confirms {
+        text(b"confirm,");
+        return revosti_confirm(n, marks);
+    }
+    text(b"withdraw,");
+    revosti_withdraw(n, marks)
+}
+
+// Confirms, or withdraws, with n stated and the first so many of these marks.
+fn settled(
+    t: Tally,
+    confirms: bool,
+    n: u32,
+    lent: [u8; 7],
+    size: usize,
+    number: u64,
+    left: [u8; 7],
+) -> Tally {
+    let mut found = lent;
+    let k = some_bytes(size, &found);
+    let got = settle(confirms, n, &mut found[..k]);
+    figure(b" points ", n as u64);
+    figure(b", first ", size as u64);
+    text(b" of marks ");
+    marks(&lent);
+    text(b":");
+    hold(t, got, found, number, left)
+}
+
+// The same, where it is refused: the marks stay.
+fn refused(t: Tally, confirms: bool, n: u32, lent: [u8; 7], size: usize, number: u64) -> Tally {
+    settled(t, confirms, n, lent, size, number, lent)
+}
+
+// What is pending becomes `to`; each refusal, and their order.
+fn each(t: Tally, confirms: bool, to: u8) -> Tally {
+    let done = [1, to, 1, 1, to, 1, 2];
+    let t = settled(t, confirms, 4, PENDING, 6, 0, done);
+    let t = refused(t, confirms, 4, done, 6, 21);
+    let t = settled(
+        t,
+        confirms,
+        4,
+        [0, 2, 1, 0, 2, 2, 3],
+        6,
+        0,
+        [0, to, 1, 0, to, to, 3],
+    );
+    let t = refused(t, confirms, 3, PENDING, 3, 1);
+    let t = refused(t, confirms, 181, PENDING, 6, 1);
+    let t = refused(t, confirms, 4, PENDING, 5, 6);
+    let t = refused(t, confirms, 4, PENDING, 7, 6);
+    let t = refused(t, confirms, 4, [2, 1, 1, 1, 1, 3, 1], 6, 6);
+    // 1 before 6 and 21; 6 before 21.
+    let t = refused(t, confirms, 3, [2, 3, 1, 1, 1, 1, 1], 6, 1);
+    let t = refused(t, confirms, 3, FRESH, 3, 1);
+    let t = refused(t, confirms, 4, FRESH, 5, 6);
+    refused(t, confirms, 4, [3, 1, 1, 1, 1, 1, 1], 6, 6)
+}
+
+// Asks a sheet on the square, then confirms it: the verdict and the marks are those of marking it, and confirming answers this number.
+fn as_marked(t: Tally, sheet: [u8; 112], size: usize, number: u64) -> Tally {
+    let p = some_bytes(size, &sheet);
+    let table = square(10);
+    let k = some_bytes(24, &table);
+    let mut marked = FRESH;
+    let verdict = revosti_mark_sheet(4, &table[..k], &mut marked[..6], &sheet[..p]);
+    let mut asked = FRESH;
+    let got = revosti_ask_sheet(4, &table[..k], &mut asked[..6], &sheet[..p]);
+    text(b"ask,");
+    numbers(&sheet[..p]);
+    figure(b": ", got);
+    figure(b", should be as marked, ", verdict);
+    let t = t.judged(got == verdict);
+    settled(t, true, 4, asked, 6, number, marked)
+}
+
+// Accepted; stopped behind its first line; and stopped there, so that nothing is pending.
+fn sheets(t: Tally) -> Tally {
+    subject(b"ask and confirm: the verdict and the marks of mark; 21 where no line was accepted");
+    let two = put(begin([1, 1, 3, 0, 0, 2, 0, 2]), 1, [1, 2, 4, 0, 0, 1, 0, 0]);
+    let t = as_marked(t, two, 32, 0);
+    let t = as_marked(t, two, 16, 0);
+    as_marked(t, begin([1, 1, 2, 0, 0, 3, 0, 0]), 16, 21)
+}
+
+// The tour 1, 3, 2, 4 has both pending edges, which count as open: 65,536 times 48, and 256.
+fn tour(t: Tally) -> Tally {
+    subject(b"check a tour with pending edges: they count as open");
+    let points = numbers_as_bytes([1, 3, 2, 4, 0, 0, 0, 0]);
+    let got = check(4, square(10), 24, PENDING, 6, points, 8);
+    figure(b"tour 1 3 2 4, marks 121121: ", got);
+    figure(b", should be ", 3_145_984);
+    t.judged(got == 3_145_984)
+}
+
+pub fn run(t: Tally) -> Tally {
+    let t = sheets(t);
+    let t = tour(t);
+    subject(b"confirm: 21 the second time, 1, 6; 1 before 6, 21; 6 before 21");
+    let t = each(t, true, 0);
+    subject(b"withdraw: 21 the second time, 1, 6; 1 before 6, 21; 6 before 21");
+    each(t, false, 1)
+}

@@ -1,0 +1,52 @@
+-- Marks that are read and written: the mark at the place written, at another place, and the size; what is open, said by the mark itself; and what
+-- the test for pending marks says of each mark. Assumes nothing.
+use Prim.Native.Nat.{ℕ, zero, suc, _≤_, _<_}
+use mathlib.Core.Path.{_≡_, refl, sym, _∙_}
+use mathlib.Core.Bool.{true, not}
+use mathlib.Core.Logic.{_↔_}
+use mathlib.Core.List.{List, [], _∷_}
+use native.Mathlib.Omega.{arith}
+use lib.Dec.{eqb, leb}
+use lib.ListN.{length, getD, length-set}
+use lib.Seq.{getD-set-same, getD-set-other}
+use borrow.Author.Tests.{le-leb, lt-leb, leb-true, eqb-true, ne-eqb}
+use Rattle.lists.specs.Test.{allAtMost}
+use Rattle.lists.proofs.Bools.{and-left, and-right, and-both, and-no}
+use Rattle.lengths.proofs.Limits.{limit-each}
+use Rattle.marks.specs.Mark.{markAt, setMark, struckMark, openMark, pendingMark, areMarks, nonePending, opens, openAt}
+
+pub mark-size : (marks : List ℕ) (i mark : ℕ) → length (setMark marks i mark) ≡ length marks
+unfolding setMark
+mark-size marks i mark = length-set marks i mark
+
+pub mark-same : (marks : List ℕ) (i mark : ℕ) → i < length marks → markAt (setMark marks i mark) i ≡ mark
+unfolding markAt setMark
+mark-same marks i mark h = getD-set-same marks i mark 0 h
+
+pub mark-other : (marks : List ℕ) (i j mark : ℕ) → (i ≡ j → ⊥) → markAt (setMark marks i mark) j ≡ markAt marks j
+unfolding markAt setMark
+mark-other marks i j mark h = getD-set-other marks i j mark 0 (λ e. h (sym e))
+
+-- a sheet counts mark 1 as open, and no other
+pub open-one : (m : ℕ) → opens openMark m ≡ eqb m openMark
+open-one zero = refl
+open-one (suc zero) = refl
+open-one (suc (suc m)) = rw (lt-leb (suc (suc m)) openMark (omega arith), ne-eqb (suc (suc m)) openMark (λ e. omega arith)) (and-no (not (eqb (suc (suc m)) struckMark)))
+
+pub open-mark : (marks : List ℕ) (i : ℕ) → openAt openMark marks i ≡ true → markAt marks i ≡ openMark
+open-mark marks i h = eqb-true (markAt marks i) openMark (sym (open-one (markAt marks i)) ∙ h)
+
+-- where each byte is a mark, nothing is pending exactly when no mark is 2
+pub none-pending-exact : (marks : List ℕ) → areMarks marks ≡ true → (nonePending marks ≡ true) ↔ ((i : ℕ) → markAt marks i ≡ pendingMark → ⊥)
+unfolding markAt allAtMost
+none-pending-exact marks are = (λ h i e. omega (arith, limit-each openMark marks h i), λ h. within marks are h)
+  where
+    low : (x : ℕ) → x ≤ pendingMark → (x ≡ pendingMark → ⊥) → leb x openMark ≡ true
+    low x m d = le-leb x openMark (omega (arith, d))
+
+    within : (xs : List ℕ) → allAtMost pendingMark xs ≡ true → ((i : ℕ) → getD xs i 0 ≡ pendingMark → ⊥) → allAtMost openMark xs ≡ true
+    within [] a h = refl
+    within (x ∷ xs) a h =
+        and-both (leb x openMark) (allAtMost openMark xs)
+        (low x (leb-true x pendingMark (and-left (leb x pendingMark) (allAtMost pendingMark xs) a)) (h 0))
+        (within xs (and-right (leb x pendingMark) (allAtMost pendingMark xs) a) (λ i. h (suc i)))
