@@ -1,6 +1,6 @@
 /*
- * How a tour solver uses Revosti: a board is measured, a strike sheet written from lists of standing pairs and marked, and a search looks
- * at open edges only.
+ * How a tour solver uses Revosti: a board is measured, a strike sheet written from lists of standing pairs, asked, withdrawn, asked again
+ * and confirmed, and a search looks at open edges only.
  *
  *   cc -Iinclude examples/solver.c target/staticlib/librevosti.a -o solver && ./solver
  *
@@ -43,7 +43,8 @@ static void put32(uint8_t *at, uint32_t number)
 static unsigned get16(const uint8_t *at) { return at[0] | (unsigned)at[1] << 8; }
 static uint32_t get32(const uint8_t *at) { return get16(at) | (uint32_t)get16(at + 2) << 16; }
 
-static int is_open(unsigned a, unsigned b) { return marks[revosti_place(N, a, b)] == REVOSTI_OPEN; }
+static unsigned mark_of(unsigned a, unsigned b) { return marks[revosti_place(N, a, b)]; }
+static int is_open(unsigned a, unsigned b) { return mark_of(a, b) == REVOSTI_OPEN; }
 static uint32_t length(unsigned a, unsigned b) { return get32(table + 4 * revosti_place(N, a, b)); }
 
 /* The operations, on the buffers of this program. */
@@ -52,14 +53,22 @@ static uint64_t measure(uint32_t rule) { return revosti_measure(N, rule, coordin
 /* The length of 4-2, measured by a rule. */
 static uint32_t diagonal(uint32_t rule) { return measure(rule) == REVOSTI_ACCEPTED ? length(4, 2) : UINT32_MAX; }
 
+static uint64_t fresh_marks(void) { return revosti_fresh_marks(N, marks, sizeof marks); }
 static uint64_t mark_sheet(size_t size) { return revosti_mark_sheet(N, table, sizeof table, marks, sizeof marks, sheet, size); }
+static uint64_t ask_sheet(size_t size) { return revosti_ask_sheet(N, table, sizeof table, marks, sizeof marks, sheet, size); }
+static uint64_t confirm(void) { return revosti_confirm(N, marks, sizeof marks); }
+static uint64_t withdraw(void) { return revosti_withdraw(N, marks, sizeof marks); }
 
 static uint64_t list_pairs(unsigned a, unsigned b, unsigned c, size_t size)
 {
     return revosti_list_pairs(N, table, sizeof table, marks, sizeof marks, (uint16_t)a, (uint16_t)b, (uint16_t)c, list, size);
 }
 
-static uint64_t check_tour(void) { return revosti_check_tour(N, table, sizeof table, marks, sizeof marks, tour, sizeof tour); }
+static uint64_t check_tour(const unsigned *points)
+{
+    for (size_t i = 0; i < N; i++) put16(tour + 2 * i, points[i]);
+    return revosti_check_tour(N, table, sizeof table, marks, sizeof marks, tour, sizeof tour);
+}
 
 /* A split point at which no pair stands under a-b, or 0: a line that splits there needs no case. */
 static unsigned empty_split(unsigned a, unsigned b)
@@ -88,6 +97,56 @@ static size_t write_lines(void)
     return lines;
 }
 
+/* Asks the sheet and shows the verdict: both lines are accepted, and 1-3 and 2-4 are pending. */
+static void ask(size_t lines)
+{
+    uint64_t answer = ask_sheet(RECORD * lines);
+    expect("asking, refusal", revosti_refusal(answer), REVOSTI_ACCEPTED);
+    expect("asking, lines accepted", revosti_lines(answer), 2);
+    expect("mark of 1-3, asked", mark_of(1, 3), REVOSTI_PENDING);
+    expect("mark of 4-2, asked", mark_of(4, 2), REVOSTI_PENDING);
+}
+
+/* While something is pending, the pair list and the tour check count it as open, and no sheet is marked or asked. */
+static void while_pending(size_t lines)
+{
+    static const unsigned over_both[N] = {1, 3, 2, 4};
+    expect("pairs at 3 under 1-2, with 1-3 pending", revosti_pairs(list_pairs(1, 2, 3, sizeof list)), 2);
+    expect("pairs at 2 under 1-3, pending itself", list_pairs(1, 3, 2, sizeof list), 0);
+    expect("a tour over 1-3 and 2-4, all edges open", (uint64_t)revosti_tour_open(check_tour(over_both)), 1);
+    expect("marking while something is pending", mark_sheet(RECORD * lines), REVOSTI_SOMETHING_PENDING);
+    expect("asking while something is pending", ask_sheet(RECORD * lines), REVOSTI_SOMETHING_PENDING);
+}
+
+/* Hands the sheet in: asks, withdraws, asks again and confirms. */
+static void hand_in(size_t lines)
+{
+    expect("confirming with nothing pending", confirm(), REVOSTI_NOTHING_PENDING);
+    ask(lines);
+    while_pending(lines);
+    expect("withdrawing", withdraw(), REVOSTI_ACCEPTED);
+    expect("mark of 1-3, withdrawn", mark_of(1, 3), REVOSTI_OPEN);
+    expect("mark of 4-2, withdrawn", mark_of(4, 2), REVOSTI_OPEN);
+    expect("withdrawing with nothing pending", withdraw(), REVOSTI_NOTHING_PENDING);
+    ask(lines);
+    expect("confirming", confirm(), REVOSTI_ACCEPTED);
+    expect("mark of 1-3, confirmed", mark_of(1, 3), REVOSTI_STRUCK);
+    expect("mark of 4-2, confirmed", mark_of(4, 2), REVOSTI_STRUCK);
+    expect("pairs at 3 under 1-2, with 1-3 struck", revosti_pairs(list_pairs(1, 2, 3, sizeof list)), 1);
+}
+
+/* Marks the sheet directly, from fresh marks: the verdict of asking, and the marks that confirming left. */
+static void mark_directly(size_t lines)
+{
+    uint8_t confirmed[sizeof marks];
+    memcpy(confirmed, marks, sizeof marks);
+    expect("fresh marks again", fresh_marks(), REVOSTI_ACCEPTED);
+    uint64_t answer = mark_sheet(RECORD * lines);
+    expect("marking, refusal", revosti_refusal(answer), REVOSTI_ACCEPTED);
+    expect("marking, lines accepted", revosti_lines(answer), 2);
+    expect("marks differ from the confirmed ones", (uint64_t)(memcmp(confirmed, marks, sizeof marks) != 0), 0);
+}
+
 /* The search: extends a path that has `depth` points by every open edge, and keeps the shortest closed one. */
 static unsigned path[N], best[N];
 static uint32_t best_length = UINT32_MAX;
@@ -111,6 +170,16 @@ static void search(unsigned depth, uint32_t sum)
     }
 }
 
+/* The solver looks at the four open edges only. */
+static void find_tour(void)
+{
+    path[0] = 1;
+    search(1, 0);
+    uint64_t answer = check_tour(best);
+    expect("tour found, length", revosti_tour_length(answer), 40);
+    expect("tour found, all edges open", (uint64_t)revosti_tour_open(answer), 1);
+}
+
 /* Faulty input is refused, and changes nothing. `lines` is the length of the sheet that is marked already. */
 static void refusals(size_t lines)
 {
@@ -122,6 +191,8 @@ static void refusals(size_t lines)
 
     expect("fresh marks, n = 181", revosti_fresh_marks(181, marks, sizeof marks), REVOSTI_POINTS);
     expect("fresh marks, one too few", revosti_fresh_marks(N, marks, sizeof marks - 1), REVOSTI_MARKS);
+    expect("confirming, n = 181", revosti_confirm(181, marks, sizeof marks), REVOSTI_POINTS);
+    expect("withdrawing, one mark too few", revosti_withdraw(N, marks, sizeof marks - 1), REVOSTI_MARKS);
     expect("measuring, coordinates one byte short",
            revosti_measure(N, REVOSTI_EUC_2D, coordinates, sizeof coordinates - 1, table, sizeof table), REVOSTI_SIZE);
     expect("measuring, a table one byte short",
@@ -133,17 +204,17 @@ static void refusals(size_t lines)
     expect("marking, an edge struck already, record", revosti_record(mark_sheet(RECORD * lines)), 1);
     expect("listing, an edge struck already", list_pairs(1, 3, 2, sizeof list), REVOSTI_EDGE_STRUCK);
     expect("listing, a list of one byte", list_pairs(1, 2, 3, 1), REVOSTI_LIST);
-    put16(tour, best[1]);
-    expect("a tour that names a point twice", check_tour(), REVOSTI_TOUR);
+    best[0] = best[1];
+    expect("a tour that names a point twice", check_tour(best), REVOSTI_TOUR);
 
     expect("table changed by refused calls", (uint64_t)(memcmp(old_table, table, sizeof table) != 0), 0);
     expect("marks changed by refused calls", (uint64_t)(memcmp(old_marks, marks, sizeof marks) != 0), 0);
     expect("list changed by refused calls", (uint64_t)(memcmp(old_list, list, sizeof list) != 0), 0);
 }
 
-int main(void)
+/* The square 1 (0,0), 2 (10,0), 3 (10,10), 4 (0,10), measured by each rule, by EUC_2D last: sides 10, diagonals 14. */
+static void measure_square(void)
 {
-    /* The square 1 (0,0), 2 (10,0), 3 (10,10), 4 (0,10). All that follows the first four lengths is by EUC_2D: sides 10, diagonals 14. */
     static const uint32_t square[2 * N] = {0, 0, 10, 0, 10, 10, 0, 10};
     for (size_t i = 0; i < 2 * N; i++) put32(coordinates + 4 * i, square[i]);
     expect("length of 4-2 by CEIL_2D", diagonal(REVOSTI_CEIL_2D), 15);
@@ -153,33 +224,30 @@ int main(void)
     expect("measuring", measure(REVOSTI_EUC_2D), REVOSTI_ACCEPTED);
     expect("length of 1-2", length(1, 2), 10);
     expect("length of 4-2", length(4, 2), 14);
-    expect("fresh marks", revosti_fresh_marks(N, marks, sizeof marks), REVOSTI_ACCEPTED);
+}
 
-    /* Two pairs stand at 3 under 1-2: 1 and 4, 2 and 4. A last odd byte of the list stays. */
+/* Two pairs stand at 3 under 1-2: 1 and 4, 2 and 4. A last odd byte of the list stays. */
+static void list_at_3(void)
+{
     list[8] = 77;
     expect("pairs at 3 under 1-2", revosti_pairs(list_pairs(1, 2, 3, 9)), 2);
     expect("first pair, x and y as digits", 10 * get16(list) + get16(list + 2), 14);
     expect("second pair, x and y as digits", 10 * get16(list + 4) + get16(list + 6), 24);
     expect("the byte behind them", list[8], 77);
+}
+
+int main(void)
+{
+    measure_square();
+    expect("fresh marks", fresh_marks(), REVOSTI_ACCEPTED);
+    list_at_3();
 
     /* Two lines: strike 1-3 by a split at 2, strike 2-4 by a split at 1. No pair stands at either, so neither has a case. */
     size_t lines = write_lines();
     expect("lines written", lines, 2);
-    uint64_t answer = mark_sheet(RECORD * lines);
-    expect("marking, refusal", revosti_refusal(answer), REVOSTI_ACCEPTED);
-    expect("marking, lines accepted", revosti_lines(answer), 2);
-    expect("mark of 1-3", marks[revosti_place(N, 1, 3)], REVOSTI_STRUCK);
-    expect("mark of 4-2", marks[revosti_place(N, 4, 2)], REVOSTI_STRUCK);
-    expect("pairs at 3 under 1-2, with 1-3 struck", revosti_pairs(list_pairs(1, 2, 3, sizeof list)), 1);
-
-    /* The solver looks at the four open edges only. */
-    path[0] = 1;
-    search(1, 0);
-    for (size_t i = 0; i < N; i++) put16(tour + 2 * i, best[i]);
-    answer = check_tour();
-    expect("tour found, length", revosti_tour_length(answer), 40);
-    expect("tour found, all edges open", (uint64_t)revosti_tour_open(answer), 1);
-
+    hand_in(lines);
+    mark_directly(lines);
+    find_tour();
     refusals(lines);
     return faults != 0;
 }

@@ -1,5 +1,6 @@
 /*
- * Revosti for C: measure a board, make fresh marks, mark a strike sheet, list standing pairs, check a tour.
+ * Revosti for C: measure a board, make fresh marks, mark a strike sheet, ask one and confirm or withdraw it, list standing pairs, check a
+ * tour.
  *
  * Link with librevosti.a (`rt staticlib revosti` writes target/staticlib/librevosti.a).
  *
@@ -8,7 +9,7 @@
  *
  *   coordinates  4 bytes a number, 2n numbers: both of point 1, then both of point 2, ..; each at most REVOSTI_MOST_COORDINATE.
  *   table        4 bytes an edge: its length, at most REVOSTI_MOST_LENGTH. It need not obey the triangle inequality.
- *   marks        1 byte an edge: REVOSTI_OPEN or REVOSTI_STRUCK. Fresh marks are all REVOSTI_OPEN.
+ *   marks        1 byte an edge: REVOSTI_OPEN, REVOSTI_PENDING or REVOSTI_STRUCK. Fresh marks are all REVOSTI_OPEN.
  *   sheet        16 bytes a record, 1 to REVOSTI_MOST_RECORDS records, numbered from 1: eight 16-bit numbers kind, a, b, u, v, c, d, next.
  *   tour         2 bytes a point, n points.
  *   list         2 bytes a point: x then y of each pair. It takes any length: its places are its whole entries.
@@ -19,11 +20,20 @@
  * keep no state and always return. They use some 160 KB of stack. A buffer that is written overlaps no other while the call runs;
  * buffers that are only read may overlap.
  *
- * docs/RULES.md has the rules that they keep to, and what the words here mean (standing pair, split, crossing, labelling).
- * What is proved of them: demands 1 to 3 of README.md. In particular, whatever sheets are marked from fresh marks over one table,
- * provided that nobody else writes the table or the marks meanwhile:
+ * The life of a mark:
  *
- *   - no edge of a shortest tour is ever struck;
+ *   open     from fresh marks on; marking a sheet moves it to struck, asking a sheet to pending.
+ *   pending  until it is settled: confirming moves it to struck, withdrawing back to open.
+ *   struck   for good; only fresh marks set it to open again.
+ *   Marking and asking want nothing pending (refusal 20), confirming and withdrawing want something pending (refusal 21).
+ *
+ * Within an asked sheet a pending edge counts as struck; the pair list and the tour check count it as open.
+ *
+ * docs/RULES.md has the rules that they keep to, and what the words here mean (standing pair, split, crossing, labelling).
+ * What is proved of them: demands 1 to 3 of README.md. In particular, whatever sheets are marked, asked, confirmed and withdrawn from fresh
+ * marks over one table, provided that nobody else writes the table or the marks meanwhile (open is REVOSTI_OPEN here):
+ *
+ *   - no edge of a shortest tour is ever struck or pending;
  *   - nor of a tour that cannot be made shorter by taking out at most three of its edges and putting in as many: all its edges stay open;
  *   - every point keeps at least two open edges;
  *   - at least n edges stay open.
@@ -54,6 +64,7 @@ enum {
 
     REVOSTI_STRUCK = 0,
     REVOSTI_OPEN = 1,
+    REVOSTI_PENDING = 2,
 
     REVOSTI_LINE = 1,     /* kind 1: strike a-b, split at c, first case d, next line */
     REVOSTI_SPLIT = 2,    /* kind 2: case with pair a, b, split at c, first case d, next case */
@@ -68,19 +79,21 @@ enum {
     REVOSTI_RULE = 3,            /* the rule is outside 1 to 5 */
     REVOSTI_COORDINATE = 4,      /* a coordinate above 1,000,000 */
     REVOSTI_LENGTH = 5,          /* a table entry above 2,000,000 */
-    REVOSTI_MARKS = 6,           /* wrong number of marks, or a byte above 1 */
+    REVOSTI_MARKS = 6,           /* wrong number of marks, or a byte above 2 */
     REVOSTI_SHEET = 7,           /* the sheet is not 1 to 4,000 whole records */
     REVOSTI_INDEX_ABOVE = 8,     /* an index above the record count; names the record that has the index */
     REVOSTI_INDEX_NOT_ABOVE = 9, /* an index not above the highest record entered; names the record that has the index */
     REVOSTI_KIND = 10,           /* wrong kind for its chain, or u or v not 0 in kinds 1 and 2 */
     REVOSTI_POINT = 11,          /* a point outside 1 to n, or a = b */
-    REVOSTI_EDGE_STRUCK = 12,    /* the edge is struck already */
+    REVOSTI_EDGE_STRUCK = 12,    /* the edge is struck already, or pending where a sheet is asked */
     REVOSTI_SEVENTH_SPLIT = 13,  /* more than six splits one inside another */
     REVOSTI_PAIR = 14,           /* the pair is not the next standing one, or the chain ends with standing pairs left */
     REVOSTI_NO_CROSSING = 15,    /* a crossing's edge or centres break a condition */
     REVOSTI_NO_SAVING = 16,      /* no labelling of the crossing saves */
     REVOSTI_TOUR = 17,           /* not n whole numbers, or not each point from 1 to n exactly once */
-    REVOSTI_LIST = 18            /* the list has fewer than twice as many places as there are standing pairs */
+    REVOSTI_LIST = 18,           /* the list has fewer than twice as many places as there are standing pairs */
+    REVOSTI_SOMETHING_PENDING = 20, /* marking or asking while an edge is pending */
+    REVOSTI_NOTHING_PENDING = 21    /* confirming or withdrawing while none is */
 };
 
 /*
@@ -98,25 +111,46 @@ uint64_t revosti_fresh_marks(uint32_t n, uint8_t *marks, size_t marks_len);
 
 /*
  * Marks a sheet: strikes each line's edge whose argument is complete, one line after the other, and stops at the first refusal.
- * Refusals in this order: 1, 2, 5, 6, 7; then 8 and 9 on each index followed; 10 and 11 on each record entered, then 12 on a line, and 14,
+ * Refusals in this order: 1, 2, 5, 6, 20, 7; then 8 and 9 on each index followed; 10 and 11 on each record entered, then 12 on a line, and 14,
  * 13, 15, 16 on a case (14 before 13). A chain that ends with standing pairs left gets 14 at its last record, or at the split's owner.
  * Answer: refusal number + 256 * record + 16,777,216 * lines accepted; take it apart with the functions below. The record is 0 where no
- * record is at fault. It changes marks alone: a call that is refused by 1 to 7 none; one that stops at a record keeps the strikes of the
- * lines accepted before it.
+ * record is at fault. It changes marks alone: a call that is refused by 1 to 7 or 20 none; one that stops at a record keeps the strikes of
+ * the lines accepted before it.
  */
 uint64_t revosti_mark_sheet(uint32_t n, const uint8_t *table, size_t table_len, uint8_t *marks, size_t marks_len,
                             const uint8_t *sheet, size_t sheet_len);
 
 /*
+ * Asks a sheet: as revosti_mark_sheet, with the same refusals in the same order and the same answer on the same marks, but each edge that
+ * it strikes gets REVOSTI_PENDING. A call that stops at a record keeps these. Where nothing is pending before, asking and then
+ * confirming leave the marks that marking leaves (if no line is accepted, confirming is refused by 21, and they are the same anyway).
+ */
+uint64_t revosti_ask_sheet(uint32_t n, const uint8_t *table, size_t table_len, uint8_t *marks, size_t marks_len,
+                           const uint8_t *sheet, size_t sheet_len);
+
+/*
+ * Confirms: every pending mark becomes REVOSTI_STRUCK, and no other mark changes. Refusals in this order: 1, 6, 21.
+ * Answer: the refusal number, or 0. A refused call changes no mark.
+ */
+uint64_t revosti_confirm(uint32_t n, uint8_t *marks, size_t marks_len);
+
+/*
+ * Withdraws: every pending mark becomes REVOSTI_OPEN, and no other mark changes. Refusals in this order: 1, 6, 21.
+ * Answer: the refusal number, or 0. A refused call changes no mark.
+ */
+uint64_t revosti_withdraw(uint32_t n, uint8_t *marks, size_t marks_len);
+
+/*
  * Checks a tour. Refusals in this order: 1, 2, 5, 6, 17. It changes nothing.
- * Answer: the refusal number alone, or 65,536 * length + 256 if all its edges are open.
+ * Answer: the refusal number alone, or 65,536 * length + 256 if all its edges are open. A pending edge counts as open.
  */
 uint64_t revosti_check_tour(uint32_t n, const uint8_t *table, size_t table_len, const uint8_t *marks, size_t marks_len,
                             const uint8_t *tour, size_t tour_len);
 
 /*
  * Lists the pairs that stand at the split point c, which may be a or b, under K = {a-b}: x then y of each, x below y, rising. Refusals in
- * this order: 1, 2, 5, 6; 11, of a, b and c; 12; 18. Answer: the refusal number alone, or 65,536 * the number of pairs.
+ * this order: 1, 2, 5, 6; 11, of a, b and c; 12; 18. A pending edge counts as open, in 12 too.
+ * Answer: the refusal number alone, or 65,536 * the number of pairs.
  * It changes the list alone: entries past the pairs keep their numbers, and so does a last odd byte. A refused call changes nothing.
  */
 uint64_t revosti_list_pairs(uint32_t n, const uint8_t *table, size_t table_len, const uint8_t *marks, size_t marks_len,
