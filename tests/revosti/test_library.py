@@ -175,7 +175,7 @@ class Header(unittest.TestCase):
         groups = [{name: int(number) for name, number in re.findall(r"REVOSTI_(\w+) = (\d+)", group)}
                   for group in re.findall(r"^enum \{(.*?)^\};", self.TEXT, re.M | re.S)]
         limits, refusals = groups
-        for name in ("LEAST_POINTS", "MOST_POINTS", "OPEN", "STRUCK"):
+        for name in ("LEAST_POINTS", "MOST_POINTS", "OPEN", "PENDING", "STRUCK"):
             self.assertEqual(getattr(revosti, name), limits[name], name)
         self.assertEqual(sorted(refusals.values()), [0, *sorted(REFUSALS)])
 

@@ -12,8 +12,26 @@ import revosti
 from sheetlib.answer import Answer
 from sheetlib.board import Board, length_of
 from sheetlib.explain import explain
+from sheetlib.marks import marked, read_marks
 from sheetlib.parts import Parts, Record, split
 from sheetlib.read import pack
+
+HAND_IN = (revosti.mark_sheet, revosti.ask_sheet)
+SETTLE = (revosti.confirm, revosti.withdraw)
+
+
+def verdict(call, *arguments):
+    """Number, record and lines accepted of a sheet handed in."""
+    try:
+        return 0, 0, call(*arguments)
+    except revosti.Refusal as found:
+        return found.number, found.record, found.lines
+
+
+def nine():
+    """A board of nine points with a sheet that strikes 27 edges: n, table, sheet."""
+    parts = pack((ROOT / "tests/sheet/nine.txt").read_text()).parts
+    return parts.n, revosti.measure(parts.n, parts.rule, parts.points), parts.records
 
 
 class Operations(unittest.TestCase):
@@ -77,6 +95,8 @@ class FreshMarks(Operations):
 
 
 class MarkSheet(Operations):
+    """Marking, and the refusals that it shares with asking."""
+
     def setUp(self):
         self.marks = revosti.fresh_marks(N)
 
@@ -95,13 +115,15 @@ class MarkSheet(Operations):
         self.assertEqual(revosti.mark_sheet(N, tuple(TABLE), self.marks, [Record(*LINES[0]), tuple(LINES[1])]), 2)
 
     def test_refused_at_once(self):
-        struck = bytearray([1, 0, 1, 1, 0, 1])
-        for number, arguments in ((1, (3, [], struck, [])), (2, (N, TABLE[1:], bytearray(5), [])), (2, (5, TABLE, struck, LINES)),
-                                  (5, (N, [2_000_001] * 6, bytearray(5), [])), (6, (N, TABLE, bytearray(), [])),
-                                  (6, (N, TABLE, bytearray([1, 1, 1, 1, 1, 2]), [])), (7, (N, TABLE, struck, [])),
+        struck, pending, wrong = bytearray([1, 0, 1, 1, 0, 1]), bytearray([1, 2, 1, 1, 0, 1]), bytearray([1, 2, 1, 1, 1, 3])
+        for number, arguments in ((1, (3, [], wrong, [])), (2, (N, TABLE[1:], wrong, [])), (2, (5, TABLE, struck, LINES)),
+                                  (5, (N, [2_000_001] * 6, wrong, [])), (6, (N, TABLE, bytearray(), [])), (6, (N, TABLE, pending[:5], [])),
+                                  (6, (N, TABLE, wrong, [])), (20, (N, TABLE, pending, [])), (20, (N, TABLE, pending, LINES)),
+                                  (20, (N, TABLE, bytearray([1] * 5 + [2]), LINES)), (7, (N, TABLE, struck, [])),
                                   (7, (N, TABLE, struck, LINES * 2001))):
-            with self.subTest(number):
-                self.refused(number, revosti.mark_sheet, *arguments)
+            for call in HAND_IN:
+                with self.subTest((call, number)):
+                    self.refused(number, call, *arguments)
 
     def test_refused_at_a_record(self):
         first = LINES[0]
@@ -110,8 +132,9 @@ class MarkSheet(Operations):
                 (10, 1, [[1, 1, 3, 0, 65535, 2, 0, 0]]), (11, 1, [[1, 1, 5, 0, 0, 2, 0, 0]]), (11, 1, [[1, 3, 3, 0, 0, 2, 0, 0]]),
                 (14, 1, [[1, 1, 2, 0, 0, 3, 0, 0]]), (14, 2, [[1, 1, 2, 0, 0, 3, 2, 0], [2, 4, 1, 0, 0, 1, 0, 0]]),
                 (15, 4, [[1, 1, 2, 0, 0, 3, 4, 0], first, first, [3, 1, 4, 1, 2, 3, 3, 0]])):
-            with self.subTest(sheet):
-                self.refused(number, revosti.mark_sheet, N, TABLE, self.marks, sheet, record=record)
+            for call in HAND_IN:
+                with self.subTest((call, sheet)):
+                    self.refused(number, call, N, TABLE, self.marks, sheet, record=record)
 
     def test_a_refused_sheet_keeps_its_lines(self):
         self.refused(9, revosti.mark_sheet, N, TABLE, self.marks, [[1, 1, 3, 0, 0, 2, 0, 1]], record=1, lines=1)
@@ -122,9 +145,9 @@ class MarkSheet(Operations):
         self.assertEqual(list(self.marks), [1, 0, 1, 1, 0, 1])
 
     def test_nine_points(self):
-        parts = pack((ROOT / "tests/sheet/nine.txt").read_text()).parts
-        table, marks = revosti.measure(parts.n, parts.rule, parts.points), revosti.fresh_marks(parts.n)
-        self.assertEqual(revosti.mark_sheet(parts.n, table, marks, parts.records), 27)
+        n, table, sheet = nine()
+        marks = revosti.fresh_marks(n)
+        self.assertEqual(revosti.mark_sheet(n, table, marks, sheet), 27)
         self.assertEqual(marks.count(revosti.STRUCK), 27)
 
     def test_180_points(self):
@@ -135,6 +158,90 @@ class MarkSheet(Operations):
         self.assertEqual((lines, marks.count(revosti.STRUCK)), (1223, 1223))
         length = sum(table[revosti.place(parts.n, a, b)] for a, b in zip(tour, tour[1:] + tour[:1]))
         self.assertEqual(revosti.check_tour(parts.n, table, marks, tour), (length, True))
+
+
+class AskSheet(Operations):
+    def setUp(self):
+        self.marks = revosti.fresh_marks(N)
+
+    def test_strikes_are_pending(self):
+        self.assertEqual(revosti.ask_sheet(N, TABLE, self.marks, LINES), 2)
+        self.assertEqual(list(self.marks), [1, 2, 1, 1, 2, 1])
+
+    def test_struck_marks_stay(self):
+        self.marks[1] = revosti.STRUCK
+        self.assertEqual(revosti.ask_sheet(N, TABLE, self.marks, LINES[1:]), 1)
+        self.assertEqual(list(self.marks), [1, 0, 1, 1, 2, 1])
+
+    def test_a_sheet_that_stops_keeps_its_lines_pending(self):
+        twice = [LINES[0], LINES[0][:7] + [0]]
+        self.refused(12, revosti.ask_sheet, N, TABLE, self.marks, twice, record=2, lines=1)
+        self.assertEqual(list(self.marks), [1, 2, 1, 1, 1, 1])
+        self.refused(20, revosti.ask_sheet, N, TABLE, self.marks, LINES[1:])
+        revosti.withdraw(N, self.marks)
+        self.assertEqual(self.marks, revosti.fresh_marks(N))
+
+    def test_marks_can_be_drawn(self):
+        revosti.ask_sheet(N, TABLE, self.marks, LINES)
+        self.assertEqual(marked(N, read_marks(bytes(self.marks), N), revosti.PENDING), [(1, 3), (2, 4)])
+
+    def agrees(self, n, table, marks, sheet):
+        """Asking gives the verdict of marking, confirming its marks, and withdrawing those from before. The verdict."""
+        direct, asked = bytearray(marks), bytearray(marks)
+        found = verdict(revosti.mark_sheet, n, table, direct, sheet)
+        self.assertEqual(verdict(revosti.ask_sheet, n, table, asked, sheet), found)
+        self.assertEqual(asked.count(revosti.PENDING), found[2])
+        back = bytearray(asked)
+        for call, settled in ((revosti.confirm, asked), (revosti.withdraw, back)):
+            if found[2]:
+                call(n, settled)
+            else:
+                self.refused(21, call, n, settled)
+        self.assertEqual((asked, back), (direct, marks))
+        return found
+
+    def test_as_marking(self):
+        n, table, sheet = nine()
+        marks = revosti.fresh_marks(n)
+        found = [self.agrees(n, table, marks, sheet[:size]) for size in range(len(sheet) + 1)]
+        self.assertEqual(found[-1], (0, 0, 27))
+        self.assertEqual({number for number, _, _ in found}, {0, 7, 8})
+        self.assertEqual({lines for _, _, lines in found}, set(range(28)))
+
+    def test_as_marking_over_struck_marks(self):
+        n, table, sheet = nine()
+        marks = revosti.fresh_marks(n)
+        verdict(revosti.mark_sheet, n, table, marks, sheet[:20])
+        self.assertIn(revosti.STRUCK, marks)
+        self.assertEqual(self.agrees(n, table, marks, sheet), (12, 1, 0))
+        self.assertEqual(self.agrees(n, table, marks, []), (7, 0, 0))
+
+
+class Settle(Operations):
+    """Confirming and withdrawing."""
+
+    def test_pending_marks_alone_are_changed(self):
+        for call, left in ((revosti.confirm, [0, 1, 0, 0, 1, 0]), (revosti.withdraw, [1, 1, 0, 1, 1, 0])):
+            marks = bytearray([2, 1, 0, 2, 1, 0])
+            self.assertIsNone(call(N, marks))
+            self.assertEqual(list(marks), left)
+
+    def test_one_pending_mark_is_enough(self):
+        for place in range(6):
+            for call, mark in ((revosti.confirm, revosti.STRUCK), (revosti.withdraw, revosti.OPEN)):
+                marks = revosti.fresh_marks(N)
+                marks[place] = revosti.PENDING
+                call(N, marks)
+                self.assertEqual(list(marks), [mark if at == place else revosti.OPEN for at in range(6)])
+
+    def test_refusals(self):
+        pending, wrong = bytearray([2] * 6), bytearray([1] * 5 + [3])
+        for number, arguments in ((1, (3, bytearray([2] * 3))), (1, (181, wrong)), (1, (0, bytearray())), (6, (N, pending[:5])),
+                                  (6, (5, pending)), (6, (N, bytearray())), (6, (N, wrong)), (6, (N, bytearray([2] * 5 + [255]))),
+                                  (21, (N, revosti.fresh_marks(N))), (21, (N, bytearray(6))), (21, (N, bytearray([0, 1] * 3)))):
+            for call in SETTLE:
+                with self.subTest((call, arguments)):
+                    self.refused(number, call, *arguments)
 
 
 class ListPairs(Operations):
@@ -149,6 +256,11 @@ class ListPairs(Operations):
     def test_marks_may_be_bytes(self):
         self.assertEqual(revosti.list_pairs(N, TABLE, bytes([1, 0, 1, 1, 1, 1]), 2, 1, 3), [(2, 4)])
 
+    def test_pending_edges_are_open(self):
+        marks = bytes([1, 2, 1, 1, 1, 1])
+        self.assertEqual(revosti.list_pairs(N, TABLE, marks, 1, 2, 3), [(1, 4), (2, 4)])
+        self.assertEqual(revosti.list_pairs(N, TABLE, marks, 1, 3, 2), [])
+
     def test_against_a_plain_reading(self):
         r, n = random.Random(3), 7
         for _ in range(20):
@@ -156,7 +268,7 @@ class ListPairs(Operations):
             edges = list(combinations(range(1, n + 1), 2))
             struck = r.sample(edges, r.randrange(8))
             board, table = Board(1, points, struck), revosti.measure(n, 1, points)
-            marks = bytearray(edge not in struck for edge in edges)
+            marks = bytearray(0 if edge in struck else r.choice((1, 2)) for edge in edges)
             for (a, b), c in ((e, c) for e in edges if e not in struck for c in range(1, n + 1)):
                 self.assertEqual(revosti.list_pairs(n, table, marks, a, b, c), board.standing({(a, b)}, c), (points, struck, a, b, c))
 
@@ -171,7 +283,7 @@ class ListPairs(Operations):
         struck, points = bytearray([1, 0, 1, 1, 1, 1]), (1, 2, 3)
         for number, arguments in ((1, (181, [], struck, 0, 0, 0)), (2, (N, TABLE * 2, bytearray(), *points)),
                                   (5, (N, [2_000_001] * 6, bytearray(), *points)), (6, (N, TABLE, bytearray(), 0, 0, 0)),
-                                  (6, (N, TABLE, bytearray([255] * 6), *points)), (11, (N, TABLE, struck, 0, 3, 2)),
+                                  (6, (N, TABLE, bytearray([1] * 5 + [3]), 0, 0, 0)), (11, (N, TABLE, struck, 0, 3, 2)),
                                   (11, (N, TABLE, struck, 2, 2, 3)), (11, (N, TABLE, struck, 1, 3, 65535)),
                                   (12, (N, TABLE, struck, 3, 1, 2))):
             with self.subTest(arguments):
@@ -185,6 +297,10 @@ class CheckTour(Operations):
         self.assertEqual(revosti.check_tour(N, TABLE, bytes(marks), (1, 3, 2, 4)), revosti.Tour(length=48, open=False))
         self.assertIs(revosti.check_tour(N, TABLE, marks, [4, 3, 2, 1]).open, True)
 
+    def test_pending_edges_are_open(self):
+        self.assertEqual(revosti.check_tour(N, TABLE, bytes([1, 2, 1, 1, 2, 1]), [1, 3, 2, 4]), (48, True))
+        self.assertEqual(revosti.check_tour(N, TABLE, bytes([1, 2, 1, 1, 0, 1]), [1, 3, 2, 4]), (48, False))
+
     def test_longest(self):
         tour = revosti.check_tour(180, [2_000_000] * 16110, revosti.fresh_marks(180), range(1, 181))
         self.assertEqual(tour, (360_000_000, True))
@@ -192,7 +308,7 @@ class CheckTour(Operations):
     def test_refusals(self):
         marks = bytearray(6)
         for number, arguments in ((1, (3, [], marks, [])), (2, (N, [], b"", [])), (5, (N, [0] * 5 + [2_000_001], b"", [])),
-                                  (6, (N, TABLE, b"123456", [])), (6, (N, TABLE, bytes(7), [])), (17, (N, TABLE, marks, [])),
+                                  (6, (N, TABLE, bytes([2] * 5 + [3]), [])), (6, (N, TABLE, bytes(7), [])), (17, (N, TABLE, marks, [])),
                                   (17, (N, TABLE, marks, [1, 2, 3, 3])), (17, (N, TABLE, marks, [0, 1, 2, 3])),
                                   (17, (N, TABLE, marks, [1, 2, 3, 4, 1]))):
             with self.subTest(arguments):
@@ -204,7 +320,11 @@ class Refusals(Operations):
         for number, words, call in (
                 (1, "n is outside 4 to 180.", lambda: revosti.fresh_marks(3)),
                 (3, "The rule is outside 1 to 5.", lambda: revosti.measure(N, 9, POINTS)),
-                (12, "The edge is struck already.", lambda: revosti.list_pairs(N, TABLE, bytes(6), 1, 2, 3))):
+                (6, "The marks have not n(n − 1)/2 bytes, or a byte is above 2.", lambda: revosti.confirm(N, bytearray([3] * 6))),
+                (12, "The edge is struck already.", lambda: revosti.list_pairs(N, TABLE, bytes(6), 1, 2, 3)),
+                (20, "Something is pending: confirm or withdraw it first.",
+                 lambda: revosti.mark_sheet(N, TABLE, bytearray([2] * 6), LINES)),
+                (21, "Nothing is pending: there is nothing to confirm or withdraw.", lambda: revosti.confirm(N, bytearray(6)))):
             found = self.refused(number, call)
             self.assertEqual((found.words, str(found)), (words, f"Refused, number {number}: {words}"))
 
@@ -235,6 +355,8 @@ class Numbers(unittest.TestCase):
         for call, *arguments in ((revosti.measure, (N, 32), (1, 32), (POINTS, 32)),
                                  (revosti.fresh_marks, (N, 32)),
                                  (revosti.mark_sheet, (N, 32), (TABLE, 32), (marks, 8), (LINES, 16)),
+                                 (revosti.ask_sheet, (N, 32), (TABLE, 32), (marks, 8), (LINES, 16)),
+                                 (revosti.confirm, (N, 32), (marks, 8)), (revosti.withdraw, (N, 32), (marks, 8)),
                                  (revosti.list_pairs, (N, 32), (TABLE, 32), (marks, 8), (1, 16), (2, 16), (3, 16)),
                                  (revosti.check_tour, (N, 32), (TABLE, 32), (marks, 8), ([1, 2, 3, 4], 16))):
             plain = [argument for argument, _ in arguments]
@@ -250,7 +372,9 @@ class Numbers(unittest.TestCase):
 
     def test_other_things(self):
         for call, arguments in ((revosti.mark_sheet, (N, TABLE, bytes(6), LINES)), (revosti.mark_sheet, (N, TABLE, [1] * 6, LINES)),
-                                (revosti.check_tour, (N, TABLE, 6, [1, 2, 3, 4])), (revosti.measure, (N, 1, [0.5] * 8))):
+                                (revosti.ask_sheet, (N, TABLE, bytes(6), LINES)), (revosti.confirm, (N, bytes(6))),
+                                (revosti.withdraw, (N, bytes(6))), (revosti.check_tour, (N, TABLE, 6, [1, 2, 3, 4])),
+                                (revosti.measure, (N, 1, [0.5] * 8))):
             with self.subTest(arguments), self.assertRaises(TypeError):
                 call(*arguments)
 

@@ -1,14 +1,17 @@
 """draw: well-formed pictures with the right number of everything."""
 
 import random
+import re
+import tempfile
 import unittest
+from pathlib import Path
 from xml.etree import ElementTree
 
 from support import NINE, SQUARE_POINTS, SQUARE_RECORDS, STANDIN, Run, binary, fake
 
-from sheetlib.answer import Answer
 from sheetlib.draw import WIDTH, draw
 from sheetlib.labels import overlap, place_labels
+from sheetlib.marks import edges
 from sheetlib.parts import split
 
 SVG = "{http://www.w3.org/2000/svg}"
@@ -34,12 +37,10 @@ class Picture:
         return [(int(c.get("cx")), int(c.get("cy"))) for c in self.groups["holes"]]
 
 
-def picture(points, struck=(), tour=(), rule=1):
-    """The picture of a board with some edges struck."""
-    n = len(points)
-    edges = n * (n - 1) // 2
-    answer = Answer(n, edges, list(struck), 0, 0, edges - len(struck))
-    return Picture(draw(split(binary([], points, rule)), answer, list(tour)))
+def picture(points, struck=(), tour=(), rule=1, pending=()):
+    """The picture of a board with some edges struck and some pending."""
+    marks = [0 if e in struck else 2 if e in pending else 1 for e in edges(len(points))]
+    return Picture(draw(split(binary([], points, rule)), marks, list(tour)))
 
 
 class Draw(unittest.TestCase):
@@ -51,6 +52,24 @@ class Draw(unittest.TestCase):
         self.assertEqual(p.texts("labels"), ["1", "2", "3", "4"])
         self.assertEqual(p.texts("legend"), ["4 holes (EUC_2D)", "open: 5 edges", "struck: 1 edge",
                                              "tour: length 48", "struck, in the tour: 1"])
+
+    def test_pending(self):
+        p = picture(SQUARE_POINTS, [(1, 3)], [1, 2, 4, 3], pending=[(2, 4), (1, 4)])
+        self.assertEqual([p.edges(g) for g in ("open", "pending", "struck", "tour", "broken")], [3, 2, 1, 3, 1])
+        self.assertEqual(p.texts("legend"), ["4 holes (EUC_2D)", "open: 3 edges", "pending: 2 edges", "struck: 1 edge",
+                                             "tour: length 48", "struck, in the tour: 1"])
+
+    def test_pending_looks_like_nothing_else(self):
+        p = picture(SQUARE_POINTS, [(1, 3)], [1, 2, 4, 3], pending=[(2, 4)])
+        looks = dict(re.findall(r"^\.(\w+) \{ (stroke: .*) \}$", p.root.find(f"{SVG}style").text, re.M))
+        self.assertEqual(sorted(looks), ["broken", "open", "pending", "struck", "tour"])
+        for part in ("stroke: [^;]*", "(stroke-dasharray: .*?;|$)"):
+            others = [re.search(part, look)[0] for name, look in looks.items() if name != "pending"]
+            self.assertNotIn(re.search(part, looks["pending"])[0], others)
+
+    def test_pending_lies_above_the_tour(self):
+        order = list(picture(SQUARE_POINTS, [], [1, 2, 4, 3], pending=[(2, 4)]).groups)
+        self.assertGreater(order.index("pending"), order.index("tour"))
 
     def test_rules(self):
         for rule, name, length in ((2, "CEIL_2D", 50), (3, "ATT", 18), (4, "MAN_2D", 60), (5, "MAX_2D", 40)):
@@ -64,8 +83,8 @@ class Draw(unittest.TestCase):
 
     def test_no_tour(self):
         p = picture(SQUARE_POINTS)
-        self.assertEqual([p.edges(g) for g in ("open", "struck", "tour", "broken")], [6, 0, 0, 0])
-        self.assertEqual(len(p.texts("legend")), 3)
+        self.assertEqual([p.edges(g) for g in ("open", "pending", "struck", "tour", "broken")], [6, 0, 0, 0, 0])
+        self.assertEqual(p.texts("legend"), ["4 holes (EUC_2D)", "open: 6 edges", "struck: 0 edges"])
 
     def test_180_holes(self):
         r = random.Random(1)
@@ -125,6 +144,38 @@ class Command(unittest.TestCase):
                      "points 4 edges 6\nstruck 1 9\nverdict 0 record 0 open 5"):
             run = Run("draw", data=binary(SQUARE_RECORDS), mark=fake(text))
             self.assertEqual((run.status, run.err), (1, "sheet: mark answers for another board\n"))
+
+    def marked(self, marks, data=binary(SQUARE_RECORDS)):
+        """The command's run with a file of marks."""
+        with tempfile.TemporaryDirectory() as folder:
+            file = Path(folder) / "a.marks"
+            file.write_bytes(marks)
+            return Run("draw", "--marks", file, data=data, mark=STANDIN)
+
+    def test_marks_of_a_file(self):
+        for marks, wanted in (([1, 2, 1, 1, 0, 1], [4, 1, 1]), ([1] * 6, [6, 0, 0]), ([2] * 6, [0, 6, 0])):
+            p = Picture(self.marked(bytes(marks)).out)
+            self.assertEqual([p.edges(g) for g in ("open", "pending", "struck")], wanted)
+        x, y, z, w = *p.spots()[0], *p.spots()[1]
+        self.assertIn(f"M{x} {y}L{z} {w}", p.groups["pending"][0].get("d"))
+
+    def test_bad_marks(self):
+        for marks, words in ((bytes(5), "6 marks, a byte each, found 5 bytes"), (bytes(7), "found 7 bytes"),
+                             (b"", "found 0 bytes"), (bytes([1, 0, 2, 3, 4, 1]), "0, 1 or 2 as the mark of 2-3, found 3")):
+            with self.subTest(marks):
+                run = self.marked(marks)
+                self.assertEqual((run.status, run.out), (2, b""))
+                self.assertIn("--marks: expected ", run.err)
+                self.assertIn(words, run.err)
+
+    def test_marks_of_a_refused_board(self):
+        run = self.marked(bytes(3), binary([], [(0, 0)] * 3))
+        self.assertEqual((run.status, run.out), (1, b""))
+        self.assertIn("There is no board to draw.", run.err)
+
+    def test_no_file_of_marks(self):
+        run = Run("draw", "--marks", "/nowhere/a.marks", data=binary(SQUARE_RECORDS), mark=STANDIN)
+        self.assertEqual((run.status, run.out, run.err), (1, b"", "sheet: /nowhere/a.marks: No such file or directory\n"))
 
     def test_bad_tours(self):
         for tour, words in (("1,2,3", "each point from 1 to 4"), ("1,2,3,3", "each point"),

@@ -14,11 +14,12 @@ import standin
 
 # The key words of 01 for each number.
 KEYS = {1: "4 to 180", 2: "not 2n numbers", 3: "outside 1 to 5", 4: "above 1,000,000",
-        5: "above 2,000,000", 6: "a byte is above 1", 7: "1 to 4,000 whole records",
+        5: "above 2,000,000", 6: "a byte is above 2", 7: "1 to 4,000 whole records",
         8: "above the record count", 9: "highest record entered", 10: "wrong kind",
         11: "outside 1 to n, or a = b", 12: "struck already", 13: "seventh split",
         14: "next standing one", 15: "edge or centres break", 16: "No labelling",
-        17: "each point from 1 to n exactly once", 18: "fewer than twice as many places"}
+        17: "each point from 1 to n exactly once", 18: "fewer than twice as many places",
+        20: "Something is pending", 21: "Nothing is pending"}
 
 
 def told(records, refusal, record, struck=(), **file):
@@ -37,7 +38,7 @@ class Numbers(unittest.TestCase):
     """A fake mark for each number."""
 
     def test_table_is_whole(self):
-        self.assertEqual(sorted(REFUSALS), list(range(1, 19)))
+        self.assertEqual(sorted(REFUSALS), sorted(KEYS))
 
     def test_each_refusal(self):
         for number, key in KEYS.items():
@@ -67,7 +68,8 @@ class Numbers(unittest.TestCase):
             "Struck: 2 edges. Open: 4 edges.\n"))
 
     def test_unknown_number(self):
-        self.assertIn("not one of 1 to 18", told(SQUARE_RECORDS, 40, 1))
+        for number in (19, 22, 40):
+            self.assertIn("not one of 1 to 18, 20 and 21", told(SQUARE_RECORDS, number, 1))
 
     def test_record_that_the_sheet_has_not(self):
         self.assertIn("Record 9 is at fault, but the sheet has 2 records.",
@@ -99,7 +101,7 @@ class Details(unittest.TestCase):
                 self.assertIn(words, told(records, refusal, 0, **file))
 
     def test_nothing_is_guessed(self):
-        for refusal in range(1, 19):
+        for refusal in REFUSALS:
             with self.subTest(refusal):
                 good = told(SQUARE_RECORDS, refusal, 1)
                 sentences = good.split("\n\n")[1].splitlines()

@@ -1,4 +1,4 @@
-"""The examples in docs/FORMATS.md and the distances in docs/RULES.md are true."""
+"""The examples in docs/FORMATS.md and the distances in docs/RULES.md are true, and both have each refusal."""
 
 import re
 import unittest
@@ -6,6 +6,7 @@ import unittest
 from support import TOOLS
 
 import standin
+from revosti.refusal import REFUSALS
 from sheetlib.explain import explain
 from sheetlib.answer import understand
 from sheetlib.board import RULES, length_of
@@ -13,7 +14,8 @@ from sheetlib.parts import join
 from sheetlib.read import pack
 
 PAGE = (TOOLS.parent / "docs" / "FORMATS.md").read_text(encoding="utf-8")
-DISTANCES = (TOOLS.parent / "docs" / "RULES.md").read_text(encoding="utf-8").partition("The distance d")[2]
+RULES_PAGE = (TOOLS.parent / "docs" / "RULES.md").read_text(encoding="utf-8")
+DISTANCES = RULES_PAGE.partition("The distance d")[2]
 
 
 def block(start):
@@ -60,6 +62,18 @@ class Distances(unittest.TestCase):
         self.assertEqual({int(row[0]): row[1] for row in self.rules}, RULES)
         for rule, row in enumerate(self.rules, 1):
             self.assertEqual(numbers(*row[3:]), [length_of(rule, (0, 0), d) for d in self.differences], row)
+
+
+class Refusals(unittest.TestCase):
+    """The tables of refusals: one row for each in RULES.md, two in a row in FORMATS.md."""
+
+    def test_rules(self):
+        section = RULES_PAGE.partition("## Each operation and its refusals")[2].partition("\n## ")[0]
+        self.assertEqual(list(map(int, re.findall(r"^\| (\d+) \| ", section, re.M))), list(REFUSALS))
+
+    def test_formats(self):
+        rows = re.findall(r"^\| (\d+) \| [^|]* \| (\d+) \| [^|]* \|$", PAGE, re.M)
+        self.assertEqual(sorted(int(number) for row in rows for number in row), list(REFUSALS))
 
 
 if __name__ == "__main__":

@@ -19,6 +19,9 @@ ARGUMENTS = {
     "revosti_measure": (WORD, WORD, *BUFFER, *BUFFER),
     "revosti_fresh_marks": (WORD, *BUFFER),
     "revosti_mark_sheet": (WORD, *BUFFER, *BUFFER, *BUFFER),
+    "revosti_ask_sheet": (WORD, *BUFFER, *BUFFER, *BUFFER),
+    "revosti_confirm": (WORD, *BUFFER),
+    "revosti_withdraw": (WORD, *BUFFER),
     "revosti_list_pairs": (WORD, *BUFFER, *BUFFER, HALF, HALF, HALF, *BUFFER),
     "revosti_check_tour": (WORD, *BUFFER, *BUFFER, *BUFFER),
 }

@@ -1,4 +1,4 @@
-"""The five operations (01, Each operation and its refusals): Python's numbers to bytes, a call, and back."""
+"""The operations (01, Each operation and its refusals): Python's numbers to bytes, a call, and back."""
 
 import ctypes
 from array import array
@@ -9,7 +9,7 @@ from .library import library
 from .refusal import Refusal
 
 LEAST_POINTS, MOST_POINTS = 4, 180
-STRUCK, OPEN = 0, 1
+STRUCK, OPEN, PENDING = 0, 1, 2
 RECORD = 8  # numbers
 
 WORD, HALF = "I", "H"  # 32 and 16 bits without sign, little-endian on x86-64
@@ -38,14 +38,26 @@ def fresh_marks(n):
 
 def mark_sheet(n, table, marks, sheet):
     """The number of lines accepted, where all are. It strikes their edges in `marks`, the bytearray handed in."""
-    answer = library().revosti_mark_sheet(fit(WORD, n), *lend(array(WORD, table)), *lend(marks), *lend(records(sheet)))
-    lines = answer >> 24
-    refuse(answer, record=answer >> 8 & 0xffff, lines=lines)
-    return lines
+    return hand_in(library().revosti_mark_sheet, n, table, marks, sheet)
+
+
+def ask_sheet(n, table, marks, sheet):
+    """As `mark_sheet`, but the edges get PENDING, until `confirm` or `withdraw`."""
+    return hand_in(library().revosti_ask_sheet, n, table, marks, sheet)
+
+
+def confirm(n, marks):
+    """Strikes every pending edge in `marks`, the bytearray handed in."""
+    refuse(library().revosti_confirm(fit(WORD, n), *lend(marks)))
+
+
+def withdraw(n, marks):
+    """Opens every pending edge again in `marks`, the bytearray handed in."""
+    refuse(library().revosti_withdraw(fit(WORD, n), *lend(marks)))
 
 
 def list_pairs(n, table, marks, a, b, c):
-    """The pairs (x, y) that stand at the split point c under the edge ab, rising."""
+    """The pairs (x, y) that stand at the split point c under the edge ab, rising. A pending edge counts as open."""
     found = array(HALF, [0]) * (2 * len(marks))  # a pair is an edge, too
     answer = library().revosti_list_pairs(fit(WORD, n), *lend(array(WORD, table)), *lend(copy(marks)), fit(HALF, a), fit(HALF, b),
                                           fit(HALF, c), *lend(found))
@@ -55,7 +67,7 @@ def list_pairs(n, table, marks, a, b, c):
 
 
 def check_tour(n, table, marks, tour):
-    """The length of a tour, and whether all its edges are open."""
+    """The length of a tour, and whether all its edges are open. A pending edge counts as open."""
     answer = library().revosti_check_tour(fit(WORD, n), *lend(array(WORD, table)), *lend(copy(marks)), *lend(array(HALF, tour)))
     refuse(answer)
     return Tour(answer >> 16, bool(answer >> 8 & 1))
@@ -65,6 +77,14 @@ def place(n, a, b):
     """The place of the edge ab, in either order, in a table and in marks (01, Points, lengths, marks)."""
     a, b = min(a, b), max(a, b)
     return (a - 1) * (2 * n - a) // 2 + b - a - 1
+
+
+def hand_in(function, n, table, marks, sheet):
+    """The number of lines that a function accepts, where it accepts all."""
+    answer = function(fit(WORD, n), *lend(array(WORD, table)), *lend(marks), *lend(records(sheet)))
+    lines = answer >> 24
+    refuse(answer, record=answer >> 8 & 0xffff, lines=lines)
+    return lines
 
 
 def edges(n):

@@ -6,7 +6,7 @@ REFUSALS = {
     3: "The rule is outside 1 to 5.",
     4: "A coordinate is above 1,000,000.",
     5: "A table entry is above 2,000,000.",
-    6: "The marks have not n(n − 1)/2 bytes, or a byte is above 1.",
+    6: "The marks have not n(n − 1)/2 bytes, or a byte is above 2.",
     7: "The sheet is not 1 to 4,000 whole records, or the file is under 8 bytes, "
        "ends inside the coordinates or is longer than 65,448 bytes.",
     8: "An index of the record is above the record count.",
@@ -22,12 +22,14 @@ REFUSALS = {
     16: "No labelling of the crossing saves on both moves.",
     17: "The tour is not n numbers, or not each point from 1 to n exactly once.",
     18: "The list has fewer than twice as many places as there are standing pairs.",
+    20: "Something is pending: confirm or withdraw it first.",
+    21: "Nothing is pending: there is nothing to confirm or withdraw.",
 }
 
 
 def meaning(number):
     """A refusal's meaning."""
-    return REFUSALS.get(number, "This number is not one of 1 to 18.")
+    return REFUSALS.get(number, "This number is not one of 1 to 18, 20 and 21.")
 
 
 class Refusal(Exception):

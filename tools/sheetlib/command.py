@@ -7,6 +7,7 @@ from pathlib import Path
 from .answer import NoAnswer, ask
 from .draw import BadTour, draw, read_tour
 from .explain import explain
+from .marks import BadMarks, marks_left, read_marks
 from .parts import join, split
 from .read import Sheet, pack
 from .scan import BadText
@@ -25,6 +26,8 @@ def main(arguments=None):
         return complain(f"{name_of(options.file)}, {error}", 2)
     except BadTour as error:
         return complain(f"--tour: {error}", 2)
+    except BadMarks as error:
+        return complain(f"--marks: {error}", 2)
     except NoAnswer as error:
         return complain(str(error), 1)
     except BrokenPipeError:
@@ -53,6 +56,7 @@ def parser():
                             ("draw", run_draw, "the board as SVG")):
         command = add(commands, name, run, text)
         command.add_argument("--form", choices=("text", "binary"), help="do not detect the form")
+    command.add_argument("--marks", metavar="MARKS", help="draw the marks in this file, a byte an edge, not those that mark leaves")
     command.add_argument("--tour", metavar="1,2,3,..", help="a tour to draw, all points in order")
     return top
 
@@ -132,6 +136,8 @@ def run_explain(options):
 def run_draw(options):
     """sheet draw"""
     parts = load(options).parts
-    answer = ask(join(parts))
+    marks = marks_left(parts, ask(join(parts)))
+    if options.marks is not None:
+        marks = read_marks(Path(options.marks).read_bytes(), parts.n)
     tour = read_tour(options.tour, parts.n) if options.tour is not None else []
-    write(options, draw(parts, answer, tour).encode("utf-8"))
+    write(options, draw(parts, marks, tour).encode("utf-8"))

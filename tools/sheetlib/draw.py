@@ -1,24 +1,23 @@
-"""The board as SVG: holes, open and struck edges, and a tour if one is given.
+"""The board as SVG: holes, open, pending and struck edges, and a tour if one is given.
 
 The picture has a fixed width; the second coordinate grows upward. The edges
 of one hole form one path, so that its fan does not darken around the hole.
 """
 
-from itertools import combinations
 from xml.sax.saxutils import escape
 
-from revosti import meaning
+from revosti import OPEN, PENDING, STRUCK
 
-from .answer import NoAnswer
 from .board import RULES, edge, length_of
 from .labels import place_labels
+from .marks import marked
 from .words import counted
 
 WIDTH, MARGIN, MIN_HEIGHT = 1200, 50, 240
 LEGEND = 96
 # Okabe and Ito's colours: they differ for colour-blind readers too.
-PAPER, INK, OPEN, STRUCK, TOUR, BROKEN = (
-    "#fcfbf7", "#1a1a1a", "#7f8c99", "#d55e00", "#0072b2", "#cc79a7")
+PAPER, INK, GREY, ORANGE, GREEN, BLUE, PURPLE = (
+    "#fcfbf7", "#1a1a1a", "#7f8c99", "#d55e00", "#009e73", "#0072b2", "#cc79a7")
 
 
 class BadTour(Exception):
@@ -37,27 +36,23 @@ def read_tour(text, n):
     return tour
 
 
-def draw(parts, answer, tour):
-    """The SVG of a board. Raises NoAnswer if `mark` refuses the board."""
-    if answer.n is None:
-        raise NoAnswer(f"mark refuses the file, number {answer.refusal}: "
-                       f"{meaning(answer.refusal)} There is no board to draw.")
-    every = list(combinations(range(1, parts.n + 1), 2))
-    struck = set(answer.struck)
-    if answer.n != len(parts.points) or not struck <= set(every):
-        raise NoAnswer("mark answers for another board")
-    view = View(parts.points)
-    opened = [e for e in every if e not in struck]
+def draw(parts, marks, tour):
+    """The SVG of a board. A pending leg of the tour counts as open; pending
+    edges lie above the tour, so that such a leg is seen."""
+    opened, pending, struck = (marked(parts.n, marks, mark) for mark in (OPEN, PENDING, STRUCK))
     legs = [edge(a, b) for a, b in zip(tour, tour[1:] + tour[:1])]
+    broken = set(legs) & set(struck)
+    view = View(parts.points)
     body = [
         edge_group("open", view, opened),
-        edge_group("struck", view, sorted(struck)),
-        edge_group("tour", view, [e for e in legs if e not in struck]),
-        edge_group("broken", view, [e for e in legs if e in struck]),
+        edge_group("struck", view, struck),
+        edge_group("tour", view, [e for e in legs if e not in broken]),
+        edge_group("broken", view, [e for e in legs if e in broken]),
+        edge_group("pending", view, pending),
         hole_group(view), label_group(view, legs),
-        legend_group(view, legend_rows(parts, opened, struck, legs)),
+        legend_group(view, [hole_row(parts), *edge_rows(opened, pending, struck), *tour_rows(parts, legs, broken)]),
     ]
-    return page(view, style(view, len(opened), len(struck)), body)
+    return page(view, style(view, len(opened), len(pending), len(struck)), body)
 
 
 class View:
@@ -92,23 +87,25 @@ def page(view, css, body):
         *body, "</svg>", ""])
 
 
-def style(view, opened, struck):
+def style(view, opened, pending, struck):
     """The look of each class. The more edges, the lighter each of them."""
     return "\n".join([
         "",
         "path, .key line { fill: none; stroke-linecap: round; }",
-        f".open {{ stroke: {OPEN}; stroke-width: 1; opacity: {faint(opened, 0.6, 0.045)}; }}",
-        f".struck {{ stroke: {STRUCK}; stroke-width: 1.5; stroke-dasharray: 7 6; "
+        f".open {{ stroke: {GREY}; stroke-width: 1; opacity: {faint(opened, 0.6, 0.045)}; }}",
+        f".struck {{ stroke: {ORANGE}; stroke-width: 1.5; stroke-dasharray: 7 6; "
         f"opacity: {faint(struck, 0.9, 0.2)}; }}",
-        f".tour {{ stroke: {TOUR}; stroke-width: 5; }}",
-        f".broken {{ stroke: {BROKEN}; stroke-width: 5; stroke-dasharray: 10 8; }}",
+        f".pending {{ stroke: {GREEN}; stroke-width: 3; stroke-dasharray: 1 7; "
+        f"opacity: {faint(pending, 1, 0.3)}; }}",
+        f".tour {{ stroke: {BLUE}; stroke-width: 5; }}",
+        f".broken {{ stroke: {PURPLE}; stroke-width: 5; stroke-dasharray: 10 8; }}",
         f".hole {{ fill: {INK}; stroke: {PAPER}; stroke-width: 1.2; }}",
         "text { font-family: 'DejaVu Sans', Verdana, Arial, sans-serif; }",
         f".label {{ font-size: {view.font}px; fill: {INK}; text-anchor: middle; "
         f"stroke: {PAPER}; stroke-width: {3 if view.font < 20 else 4}; paint-order: stroke; }}",
         f".key text {{ font-size: 19px; fill: {INK}; }}",
-        ".key .open { stroke-width: 2; }", ".key .struck { stroke-width: 2.5; }",
-        ".key .open, .key .struck { opacity: 1; }",
+        ".key .open { stroke-width: 2; }", ".key .struck { stroke-width: 2.5; }", ".key .pending { stroke-width: 4; }",
+        ".key .open, .key .struck, .key .pending { opacity: 1; }",
         ""])
 
 
@@ -146,18 +143,22 @@ def label_group(view, legs):
     return "\n".join(['<g id="labels">', *texts, "</g>"])
 
 
-def legend_rows(parts, opened, struck, legs):
-    """What the legend says: class of the sample and its words."""
-    rows = [("open", f"open: {counted(len(opened), 'edge')}"),
-            ("struck", f"struck: {counted(len(struck), 'edge')}")]
-    if legs:
-        total = sum(length_of(parts.rule, parts.points[a - 1], parts.points[b - 1])
-                    for a, b in legs)
-        rows.append(("tour", f"tour: length {total:,}"))
-    broken = sum(e in struck for e in legs)
-    if broken:
-        rows.append(("broken", f"struck, in the tour: {broken:,}"))
-    return [("hole", f"{counted(parts.n, 'hole')} ({RULES[parts.rule]})")] + rows
+def hole_row(parts):
+    """The legend's row for the holes: class of the sample and its words."""
+    return "hole", f"{counted(parts.n, 'hole')} ({RULES[parts.rule]})"
+
+
+def edge_rows(opened, pending, struck):
+    """The legend's rows for the edges; pending ones have a row where there are any."""
+    rows = [("open", opened), *([("pending", pending)] if pending else []), ("struck", struck)]
+    return [(name, f"{name}: {counted(len(edges), 'edge')}") for name, edges in rows]
+
+
+def tour_rows(parts, legs, broken):
+    """The legend's rows for the tour, if there is one."""
+    total = sum(length_of(parts.rule, parts.points[a - 1], parts.points[b - 1]) for a, b in legs)
+    rows = [("tour", f"tour: length {total:,}")] if legs else []
+    return rows + ([("broken", f"struck, in the tour: {len(broken):,}")] if broken else [])
 
 
 def legend_group(view, rows):
