@@ -1,8 +1,8 @@
-//! The answers for C over little-endian bytes (01, Layers and program).
+//! The answers for C over little-endian bytes (01, Layers and program; 02).
 
 use crate::marking::{self, Marked};
 use crate::refusal::Refusal;
-use crate::{instance, lengths, listing, tour};
+use crate::{lengths, listing, marks, tour};
 
 /// 32-bit entries; a length that is no whole number of entries becomes a wrong size.
 pub fn entries(bytes: &[u8]) -> Vec<u32> {
@@ -38,7 +38,7 @@ pub fn measure(n: u32, rule: u32, coordinates: &[u8], table: &mut [u8]) -> u64 {
 
 /// *Fresh marks* for C: the refusal number or 0.
 pub fn fresh_marks(n: u32, marks: &mut [u8]) -> u64 {
-    number(instance::fresh_marks(n, marks).map(|()| 0))
+    number(marks::fresh_marks(n, marks).map(|()| 0))
 }
 
 /// *List pairs* for C: the refusal number, or 65,536 × the number of pairs. The list's places are
@@ -62,6 +62,21 @@ pub fn marking_number(marked: Marked) -> u64 {
 /// *Mark a sheet* for C.
 pub fn mark_sheet(n: u32, table: &[u8], marks: &mut [u8], sheet: &[u8]) -> u64 {
     marking_number(marking::mark_sheet(n, &entries(table), marks, &numbers(sheet)))
+}
+
+/// *Ask a sheet* for C: the number of marking.
+pub fn ask_sheet(n: u32, table: &[u8], marks: &mut [u8], sheet: &[u8]) -> u64 {
+    marking_number(marking::ask_sheet(n, &entries(table), marks, &numbers(sheet)))
+}
+
+/// *Confirm* for C: the refusal number or 0.
+pub fn confirm(n: u32, marks: &mut [u8]) -> u64 {
+    number(marks::confirm(n, marks).map(|()| 0))
+}
+
+/// *Withdraw* for C: the refusal number or 0.
+pub fn withdraw(n: u32, marks: &mut [u8]) -> u64 {
+    number(marks::withdraw(n, marks).map(|()| 0))
 }
 
 /// *Check a tour* for C: "the refusal number alone, or 65,536 × the length, plus 256 if all

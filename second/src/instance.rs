@@ -1,6 +1,7 @@
 //! The limits of an instance and the tests that operations share (1, 2, 5, 6).
 
 use crate::lengths::edge_count;
+use crate::marks;
 use crate::refusal::Refusal;
 
 /// 01, Points, lengths, marks.
@@ -23,8 +24,8 @@ impl Instance {
         }
     }
 
-    /// Tests 1, 2, 5 and 6, which marking, listing and the tour check begin with.
-    pub fn tests(n: u32, table: &[u32], marks: &[u8]) -> Result<u16, Refusal> {
+    /// Tests 1, 2, 5 and 6, which marking, asking, listing and the tour check begin with. Answers n and the largest mark.
+    pub fn tests(n: u32, table: &[u32], marks: &[u8]) -> Result<(u16, u8), Refusal> {
         let n = Self::point_count(n)?;
         if table.len() != edge_count(n) {
             return Err(Refusal::TableSize);
@@ -32,23 +33,6 @@ impl Instance {
         if table.iter().fold(0, |most, &l| most.max(l)) > Self::MOST_LENGTH {
             return Err(Refusal::TableEntry);
         }
-        if marks.len() != edge_count(n) || marks.iter().fold(0, |most, &m| most.max(m)) > OPEN {
-            return Err(Refusal::Marks);
-        }
-        Ok(n)
+        Ok((n, marks::largest(n, marks)?))
     }
-}
-
-/// "Marks are one byte an edge: 1 open, 0 struck."
-pub const OPEN: u8 = 1;
-pub const STRUCK: u8 = 0;
-
-/// *Fresh marks*: 1, then 6; all marks become 1.
-pub fn fresh_marks(n: u32, marks: &mut [u8]) -> Result<(), Refusal> {
-    let n = Instance::point_count(n)?;
-    if marks.len() != edge_count(n) {
-        return Err(Refusal::Marks);
-    }
-    marks.fill(OPEN);
-    Ok(())
 }

@@ -1,4 +1,4 @@
-//! A second program for strike sheets, read from document 01 alone.
+//! A second program for strike sheets, read from documents 01 and 02 alone.
 //!
 //! Names: a feasible pair is 01's standing pair; K is `EdgeSet`.
 //! `kit` holds the generator, the naive checker, brute force and the comparison.
@@ -11,6 +11,7 @@ pub mod kit;
 pub mod lengths;
 pub mod listing;
 pub mod marking;
+pub mod marks;
 pub mod pairs;
 pub mod program;
 pub mod refusal;

@@ -1,8 +1,9 @@
 //! *List pairs* for K = {ab} and split c.
 
 use crate::edge_set::EdgeSet;
-use crate::instance::{Instance, STRUCK};
+use crate::instance::Instance;
 use crate::lengths::Lengths;
+use crate::marks::Marks;
 use crate::pairs::Split;
 use crate::refusal::Refusal;
 use crate::sheet::points;
@@ -17,12 +18,12 @@ pub fn list_pairs(
     c: u16,
     list: &mut [u16],
 ) -> Result<usize, Refusal> {
-    let n = Instance::tests(n, table, marks)?;
+    let (n, _) = Instance::tests(n, table, marks)?;
     if !points(n, a, b, &[c]) {
         return Err(Refusal::PointField);
     }
-    let lengths = Lengths::new(n, table);
-    if marks[lengths.order.place(a, b)] == STRUCK {
+    let (lengths, marks) = (Lengths::new(n, table), Marks::in_look(marks));
+    if !marks.open(lengths.order.place(a, b)) {
         return Err(Refusal::EdgeStruck);
     }
     let pairs = all_pairs(Split::new(&lengths, marks, &EdgeSet::one(a, b), c));

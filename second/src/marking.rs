@@ -1,9 +1,10 @@
-//! *Mark a sheet* (01, The sheet; Each operation and its refusals).
+//! *Mark a sheet* (01, The sheet; Each operation and its refusals) and asking it (02, Paper 3).
 
 use crate::crossing::Crossing;
 use crate::edge_set::EdgeSet;
-use crate::instance::{Instance, STRUCK};
+use crate::instance::Instance;
 use crate::lengths::Lengths;
+use crate::marks::{Marks, PENDING, STRUCK};
 use crate::pairs::Split;
 use crate::refusal::{demand, Fault, Refusal};
 use crate::sheet::{Case, Closing, Line, Sheet};
@@ -17,21 +18,37 @@ pub struct Marked {
 
 /// Marks the sheet's accepted lines struck; a stopped sheet keeps its earlier strikes.
 pub fn mark_sheet(n: u32, table: &[u32], marks: &mut [u8], sheet: &[u16]) -> Marked {
+    hand_in(n, table, marks, sheet, STRUCK)
+}
+
+/// Asks a sheet: "its strikes get mark 2, pending"; a stopped sheet keeps its earlier ones.
+pub fn ask_sheet(n: u32, table: &[u32], marks: &mut [u8], sheet: &[u16]) -> Marked {
+    hand_in(n, table, marks, sheet, PENDING)
+}
+
+/// Each accepted line's edge gets the mark `strike`.
+fn hand_in(n: u32, table: &[u32], marks: &mut [u8], sheet: &[u16], strike: u8) -> Marked {
     let mut lines = 0;
-    let fault = mark_lines(n, table, marks, sheet, &mut lines).err();
+    let read = tests(n, table, marks, sheet).map_err(|refusal| Fault { refusal, record: 0 });
+    let fault = read.and_then(|(n, sheet)| mark_lines(&Lengths::new(n, table), marks, sheet, strike, &mut lines)).err();
     Marked { fault, lines }
 }
 
-fn mark_lines(n: u32, table: &[u32], marks: &mut [u8], sheet: &[u16], lines: &mut u32) -> Result<(), Fault> {
-    let before = |refusal| Fault { refusal, record: 0 };
-    let n = Instance::tests(n, table, marks).map_err(before)?;
-    let sheet = Sheet::read(sheet).map_err(before)?;
-    let lengths = Lengths::new(n, table);
-    let mut walk = Walk { lengths: &lengths, sheet, known: EdgeSet::empty(), highest: 1 };
+/// 1, 2, 5, 6, 20, 7.
+fn tests<'a>(n: u32, table: &[u32], marks: &[u8], sheet: &'a [u16]) -> Result<(u16, Sheet<'a>), Refusal> {
+    let (n, largest) = Instance::tests(n, table, marks)?;
+    if largest == PENDING {
+        return Err(Refusal::SomethingPending);
+    }
+    Ok((n, Sheet::read(sheet)?))
+}
+
+fn mark_lines(lengths: &Lengths, marks: &mut [u8], sheet: Sheet, strike: u8, lines: &mut u32) -> Result<(), Fault> {
+    let mut walk = Walk { lengths, sheet, known: EdgeSet::empty(), highest: 1 };
     let mut index = 1;
     loop {
-        let line = walk.line(marks, index)?;
-        marks[lengths.order.place(line.a, line.b)] = STRUCK;
+        let line = walk.line(Marks::in_sheet(marks), index)?;
+        marks[lengths.order.place(line.a, line.b)] = strike;
         *lines += 1;
         if line.next == 0 {
             return Ok(());
@@ -60,10 +77,10 @@ impl Walk<'_> {
     }
 
     /// Judges the line at `index`: 10, 11, 12, then its split under K = {ab}.
-    fn line(&mut self, marks: &[u8], index: u16) -> Result<Line, Fault> {
+    fn line(&mut self, marks: Marks, index: u16) -> Result<Line, Fault> {
         let line = self.sheet.line(self.lengths.order.n, index)?;
         let place = self.lengths.order.place(line.a, line.b);
-        demand(marks[place] != STRUCK, Refusal::EdgeStruck, index)?;
+        demand(marks.open(place), Refusal::EdgeStruck, index)?;
         self.known.cut_back(0);
         self.known.add(line.a, line.b);
         self.chain(marks, index, line.c, line.first, Sheet::MOST_SPLITS - 1)?;
@@ -72,7 +89,7 @@ impl Walk<'_> {
 
     /// Follows the chain of the split at c that record `owner` holds: "a chain of cases names
     /// exactly the standing pairs, in rising order". `left` further splits may lie inside.
-    fn chain(&mut self, marks: &[u8], owner: u16, c: u16, first: u16, left: usize) -> Result<(), Fault> {
+    fn chain(&mut self, marks: Marks, owner: u16, c: u16, first: u16, left: usize) -> Result<(), Fault> {
         let mut split = Split::new(self.lengths, marks, &self.known, c);
         let (mut holder, mut index) = (owner, first);
         while index != 0 {
@@ -88,7 +105,7 @@ impl Walk<'_> {
     }
 
     /// Closes a case whose pair is in K: 13 and its split, or 15 and 16.
-    fn close(&mut self, marks: &[u8], index: u16, case: &Case, left: usize) -> Result<(), Fault> {
+    fn close(&mut self, marks: Marks, index: u16, case: &Case, left: usize) -> Result<(), Fault> {
         match case.closing {
             Closing::Split { c, first } => {
                 demand(left > 0, Refusal::SeventhSplit, index)?;

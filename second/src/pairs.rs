@@ -5,8 +5,9 @@
 //! against the other end of x's path (test 3).
 
 use crate::edge_set::EdgeSet;
-use crate::instance::{Instance, OPEN};
+use crate::instance::Instance;
 use crate::lengths::Lengths;
+use crate::marks::Marks;
 
 /// Larger than every sum of lengths in test 5.
 const NO_BOUND: i32 = 100_000_000;
@@ -93,7 +94,7 @@ pub struct Split<'a> {
 }
 
 impl<'a> Split<'a> {
-    pub fn new(lengths: &'a Lengths<'a>, marks: &[u8], known: &EdgeSet, c: u16) -> Self {
+    pub fn new(lengths: &'a Lengths<'a>, marks: Marks, known: &EdgeSet, c: u16) -> Self {
         let mut split = Split {
             lengths,
             legs: [Leg::default(); Instance::MOST_POINTS as usize],
@@ -130,9 +131,9 @@ impl<'a> Split<'a> {
 
     /// Keeps x if cx is open and compatible with K (tests 1 and 4).
     #[inline]
-    fn keep(&mut self, marks: &[u8], far: &[FarEdge], c: u16, x: u16, barred: u16) {
+    fn keep(&mut self, marks: Marks, far: &[FarEdge], c: u16, x: u16, barred: u16) {
         let place = self.lengths.order.place(c, x);
-        if marks[place] == OPEN {
+        if marks.open(place) {
             let length = self.lengths.table[place] as i32;
             if far.iter().all(|edge| edge.allows(self.lengths, x, length)) {
                 self.legs[self.count] = Leg { x, barred, length };
@@ -142,7 +143,7 @@ impl<'a> Split<'a> {
     }
 
     /// c has no edge in K: x and y have at most one, and are not the two ends of a short path.
-    fn legs_anywhere(&mut self, marks: &[u8], known: &EdgeSet, far: &[FarEdge], c: u16) {
+    fn legs_anywhere(&mut self, marks: Marks, known: &EdgeSet, far: &[FarEdge], c: u16) {
         let n = self.lengths.order.n;
         for x in (1..=n).filter(|&x| x != c) {
             match known.degree(x) {
@@ -160,7 +161,7 @@ impl<'a> Split<'a> {
     /// c has the edge ce in K: e is in the pair, and the other point has at most one edge and is
     /// not the far end of c's path, if that is short. (K's edges are open and compatible with each
     /// other, so e is always kept; the tests are made all the same.)
-    fn legs_with(&mut self, marks: &[u8], known: &EdgeSet, far: &[FarEdge], c: u16, e: u16) {
+    fn legs_with(&mut self, marks: Marks, known: &EdgeSet, far: &[FarEdge], c: u16, e: u16) {
         let n = self.lengths.order.n;
         let (end, edges) = known.far_end(c);
         let barred = if edges + 1 < usize::from(n) { end } else { 0 };
@@ -181,7 +182,7 @@ impl<'a> Split<'a> {
     }
 
     /// c has two edges in K: they are the pair, and K stays as it is.
-    fn legs_in_set(&mut self, marks: &[u8], known: &EdgeSet, far: &[FarEdge], c: u16) {
+    fn legs_in_set(&mut self, marks: Marks, known: &EdgeSet, far: &[FarEdge], c: u16) {
         let ends = known.ends(c);
         self.keep(marks, far, c, ends[0].min(ends[1]), 0);
         self.keep(marks, far, c, ends[0].max(ends[1]), 0);

@@ -3,9 +3,10 @@
 use std::fmt::Write;
 
 use crate::bytes;
-use crate::instance::{fresh_marks, Instance, OPEN, STRUCK};
+use crate::instance::Instance;
 use crate::lengths::{edge_count, measure};
 use crate::marking::{mark_sheet, Marked};
+use crate::marks::{fresh_marks, OPEN, STRUCK};
 use crate::refusal::Refusal;
 use crate::sheet::Sheet;
 

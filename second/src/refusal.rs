@@ -1,6 +1,6 @@
-//! Refusal numbers (01, Each operation and its refusals).
+//! Refusal numbers (01, Each operation and its refusals; 02).
 
-/// Why an input is refused; the value is 01's number.
+/// Why an input is refused; the value is the papers' number.
 #[derive(Clone, Copy, Debug, PartialEq, Eq)]
 #[repr(u8)]
 pub enum Refusal {
@@ -22,6 +22,8 @@ pub enum Refusal {
     NoSaving = 16,
     Tour = 17,
     ListSize = 18,
+    SomethingPending = 20,
+    NothingPending = 21,
 }
 
 impl Refusal {

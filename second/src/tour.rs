@@ -1,10 +1,11 @@
 //! *Check a tour*.
 
-use crate::instance::{Instance, STRUCK};
+use crate::instance::Instance;
 use crate::lengths::Lengths;
+use crate::marks::Marks;
 use crate::refusal::Refusal;
 
-/// The length of a tour and whether all its edges are open.
+/// The length of a tour and whether all its edges are open; pending ones are.
 #[derive(Clone, Copy, Debug, PartialEq, Eq)]
 pub struct TourAnswer {
     pub length: u64,
@@ -13,17 +14,17 @@ pub struct TourAnswer {
 
 /// 1, 2, 5, 6; 17.
 pub fn check_tour(n: u32, table: &[u32], marks: &[u8], tour: &[u16]) -> Result<TourAnswer, Refusal> {
-    let n = Instance::tests(n, table, marks)?;
+    let (n, _) = Instance::tests(n, table, marks)?;
     if !each_point_once(n, tour) {
         return Err(Refusal::Tour);
     }
-    let lengths = Lengths::new(n, table);
+    let (lengths, marks) = (Lengths::new(n, table), Marks::in_look(marks));
     let mut answer = TourAnswer { length: 0, all_open: true };
     let mut at = tour[tour.len() - 1];
     for &next in tour {
         let place = lengths.order.place(at, next);
         answer.length += u64::from(table[place]);
-        answer.all_open &= marks[place] != STRUCK;
+        answer.all_open &= marks.open(place);
         at = next;
     }
     Ok(answer)

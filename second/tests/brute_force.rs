@@ -1,7 +1,7 @@
-//! Runs of sheets from fresh marks on boards up to thirty points: no shortest tour loses an edge, nor does one that three
-//! exchanges cannot shorten.
+//! Runs from fresh marks on boards up to thirty points, of sheets marked and asked, confirmed and withdrawn: no shortest tour
+//! has an edge struck or pending, nor has one that three exchanges cannot shorten.
 
-use second::instance::fresh_marks;
+use second::bytes::{ask_sheet, confirm, fresh_marks, mark_sheet, withdraw};
 use second::kit::boards::{self, Board};
 use second::kit::brute::Shortest;
 use second::kit::coverage::Coverage;
@@ -23,19 +23,29 @@ fn sheet(rng: &mut Rng, lengths: &Lengths, marks: &[u8]) -> Vec<u8> {
     }
 }
 
-/// Marks sheet after sheet and answers the number of strikes.
-fn run(rng: &mut Rng, board: &Board, sheets: usize) -> u64 {
+/// A sheet marked or asked, or what is pending confirmed or withdrawn; the number for C.
+fn step(rng: &mut Rng, lengths: &Lengths, table: &[u8], marks: &mut [u8]) -> u64 {
+    let n = u32::from(lengths.order.n);
+    match rng.below(5) {
+        0 => confirm(n, marks),
+        1 => withdraw(n, marks),
+        2 => mark_sheet(n, table, marks, &sheet(rng, lengths, marks)),
+        _ => ask_sheet(n, table, marks, &sheet(rng, lengths, marks)),
+    }
+}
+
+/// Takes step after step and answers the number of lines accepted.
+fn run(rng: &mut Rng, board: &Board, steps: usize) -> u64 {
     let lengths = Lengths::new(board.n, &board.table);
     let kept = Kept::new(rng, board);
     let table: Vec<u8> = board.table.iter().flat_map(|l| l.to_le_bytes()).collect();
     let mut marks = vec![0; board.table.len()];
-    fresh_marks(u32::from(board.n), &mut marks).unwrap();
+    fresh_marks(u32::from(board.n), &mut marks);
     let mut strikes = 0;
-    for _ in 0..sheets {
-        let sheet = sheet(rng, &lengths, &marks);
-        strikes += second::bytes::mark_sheet(u32::from(board.n), &table, &mut marks, &sheet) >> 24;
+    for _ in 0..steps {
+        strikes += step(rng, &lengths, &table, &mut marks) >> 24;
         let held = kept.hold(board, &marks, strikes, &mut Coverage::default());
-        assert_eq!(held, Ok(()), "{board:?} {sheet:?}");
+        assert_eq!(held, Ok(()), "{board:?}");
     }
     strikes
 }
@@ -47,7 +57,7 @@ fn no_tour_loses_an_edge() {
         let mut rng = Rng::new(11, case);
         let board = boards::board(&mut rng);
         if board.n <= MOST_POINTS {
-            let struck = run(&mut rng, &board, 25);
+            let struck = run(&mut rng, &board, 40);
             strikes += struck;
             large += if board.n > 20 { struck } else { 0 };
         }
@@ -64,4 +74,6 @@ fn shortest_tours_of_the_square() {
     assert_eq!(Shortest::of(&Lengths::new(4, &[10; 6])).useful, [1; 6]);
     assert_eq!(shortest.lost_edge(&[1, 0, 1, 1, 0, 1]), None);
     assert_eq!(shortest.lost_edge(&[1, 0, 0, 1, 0, 1]), Some(2));
+    assert_eq!(shortest.lost_edge(&[1, 2, 1, 1, 0, 1]), None);
+    assert_eq!(shortest.lost_edge(&[1, 2, 1, 1, 0, 2]), Some(5));
 }

@@ -5,14 +5,18 @@ mod common;
 use common::*;
 use second::lengths::measure;
 use second::listing::list_pairs;
-use second::marking::mark_sheet;
+use second::marking::{ask_sheet, mark_sheet, Marked};
+use second::marks::{confirm, withdraw};
 use second::program::mark_text;
 use second::tour::check_tour;
 
 const LONG: u32 = 2_000_001;
 
-/// One fault a letter: n, table size, table entry, mark size, sheet size.
-fn mark_with(faults: &str) -> u8 {
+/// *Mark a sheet*, directly or asked.
+type HandIn = fn(u32, &[u32], &mut [u8], &[u16]) -> Marked;
+
+/// One fault a letter: n, table size, table entry, a mark of 3, a pending mark, sheet size.
+fn hand_in_with(hand_in: HandIn, faults: &str) -> u8 {
     let has = |fault| faults.contains(fault);
     let n = if has('n') { 181 } else { 4 };
     let mut table = square();
@@ -22,21 +26,55 @@ fn mark_with(faults: &str) -> u8 {
     if has('t') {
         table.push(1);
     }
-    let mut marks = if has('m') { vec![2; 6] } else { vec![1; 6] };
+    let mut marks = fresh(4);
+    if has('m') {
+        marks[5] = 3;
+    }
+    if has('p') {
+        marks[0] = 2;
+    }
+    let before = marks.clone();
     let sheet: &[u16] = if has('s') { &[] } else { &[0; 8] };
-    figures(mark_sheet(n, &table, &mut marks, sheet)).0
+    let number = figures(hand_in(n, &table, &mut marks, sheet)).0;
+    assert_eq!(marks, before, "{faults}");
+    number
 }
 
 #[test]
-fn marking() {
-    let order = [('n', 1), ('t', 2), ('e', 5), ('m', 6), ('s', 7)];
-    for (i, &(first, number)) in order.iter().enumerate() {
-        assert_eq!(mark_with(&first.to_string()), number);
-        for &(second, _) in &order[i + 1..] {
-            assert_eq!(mark_with(&format!("{first}{second}")), number, "{first} with {second}");
+fn marking_and_asking() {
+    let order = [('n', 1), ('t', 2), ('e', 5), ('m', 6), ('p', 20), ('s', 7)];
+    for hand_in in [mark_sheet as HandIn, ask_sheet] {
+        for (i, &(first, number)) in order.iter().enumerate() {
+            assert_eq!(hand_in_with(hand_in, &first.to_string()), number);
+            for &(second, _) in &order[i + 1..] {
+                assert_eq!(hand_in_with(hand_in, &format!("{first}{second}")), number, "{first} with {second}");
+            }
         }
+        assert_eq!(hand_in_with(hand_in, ""), 10);
     }
-    assert_eq!(mark_with(""), 10);
+}
+
+/// 1, 6, 21; neither a table nor a sheet is there to be tested.
+#[test]
+fn settling() {
+    for settle in [confirm, withdraw] {
+        let number = |n, mut marks: Vec<u8>| {
+            let before = marks.clone();
+            let number = refusal(settle(n, &mut marks));
+            assert!(number == 0 || marks == before, "a refusal leaves the marks");
+            number
+        };
+        assert_eq!(number(3, vec![3; 5]), 1);
+        assert_eq!(number(181, vec![2; 6]), 1);
+        assert_eq!(number(4, vec![1; 5]), 6, "6 before 21");
+        assert_eq!(number(4, vec![2; 5]), 6);
+        assert_eq!(number(5, vec![2; 6]), 6);
+        assert_eq!(number(4, vec![1, 1, 1, 1, 1, 3]), 6, "6 before 21");
+        assert_eq!(number(4, vec![2, 2, 2, 2, 2, 3]), 6);
+        assert_eq!(number(4, vec![1; 6]), 21);
+        assert_eq!(number(4, vec![0; 6]), 21);
+        assert_eq!(number(4, vec![0, 1, 2, 1, 1, 1]), 0);
+    }
 }
 
 #[test]
@@ -57,9 +95,11 @@ fn listing() {
     assert_eq!(list(4, &[LONG; 5], &[2; 5], 0), 2);
     assert_eq!(list(4, &[LONG; 6], &[2; 5], 0), 5);
     assert_eq!(list(4, &square(), &[2; 5], 0), 6);
+    assert_eq!(list(4, &square(), &[3; 6], 0), 6);
     assert_eq!(list(4, &square(), &[0; 6], 0), 11);
     assert_eq!(list(4, &square(), &[0; 6], 1), 12);
     assert_eq!(list(4, &square(), &[1; 6], 1), 18);
+    assert_eq!(list(4, &square(), &[2; 6], 1), 18, "pending marks are no fault");
 }
 
 #[test]
@@ -69,7 +109,9 @@ fn tours() {
     assert_eq!(tour(4, &[LONG; 5], &[2; 5]), 2);
     assert_eq!(tour(4, &[LONG; 6], &[2; 5]), 5);
     assert_eq!(tour(4, &square(), &[2; 5]), 6);
+    assert_eq!(tour(4, &square(), &[3; 6]), 6);
     assert_eq!(tour(4, &square(), &[1; 6]), 17);
+    assert_eq!(tour(4, &square(), &[2; 6]), 17, "pending marks are no fault");
 }
 
 #[test]

@@ -3,10 +3,10 @@
 mod common;
 
 use common::*;
-use second::instance::fresh_marks;
 use second::lengths::measure;
 use second::listing::list_pairs;
 use second::marking::mark_sheet;
+use second::marks::fresh_marks;
 use second::tour::check_tour;
 
 const GOOD: [u16; 8] = [1, 1, 3, 0, 0, 2, 0, 0];
@@ -58,7 +58,8 @@ fn marking_before_the_records() {
     assert_eq!(mark(4, &[10, 14, 10, 10, 14, 2_000_001], &mut fresh(4), &GOOD), (5, 0, 0));
     assert_eq!(mark(4, &[10, 14, 10, 10, 14, 2_000_000], &mut fresh(4), &[1; 0]), (7, 0, 0));
     assert_eq!(mark(4, &table, &mut [1; 5], &GOOD), (6, 0, 0));
-    assert_eq!(mark(4, &table, &mut [1, 1, 1, 1, 1, 2], &GOOD), (6, 0, 0));
+    assert_eq!(mark(4, &table, &mut [1, 1, 1, 1, 1, 3], &GOOD), (6, 0, 0));
+    assert_eq!(mark(4, &table, &mut [1, 1, 1, 1, 1, 2], &GOOD), (20, 0, 0));
     assert_eq!(mark(4, &table, &mut fresh(4), &[]), (7, 0, 0));
     assert_eq!(mark(4, &table, &mut fresh(4), &GOOD[..7]), (7, 0, 0));
     assert_eq!(mark(4, &table, &mut fresh(4), &GOOD.repeat(4_001)), (7, 0, 0));
@@ -190,7 +191,7 @@ fn tours() {
     assert_eq!(tour(3, &table, &marks, &[1, 2, 3]), 1);
     assert_eq!(tour(5, &table, &marks, &[1, 2, 3, 4]), 2);
     assert_eq!(tour(4, &[2_000_001; 6], &marks, &[1, 2, 3, 4]), 5);
-    assert_eq!(tour(4, &table, &[2; 6], &[1, 2, 3, 4]), 6);
+    assert_eq!(tour(4, &table, &[3; 6], &[1, 2, 3, 4]), 6);
     for wrong in [&[1, 2, 3][..], &[1, 2, 3, 4, 1], &[], &[1, 2, 3, 3], &[0, 1, 2, 3], &[2, 3, 4, 5]] {
         assert_eq!(tour(4, &table, &marks, wrong), 17);
     }

@@ -47,6 +47,32 @@ fn strikes_are_demanded() {
     }
 }
 
+/// Before the first case nothing has been pending.
+#[test]
+fn pending_marks_are_demanded() {
+    let missing = Coverage::default().missing();
+    for unmet in [
+        "mark a sheet: 20",
+        "ask a sheet: 20",
+        "ask a sheet: 0",
+        "confirm: 0",
+        "confirm: 21",
+        "withdraw: 0",
+        "withdraw: 21",
+        "sheets refused by 20 before 7",
+        "asked sheets stopped after accepted lines",
+        "asked lines for an edge that their own sheet has made pending",
+        "asked sheets with strikes, confirmed as marked and withdrawn as before",
+        "lists with pairs that stand by pending edges",
+        "splits listed for a pending edge",
+        "tours with all edges open, some of them pending",
+        "pending marks held against all shortest tours",
+        "pending marks held against 3-opt tours of more than nine points",
+    ] {
+        assert!(missing.contains(&unmet.to_string()), "{unmet}");
+    }
+}
+
 /// Sheets until the comparison finds the slip.
 fn found_after(slip: Slip) -> Option<u64> {
     let naive = Naive { slip: Some(slip) };
@@ -79,6 +105,18 @@ fn found_in_both(slip: Slip) -> String {
 fn slips_of_both_are_found_by_open_edges_and_tours() {
     assert_eq!(found_in_both(Slip::LastEdges), "open edges");
     assert_eq!(found_in_both(Slip::ShortestOnly), "3-opt tour");
+}
+
+/// Paper 3's laws, on copies of what was asked.
+#[test]
+fn slips_of_both_are_found_by_the_laws_of_asking() {
+    assert_eq!(found_in_both(Slip::PendingOpenInSheet), "ask from mark");
+    assert_eq!(found_in_both(Slip::PendingMarked), "ask from mark");
+    assert_eq!(found_in_both(Slip::StoppedAskGivenBack), "ask, then confirm");
+    assert_eq!(found_in_both(Slip::StoppedAskStrikes), "ask, then confirm");
+    assert_eq!(found_in_both(Slip::ConfirmOpens), "ask, then confirm");
+    assert_eq!(found_in_both(Slip::NothingPendingUntold), "ask, then confirm");
+    assert_eq!(found_in_both(Slip::WithdrawStrikes), "ask, then withdraw");
 }
 
 /// Rules that shut out too much, in both.

@@ -1,7 +1,7 @@
 //! All shortest tours of small instances, by trying every order.
 
-use crate::instance::STRUCK;
 use crate::lengths::{edge_count, Lengths};
+use crate::marks::OPEN;
 
 /// Boards up to this many points are tried.
 pub const MOST_POINTS: u16 = 9;
@@ -28,9 +28,9 @@ impl Shortest {
         tours.shortest
     }
 
-    /// The first edge of a shortest tour that is struck, by its place.
+    /// The first edge of a shortest tour that is struck or pending, by its place.
     pub fn lost_edge(&self, marks: &[u8]) -> Option<usize> {
-        self.useful.iter().zip(marks).position(|(&used, &mark)| used == 1 && mark == STRUCK)
+        self.useful.iter().zip(marks).position(|(&used, &mark)| used == 1 && mark != OPEN)
     }
 }
 

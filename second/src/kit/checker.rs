@@ -9,6 +9,12 @@ pub trait Checker {
     fn fresh_marks(&self, n: u32, marks: &mut [u8]) -> u64;
     /// 01's 64-bit number for marking.
     fn mark_sheet(&self, n: u32, table: &[u8], marks: &mut [u8], sheet: &[u8]) -> u64;
+    /// The same number for asking.
+    fn ask_sheet(&self, n: u32, table: &[u8], marks: &mut [u8], sheet: &[u8]) -> u64;
+    /// The refusal number or 0.
+    fn confirm(&self, n: u32, marks: &mut [u8]) -> u64;
+    /// The refusal number or 0.
+    fn withdraw(&self, n: u32, marks: &mut [u8]) -> u64;
     /// 01's 64-bit number for a tour.
     fn check_tour(&self, n: u32, table: &[u8], marks: &[u8], tour: &[u8]) -> u64;
     /// The refusal number, or 65,536 × the number of pairs.
@@ -39,6 +45,18 @@ impl Checker for Second {
 
     fn mark_sheet(&self, n: u32, table: &[u8], marks: &mut [u8], sheet: &[u8]) -> u64 {
         crate::bytes::mark_sheet(n, table, marks, sheet)
+    }
+
+    fn ask_sheet(&self, n: u32, table: &[u8], marks: &mut [u8], sheet: &[u8]) -> u64 {
+        crate::bytes::ask_sheet(n, table, marks, sheet)
+    }
+
+    fn confirm(&self, n: u32, marks: &mut [u8]) -> u64 {
+        crate::bytes::confirm(n, marks)
+    }
+
+    fn withdraw(&self, n: u32, marks: &mut [u8]) -> u64 {
+        crate::bytes::withdraw(n, marks)
     }
 
     fn check_tour(&self, n: u32, table: &[u8], marks: &[u8], tour: &[u8]) -> u64 {

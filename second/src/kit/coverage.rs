@@ -10,6 +10,9 @@ pub enum Operation {
     Measure,
     FreshMarks,
     MarkSheet,
+    AskSheet,
+    Confirm,
+    Withdraw,
     ListPairs,
     CheckTour,
     Program,
@@ -18,16 +21,25 @@ pub enum Operation {
 use Operation::*;
 
 /// Each operation with the numbers that it has to have met; 0 is a result.
-const DEMANDS: [(Operation, &str, &[usize]); 6] = [
+const DEMANDS: [(Operation, &str, &[usize]); 9] = [
     (Measure, "measure", &[0, 1, 2, 3, 4]),
     (FreshMarks, "fresh marks", &[0, 1, 6]),
-    (MarkSheet, "mark a sheet", &[0, 1, 2, 5, 6, 7, 8, 9, 10, 11, 12, 13, 14, 15, 16]),
+    (MarkSheet, "mark a sheet", &[0, 1, 2, 5, 6, 20, 7, 8, 9, 10, 11, 12, 13, 14, 15, 16]),
+    (AskSheet, "ask a sheet", &[0, 1, 2, 5, 6, 20, 7, 8, 9, 10, 11, 12, 13, 14, 15, 16]),
+    (Confirm, "confirm", &[0, 1, 6, 21]),
+    (Withdraw, "withdraw", &[0, 1, 6, 21]),
     (ListPairs, "list pairs", &[0, 1, 2, 5, 6, 11, 12, 18]),
     (CheckTour, "check a tour", &[0, 1, 2, 5, 6, 17]),
     (Program, "program", &[0, 1, 3, 4, 7, 8, 9, 10, 11, 12, 13, 14, 15, 16]),
 ];
 
-const NUMBERS: usize = 19;
+impl Operation {
+    pub fn name(self) -> &'static str {
+        DEMANDS.iter().find(|demand| demand.0 == self).unwrap().1
+    }
+}
+
+const NUMBERS: usize = 22;
 
 /// Outcomes that a refusal number does not tell apart.
 #[derive(Clone, Copy, Debug, PartialEq, Eq)]
@@ -75,11 +87,27 @@ pub enum Event {
     ThreeOptSmall,
     ThreeOptLarge,
     ThreeOptLonger,
+    /// 20 for a sheet that 7 is for too.
+    PendingFirst,
+    /// An asked sheet refused after accepted lines.
+    AskStopped,
+    /// 12 for an edge that an earlier line of the same asked sheet has made pending.
+    AskedTwice,
+    /// An asked sheet with strikes: on copies, confirming left the marks of direct marking and withdrawing the old ones.
+    AskSettled,
+    /// Lists over pending marks: with other pairs than if these were struck; for a pending edge.
+    PendingPairs,
+    PendingListed,
+    /// A tour whose edges are all open because pending ones count as open.
+    PendingTour,
+    /// Pending marks held against all shortest tours, and against 3-opt tours of larger boards.
+    PendingShortest,
+    PendingThreeOpt,
 }
 
 use Event::*;
 
-const EVENTS: [(Event, &str); 26] = [
+const EVENTS: [(Event, &str); 35] = [
     (TourOpen, "tours with all edges open"),
     (TourStruck, "tours with a struck edge"),
     (NoPairs, "splits listed without a pair"),
@@ -106,9 +134,18 @@ const EVENTS: [(Event, &str); 26] = [
     (ThreeOptSmall, "3-opt tours up to nine points, held against marks with strikes"),
     (ThreeOptLarge, "3-opt tours of more points, held against marks with strikes"),
     (ThreeOptLonger, "3-opt tours longer than another, held against marks with strikes"),
+    (PendingFirst, "sheets refused by 20 before 7"),
+    (AskStopped, "asked sheets stopped after accepted lines"),
+    (AskedTwice, "asked lines for an edge that their own sheet has made pending"),
+    (AskSettled, "asked sheets with strikes, confirmed as marked and withdrawn as before"),
+    (PendingPairs, "lists with pairs that stand by pending edges"),
+    (PendingListed, "splits listed for a pending edge"),
+    (PendingTour, "tours with all edges open, some of them pending"),
+    (PendingShortest, "pending marks held against all shortest tours"),
+    (PendingThreeOpt, "pending marks held against 3-opt tours of more than nine points"),
 ];
 
-#[derive(Clone, Default)]
+#[derive(Clone)]
 pub struct Coverage {
     numbers: [[u64; NUMBERS]; DEMANDS.len()],
     events: [u64; EVENTS.len()],
@@ -123,6 +160,20 @@ pub struct Coverage {
 
 /// Classes of boards by their number of points, up to and with this one.
 const SIZES: [u32; 5] = [9, 20, 60, 100, 180];
+
+impl Default for Coverage {
+    /// Nothing met.
+    fn default() -> Self {
+        Coverage {
+            numbers: [[0; NUMBERS]; DEMANDS.len()],
+            events: [0; EVENTS.len()],
+            measure_rules: RulesMet::default(),
+            program_rules: RulesMet::default(),
+            depths: [0; Sheet::MOST_SPLITS + 1],
+            sizes: [0; SIZES.len()],
+        }
+    }
+}
 
 impl Coverage {
     pub fn number(&mut self, operation: Operation, number: u64) {

@@ -39,6 +39,18 @@ impl<C: Checker> Checker for Guarded<C> {
         lend(marks, |marks| self.0.mark_sheet(n, table, marks, sheet))
     }
 
+    fn ask_sheet(&self, n: u32, table: &[u8], marks: &mut [u8], sheet: &[u8]) -> u64 {
+        lend(marks, |marks| self.0.ask_sheet(n, table, marks, sheet))
+    }
+
+    fn confirm(&self, n: u32, marks: &mut [u8]) -> u64 {
+        lend(marks, |marks| self.0.confirm(n, marks))
+    }
+
+    fn withdraw(&self, n: u32, marks: &mut [u8]) -> u64 {
+        lend(marks, |marks| self.0.withdraw(n, marks))
+    }
+
     fn check_tour(&self, n: u32, table: &[u8], marks: &[u8], tour: &[u8]) -> u64 {
         self.0.check_tour(n, table, marks, tour)
     }

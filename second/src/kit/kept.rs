@@ -1,5 +1,6 @@
-//! What marks keep through any run of sheets from fresh marks: the edges of all shortest tours (demand 3) and of tours that
-//! three exchanges cannot shorten, and so two open edges at every point and n in all (02, Paper 9).
+//! What marks keep through any run from fresh marks: the edges of all shortest tours (demand 3) and of tours that three
+//! exchanges cannot shorten stay open, neither struck nor pending (02, Paper 3), and so two open edges at every point and n
+//! in all (Paper 9).
 
 use std::cmp::Reverse;
 
@@ -9,8 +10,8 @@ use super::coverage::{Coverage, Event};
 use super::drafts::sheet_bytes;
 use super::rng::Rng;
 use super::three_opt;
-use crate::instance::OPEN;
 use crate::lengths::Lengths;
+use crate::marks::{OPEN, PENDING};
 use crate::sheet::Sheet;
 
 /// Tours sought on a board.
@@ -50,12 +51,13 @@ impl Kept {
         Some(sheet_bytes(&[[Sheet::LINE, tour[at], tour[(at + 1) % tour.len()], 0, 0, c, 0, 0]]))
     }
 
-    /// Holds marks that a run has left against all of this; `lines` are those that its last sheet struck.
+    /// Holds marks that a run has left against all of this; `lines` are those that its last step accepted.
     pub fn hold(&self, board: &Board, marks: &[u8], lines: u64, coverage: &mut Coverage) -> Result<(), Loss> {
         let lengths = Lengths::new(board.n, &board.table);
         let open = open_edges(board.n, marks);
         enough_open(&open)?;
         self.count(&open, lines, coverage);
+        self.count_pending(marks.iter().filter(|&&mark| mark == PENDING).count() as u64, coverage);
         for tour in &self.tours {
             if let Some((a, b)) = three_opt::lost_edge(&lengths, tour, marks) {
                 return Err(("3-opt tour", format!("edge {a}-{b} of {tour:?}\n")));
@@ -83,9 +85,17 @@ impl Kept {
             coverage.event(Event::LeastOpen, u64::from(all == 2 * n));
         }
     }
+
+    fn count_pending(&self, pending: u64, coverage: &mut Coverage) {
+        if self.shortest.is_some() {
+            coverage.event(Event::PendingShortest, pending);
+        } else if !self.tours.is_empty() {
+            coverage.event(Event::PendingThreeOpt, pending);
+        }
+    }
 }
 
-/// The number of open edges at each point.
+/// The number of open edges at each point; pending ones are not.
 fn open_edges(n: u16, marks: &[u8]) -> Vec<usize> {
     let n = usize::from(n);
     let mut open = vec![0; n];

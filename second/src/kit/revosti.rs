@@ -16,6 +16,17 @@ extern "C" {
         sheet: *const u8,
         sheet_len: usize,
     ) -> u64;
+    fn revosti_ask_sheet(
+        n: u32,
+        table: *const u8,
+        table_len: usize,
+        marks: *mut u8,
+        marks_len: usize,
+        sheet: *const u8,
+        sheet_len: usize,
+    ) -> u64;
+    fn revosti_confirm(n: u32, marks: *mut u8, marks_len: usize) -> u64;
+    fn revosti_withdraw(n: u32, marks: *mut u8, marks_len: usize) -> u64;
     fn revosti_check_tour(
         n: u32,
         table: *const u8,
@@ -86,6 +97,28 @@ impl Checker for Revosti {
                 sheet.len(),
             )
         }
+    }
+
+    fn ask_sheet(&self, n: u32, table: &[u8], marks: &mut [u8], sheet: &[u8]) -> u64 {
+        unsafe {
+            revosti_ask_sheet(
+                n,
+                table.as_ptr(),
+                table.len(),
+                marks.as_mut_ptr(),
+                marks.len(),
+                sheet.as_ptr(),
+                sheet.len(),
+            )
+        }
+    }
+
+    fn confirm(&self, n: u32, marks: &mut [u8]) -> u64 {
+        unsafe { revosti_confirm(n, marks.as_mut_ptr(), marks.len()) }
+    }
+
+    fn withdraw(&self, n: u32, marks: &mut [u8]) -> u64 {
+        unsafe { revosti_withdraw(n, marks.as_mut_ptr(), marks.len()) }
     }
 
     fn check_tour(&self, n: u32, table: &[u8], marks: &[u8], tour: &[u8]) -> u64 {

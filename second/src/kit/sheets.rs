@@ -3,8 +3,8 @@
 use super::drafts::{crossing_record, junk, sheet_bytes, Draft, FIRST, NEXT};
 use super::rng::Rng;
 use super::search::{crossings, Effort, Search};
-use crate::instance::STRUCK;
 use crate::lengths::Lengths;
+use crate::marks::{OPEN, STRUCK};
 use crate::sheet::{Record, Sheet};
 
 /// How a valid sheet is sought.
@@ -63,8 +63,7 @@ fn long_edges(rng: &mut Rng, lengths: &Lengths, marks: &[u8], most: usize) -> Ve
     let mut edges = Vec::new();
     for _ in 0..3 * most {
         let (a, b) = (rng.point(n), rng.point(n));
-        if a != b && marks[lengths.order.place(a, b)] != STRUCK && !edges.contains(&(a, b)) && !edges.contains(&(b, a))
-        {
+        if a != b && marks[lengths.order.place(a, b)] == OPEN && !edges.contains(&(a, b)) && !edges.contains(&(b, a)) {
             edges.push((a, b));
         }
     }

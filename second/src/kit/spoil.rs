@@ -35,7 +35,7 @@ pub fn call(rng: &mut Rng, lent: &mut Lent) {
 }
 
 /// Another n: out of range, also by multiples of 256 and 65,536, or another board's.
-fn wrong_count(rng: &mut Rng, n: u32) -> u32 {
+pub fn wrong_count(rng: &mut Rng, n: u32) -> u32 {
     let others = [1, 256, 65_536, u32::MAX].map(|step| n.wrapping_add(step));
     let fixed = [0, 1, 3, 4, 180, 181, u32::MAX];
     if rng.chance(50) {
@@ -70,7 +70,7 @@ fn some_entry(rng: &mut Rng, bytes: &mut [u8], values: &[u32]) {
 fn mark(rng: &mut Rng, marks: &mut [u8]) {
     if !marks.is_empty() {
         let at = rng.below(marks.len());
-        marks[at] = rng.pick(&[2, 3, 128, 255]);
+        marks[at] = rng.pick(&[2, 3, 3, 128, 255]);
     }
 }
 
@@ -182,6 +182,14 @@ pub fn tour(rng: &mut Rng, n: u16) -> Vec<u8> {
         _ => {}
     }
     bytes
+}
+
+/// The bytes of a tour with this edge.
+pub fn tour_with(rng: &mut Rng, n: u16, (a, b): (u16, u16)) -> Vec<u8> {
+    let mut points: Vec<u16> = (1..=n).filter(|&v| v != a && v != b).collect();
+    rng.shuffle(&mut points);
+    points.extend([a, b]);
+    points.iter().flat_map(|v| v.to_le_bytes()).collect()
 }
 
 /// Spoils a file for the program in one to three ways.

@@ -5,8 +5,8 @@
 //! either order, each as it was or turned. These are all tours with all other edges, those with two edges changed too.
 
 use super::rng::Rng;
-use crate::instance::STRUCK;
 use crate::lengths::Lengths;
+use crate::marks::OPEN;
 
 /// Boards up to this many points are searched.
 pub const MOST_POINTS: u16 = 30;
@@ -38,9 +38,9 @@ pub fn length(lengths: &Lengths, tour: &[u16]) -> i32 {
     edges(tour).map(|(a, b)| lengths.between(a, b)).sum()
 }
 
-/// The first edge of a tour that is struck.
+/// The first edge of a tour that is struck or pending.
 pub fn lost_edge(lengths: &Lengths, tour: &[u16], marks: &[u8]) -> Option<(u16, u16)> {
-    edges(tour).find(|&(a, b)| marks[lengths.order.place(a, b)] == STRUCK)
+    edges(tour).find(|&(a, b)| marks[lengths.order.place(a, b)] != OPEN)
 }
 
 /// A tour without the edges behind the places i < j < k.

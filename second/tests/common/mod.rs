@@ -1,9 +1,9 @@
 //! Small inputs that several tests use.
 #![allow(dead_code)]
 
-use second::instance::fresh_marks;
 use second::lengths::{edge_count, measure};
 use second::marking::{mark_sheet, Marked};
+use second::marks::fresh_marks;
 use second::refusal::{Fault, Refusal};
 use second::sheet::Record;
 

@@ -10,7 +10,7 @@ mod slip;
 
 use super::checker::Checker;
 use reader::Reader;
-use rules::{all_edges, Board, Edge};
+use rules::{all_edges, pending_read_as, Board, Edge};
 pub use slip::Slip;
 
 #[derive(Default)]
@@ -41,7 +41,15 @@ fn first_refusal(slip: Option<Slip>, n: u32, table: &[u32], table_whole: bool, m
         2
     } else if table.iter().any(|&l| u64::from(l) > limit(2_000_000, slip, Slip::LengthLimit)) {
         5
-    } else if marks.len() != edges || marks.iter().any(|&m| m > 1) {
+    } else {
+        mark_refusal(slip, edges, marks)
+    }
+}
+
+/// Test 6; 0 if it passes.
+fn mark_refusal(slip: Option<Slip>, edges: usize, marks: &[u8]) -> u64 {
+    let known: &[u8] = if slip == Some(Slip::MarkThree) { &[0, 1, 2, 3] } else { &[0, 1, 2] };
+    if marks.len() != edges || !marks.iter().all(|m| known.contains(m)) {
         6
     } else {
         0
@@ -85,6 +93,70 @@ pub fn distance(slip: Option<Slip>, rule: u32, dx: i64, dy: i64) -> u64 {
         4 if slip != Some(Slip::ManIsMax) => x + y,
         _ if slip == Some(Slip::MaxIsFirst) => x,
         _ => least(|d| d >= x && d >= y),
+    }
+}
+
+impl Naive {
+    fn slips(&self, slip: Slip) -> bool {
+        self.slip == Some(slip)
+    }
+
+    /// Tests 1, 2, 5, 6, 20, 7 of a sheet; 0 if all pass.
+    fn sheet_refusal(&self, n: u32, table: &[u32], table_whole: bool, marks: &[u8], sheet: &[u8], asked: bool) -> u64 {
+        let refusal = first_refusal(self.slip, n, table, table_whole, marks);
+        if refusal != 0 {
+            return refusal;
+        }
+        let pending = marks.contains(&2) && (asked || !self.slips(Slip::PendingMarked));
+        let most = limit(4_000, self.slip, Slip::RecordLimit);
+        let records = !sheet.is_empty() && sheet.len() % 16 == 0 && sheet.len() as u64 / 16 <= most;
+        if pending && (records || !self.slips(Slip::PendingAfterRecords)) {
+            20
+        } else if !records {
+            7
+        } else {
+            0
+        }
+    }
+
+    /// *Mark a sheet*, directly or asked.
+    fn hand_in(&self, n: u32, table: &[u8], marks: &mut [u8], sheet: &[u8], asked: bool) -> u64 {
+        let (table, whole) = table_of(table);
+        let refusal = self.sheet_refusal(n, &table, whole, marks, sheet, asked);
+        if refusal != 0 {
+            return refusal;
+        }
+        let record = |bytes| numbers(bytes, 2).iter().map(|&v| v as usize).collect();
+        let records = sheet.chunks(16).map(record).collect();
+        let board = Board::new(n as usize, &table, self.slip);
+        let before = marks.to_vec();
+        let mut accepted = 0;
+        let strike = if asked { 2 } else { 0 };
+        let stop = Reader { board, records, entered: vec![], strike }.lines(marks, &mut accepted);
+        if stop.is_err() && (self.slips(Slip::StrikesGivenBack) || asked && self.slips(Slip::StoppedAskGivenBack)) {
+            marks.copy_from_slice(&before);
+        }
+        if stop.is_err() && asked && self.slips(Slip::StoppedAskStrikes) {
+            marks.copy_from_slice(&pending_read_as(0, marks));
+        }
+        let (number, record) = stop.err().unwrap_or((0, 0));
+        number + (record as u64) * 256 + accepted * 256 * 65_536
+    }
+
+    /// *Confirm* and *withdraw*: 1, 6, 21; then `becomes` stands for each 2.
+    fn settle(&self, n: u32, marks: &mut [u8], becomes: u8) -> u64 {
+        if n < 4 || n > 180 {
+            return 1;
+        }
+        let refusal = mark_refusal(self.slip, all_edges(n as usize).len(), marks);
+        if refusal != 0 {
+            return refusal;
+        }
+        if !marks.contains(&2) && !self.slips(Slip::NothingPendingUntold) {
+            return 21;
+        }
+        marks.copy_from_slice(&pending_read_as(becomes, marks));
+        0
     }
 }
 
@@ -134,28 +206,19 @@ impl Checker for Naive {
     }
 
     fn mark_sheet(&self, n: u32, table: &[u8], marks: &mut [u8], sheet: &[u8]) -> u64 {
-        let (table, whole) = table_of(table);
-        let refusal = first_refusal(self.slip, n, &table, whole, marks);
-        if refusal != 0 {
-            return refusal;
-        }
-        if sheet.is_empty()
-            || sheet.len() % 16 != 0
-            || sheet.len() as u64 / 16 > limit(4_000, self.slip, Slip::RecordLimit)
-        {
-            return 7;
-        }
-        let record = |bytes| numbers(bytes, 2).iter().map(|&v| v as usize).collect();
-        let records = sheet.chunks(16).map(record).collect();
-        let board = Board::new(n as usize, &table, self.slip);
-        let before = marks.to_vec();
-        let mut accepted = 0;
-        let stop = Reader { board, records, entered: vec![] }.lines(marks, &mut accepted);
-        if stop.is_err() && self.slip == Some(Slip::StrikesGivenBack) {
-            marks.copy_from_slice(&before);
-        }
-        let (number, record) = stop.err().unwrap_or((0, 0));
-        number + (record as u64) * 256 + accepted * 256 * 65_536
+        self.hand_in(n, table, marks, sheet, false)
+    }
+
+    fn ask_sheet(&self, n: u32, table: &[u8], marks: &mut [u8], sheet: &[u8]) -> u64 {
+        self.hand_in(n, table, marks, sheet, true)
+    }
+
+    fn confirm(&self, n: u32, marks: &mut [u8]) -> u64 {
+        self.settle(n, marks, if self.slips(Slip::ConfirmOpens) { 1 } else { 0 })
+    }
+
+    fn withdraw(&self, n: u32, marks: &mut [u8]) -> u64 {
+        self.settle(n, marks, if self.slips(Slip::WithdrawStrikes) { 0 } else { 1 })
     }
 
     fn check_tour(&self, n: u32, table: &[u8], marks: &[u8], tour: &[u8]) -> u64 {
@@ -175,6 +238,7 @@ impl Checker for Naive {
         let edges: Vec<Edge> =
             (closing..points.len()).map(|i| (points[i], points[(i + points.len() - 1) % points.len()])).collect();
         let length: i64 = edges.iter().map(|&(a, b)| board.l(a, b)).sum();
+        let marks = pending_read_as(if self.slips(Slip::PendingStruckInTour) { 0 } else { 1 }, marks);
         let open = edges.iter().filter(|&&(a, b)| marks[board.place(a, b)] == 0).count() == 0;
         length as u64 * 65_536 + if open { 256 } else { 0 }
     }
@@ -190,10 +254,11 @@ impl Checker for Naive {
         }
         let [a, b, c] = abc.map(usize::from);
         let board = Board::new(n as usize, &table, self.slip);
+        let marks = pending_read_as(if self.slips(Slip::PendingStruckInList) { 0 } else { 1 }, marks);
         if marks[board.place(a, b)] == 0 {
             return 12;
         }
-        let pairs = board.standing(marks, &[(a, b)], c);
+        let pairs = board.standing(&marks, &[(a, b)], c);
         let fits = list.len() >= 4 * pairs.len();
         if fits || self.slip == Some(Slip::ListWrittenOnRefusal) {
             for (i, &(x, y)) in pairs.iter().take(list.len() / 4).enumerate() {

@@ -1,6 +1,6 @@
 //! The walk through a sheet, record by record.
 
-use super::rules::{has, with, Board, Edge};
+use super::rules::{has, pending_read_as, with, Board, Edge};
 use super::slip::Slip;
 
 /// A refusal number with its record.
@@ -11,6 +11,8 @@ pub struct Reader<'a> {
     pub board: Board<'a>,
     pub records: Vec<Vec<usize>>,
     pub entered: Vec<usize>,
+    /// What a strike writes: 0, or 2 in an asked sheet.
+    pub strike: u8,
 }
 
 impl Reader<'_> {
@@ -117,17 +119,19 @@ impl Reader<'_> {
             let record = self.first_tests(index, &[1])?;
             let (a, b) = (record[1], record[2]);
             let place = self.board.place(a, b);
-            if marks[place] == 0 {
+            let wrong = self.board.slip == Some(Slip::PendingOpenInSheet);
+            let now = pending_read_as(if wrong { 1 } else { 0 }, marks);
+            if now[place] == 0 {
                 return Err((12, index));
             }
-            let mut seen = if self.board.slip == Some(Slip::StaleMarks) { at_first.clone() } else { marks.to_vec() };
+            let mut seen = if self.board.slip == Some(Slip::StaleMarks) { at_first.clone() } else { now };
             if self.board.slip == Some(Slip::EarlyStrike) {
                 seen[place] = 0;
             }
             if record[6] != 0 || !self.board.waved_on(marks, (a, b)) {
                 self.chain(&seen, &[(a, b)], index, record[5], record[6], 1)?;
             }
-            marks[place] = 0;
+            marks[place] = self.strike;
             *accepted += 1;
             if record[7] == 0 {
                 return Ok(());

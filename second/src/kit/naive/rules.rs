@@ -24,6 +24,11 @@ pub fn all_edges(n: usize) -> Vec<Edge> {
     edges
 }
 
+/// Marks with another mark for each 2.
+pub fn pending_read_as(mark: u8, marks: &[u8]) -> Vec<u8> {
+    marks.iter().map(|&m| if m == 2 { mark } else { m }).collect()
+}
+
 pub fn same(e: Edge, f: Edge) -> bool {
     e == f || e == (f.1, f.0)
 }

@@ -56,10 +56,32 @@ pub enum Slip {
     LastEdges,
     /// A line without cases is accepted if no shortest tour has its edge, on a board up to nine points.
     ShortestOnly,
+    /// A byte of 3 passes for a mark.
+    MarkThree,
+    /// Within the asked sheet a pending edge counts as open.
+    PendingOpenInSheet,
+    /// An asked sheet that stops gives its strikes back.
+    StoppedAskGivenBack,
+    /// An asked sheet that stops strikes for good.
+    StoppedAskStrikes,
+    /// Marking does not mind pending marks.
+    PendingMarked,
+    /// 20 after 7.
+    PendingAfterRecords,
+    /// Confirming turns pending marks into open ones.
+    ConfirmOpens,
+    /// Withdrawing turns pending marks into struck ones.
+    WithdrawStrikes,
+    /// 21 is not told.
+    NothingPendingUntold,
+    /// The pair list counts a pending edge as struck.
+    PendingStruckInList,
+    /// The tour check counts a pending edge as struck.
+    PendingStruckInTour,
 }
 
 impl Slip {
-    pub const ALL: [Slip; 28] = [
+    pub const ALL: [Slip; 39] = [
         Slip::EqualShutsOut,
         Slip::EqualSaves,
         Slip::OneExchange,
@@ -88,5 +110,16 @@ impl Slip {
         Slip::RuleSix,
         Slip::LastEdges,
         Slip::ShortestOnly,
+        Slip::MarkThree,
+        Slip::PendingOpenInSheet,
+        Slip::StoppedAskGivenBack,
+        Slip::StoppedAskStrikes,
+        Slip::PendingMarked,
+        Slip::PendingAfterRecords,
+        Slip::ConfirmOpens,
+        Slip::WithdrawStrikes,
+        Slip::NothingPendingUntold,
+        Slip::PendingStruckInList,
+        Slip::PendingStruckInTour,
     ];
 }

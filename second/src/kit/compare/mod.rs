@@ -1,19 +1,20 @@
 //! Two programs on the same inputs; everything that they show is compared.
 
-use std::fmt::{self, Debug, Write};
+mod looks;
+mod steps;
+
+use std::fmt::{Debug, Write};
 use std::path::PathBuf;
 
 use super::boards::{self, Board};
 use super::checker::Checker;
 use super::coverage::{Coverage, Event, Operation};
 use super::drafts::{sheet_bytes, Draft};
-use super::entered::Entered;
-use super::kept::Kept;
 use super::rng::Rng;
 use super::sheets::{self, Plan};
-use super::spoil::{self, Lent};
+use super::spoil;
 use crate::lengths::Lengths;
-use crate::sheet::Sheet;
+use steps::Run;
 
 /// A difference or a lost edge, with what is needed to see it again.
 #[derive(Debug)]
@@ -97,68 +98,9 @@ impl<'a> Comparison<'a> {
             self.sheet(rng, run, &mut marks, &sheet_bytes(&draft.records))?;
         }
         run.marks = marks;
-        self.listing(rng, run)?;
-        self.listing(rng, run)?;
-        self.tour(rng, run)
-    }
-
-    /// One sheet: as it is, sometimes in a spoiled call, and in a file.
-    fn sheet(&mut self, rng: &mut Rng, run: &Run, marks: &mut Vec<u8>, sheet: &[u8]) -> Checked {
-        if rng.chance(8) {
-            let mut lent = Lent::new(&run.board, marks);
-            spoil::call(rng, &mut lent);
-            self.marking(&mut lent, sheet)?;
-        }
-        let mut lent = Lent::new(&run.board, marks);
-        let lines = self.marking(&mut lent, sheet)?;
-        *marks = lent.marks;
-        self.sheets += 1;
-        if let Some(kept) = &run.kept {
-            self.nothing_lost(&run.board, kept, marks, sheet, lines)?;
-        }
-        if self.other.program_is_cheap() || rng.chance(PROGRAMS) {
-            self.program(rng, &run.board, sheet)?;
-        }
-        Ok(())
-    }
-
-    /// *Mark a sheet*: the answer and every mark. Answers the lines accepted.
-    fn marking(&mut self, lent: &mut Lent, sheet: &[u8]) -> Result<u64, Difference> {
-        let before = lent.marks.clone();
-        let mut marks = before.clone();
-        let answer = self.one.mark_sheet(lent.n, &lent.table, &mut lent.marks, sheet);
-        let other = self.other.mark_sheet(lent.n, &lent.table, &mut marks, sheet);
-        let (number, lines) = (answer % 256, answer / 16_777_216);
-        self.coverage.number(Operation::MarkSheet, number);
-        if number != 0 && lines > 0 {
-            self.coverage.event(Event::StoppedAfterStrikes, 1);
-        }
-        let (one, other) = (Shown { answer, marks: &lent.marks }, Shown { answer: other, marks: &marks });
-        self.same("mark a sheet", one, other, || {
-            let call = hex_call(lent.n, &lent.table, &before);
-            format!("{call}sheet {}\n", hex(sheet))
-        })?;
-        self.accepted(lent.n, sheet, number, lines);
-        Ok(lines)
-    }
-
-    /// Counts the accepted lines.
-    fn accepted(&mut self, n: u32, sheet: &[u8], number: u64, lines: u64) {
-        let numbers = crate::bytes::numbers(sheet);
-        let records = Entered::count(n, &numbers, lines, &mut self.coverage);
-        if number == 0 {
-            self.coverage.event(Event::SeveralLines, u64::from(lines > 1));
-            self.coverage.event(Event::RecordsSkipped, u64::from(Sheet::FIELDS * records < numbers.len()));
-        }
-    }
-
-    /// Demand 3 and Paper 9 on marks that a run has left.
-    fn nothing_lost(&mut self, board: &Board, kept: &Kept, marks: &[u8], sheet: &[u8], lines: u64) -> Checked {
-        kept.hold(board, marks, lines, &mut self.coverage).map_err(|(what, text)| {
-            let lent = Lent::new(board, marks);
-            let call = hex_call(lent.n, &lent.table, marks);
-            self.difference(what, format!("{text}{call}sheet {}\n", hex(sheet)))
-        })
+        self.listing(rng, run, &run.marks)?;
+        self.listing(rng, run, &run.marks)?;
+        self.tour(rng, run, &run.marks)
     }
 
     /// *Measure*: the answer and every place of the table, also on refusals.
@@ -188,59 +130,6 @@ impl<'a> Comparison<'a> {
         let other = self.other.fresh_marks(n, &mut other_marks);
         self.coverage.number(Operation::FreshMarks, answer);
         self.same("fresh marks", (answer, marks), (other, other_marks), || format!("n {n} marks {}\n", hex(&before)))
-    }
-
-    /// *List pairs* with lists that are too short, just right and too long.
-    fn listing(&mut self, rng: &mut Rng, run: &Run) -> Checked {
-        let mut lent = Lent::new(&run.board, &run.marks);
-        if rng.chance(12) {
-            spoil::call(rng, &mut lent);
-        }
-        let abc = spoil::three_points(rng, run.board.n);
-        let mut room = vec![0; 4 * run.board.table.len()];
-        let pairs = self.one.list_pairs(lent.n, &lent.table, &lent.marks, abc, &mut room) / 65_536;
-        let size = spoil::list_size(rng, 2 * pairs as usize);
-        let bytes = 2 * size + usize::from(rng.chance(20));
-        let mut list: Vec<u8> = (0..bytes).map(|_| rng.word() as u8).collect();
-        let (before, mut other_list) = (list.clone(), list.clone());
-        let answer = self.one.list_pairs(lent.n, &lent.table, &lent.marks, abc, &mut list);
-        let other = self.other.list_pairs(lent.n, &lent.table, &lent.marks, abc, &mut other_list);
-        self.count_listing(answer, size);
-        self.same("list pairs", (answer, list), (other, other_list), || {
-            let call = hex_call(lent.n, &lent.table, &lent.marks);
-            format!("{call}a, b, c {abc:?}\nlist {}\n", hex(&before))
-        })
-    }
-
-    fn count_listing(&mut self, answer: u64, size: usize) {
-        self.coverage.number(Operation::ListPairs, answer % 65_536);
-        if answer % 65_536 == 0 {
-            let pairs = answer / 65_536;
-            self.coverage.event(if pairs == 0 { Event::NoPairs } else { Event::SomePairs }, 1);
-            self.coverage.event(Event::PlacesPast, u64::from(size as u64 > 2 * pairs));
-        }
-    }
-
-    /// *Check a tour*.
-    fn tour(&mut self, rng: &mut Rng, run: &Run) -> Checked {
-        let mut lent = Lent::new(&run.board, &run.marks);
-        if rng.chance(20) {
-            lent.marks.iter_mut().for_each(|mark| *mark = 1);
-        }
-        if rng.chance(20) {
-            spoil::call(rng, &mut lent);
-        }
-        let tour = spoil::tour(rng, run.board.n);
-        let answer = self.one.check_tour(lent.n, &lent.table, &lent.marks, &tour);
-        let other = self.other.check_tour(lent.n, &lent.table, &lent.marks, &tour);
-        self.coverage.number(Operation::CheckTour, answer % 256);
-        if answer % 256 == 0 {
-            self.coverage.event(if answer % 65_536 == 256 { Event::TourOpen } else { Event::TourStruck }, 1);
-        }
-        self.same("check a tour", answer, other, || {
-            let call = hex_call(lent.n, &lent.table, &lent.marks);
-            format!("{call}tour {}\n", hex(&tour))
-        })
     }
 
     /// What `mark` prints for a file with this sheet.
@@ -298,48 +187,6 @@ impl<'a> Comparison<'a> {
 
     fn difference(&self, what: &str, text: String) -> Difference {
         Difference(format!("{what} differs: --seed {} --case {}\n{text}", self.seed, self.case))
-    }
-}
-
-/// What *mark a sheet* leaves, printed by its parts.
-#[derive(PartialEq)]
-struct Shown<'a> {
-    answer: u64,
-    marks: &'a [u8],
-}
-
-impl Debug for Shown<'_> {
-    fn fmt(&self, f: &mut fmt::Formatter) -> fmt::Result {
-        let (number, record, lines) = (self.answer % 256, self.answer / 256 % 65_536, self.answer / 16_777_216);
-        write!(f, "number {number} record {record} lines {lines} marks {}", hex(self.marks))
-    }
-}
-
-/// An instance with its marks as they stand.
-struct Run {
-    board: Board,
-    marks: Vec<u8>,
-    /// What they have to keep, if they come from fresh marks.
-    kept: Option<Kept>,
-}
-
-impl Run {
-    fn new(board: Board, rng: &mut Rng) -> Run {
-        let fresh = rng.chance(70);
-        let marks = if fresh { vec![1; board.table.len()] } else { starting_marks(rng, &board) };
-        let kept = fresh.then(|| Kept::new(rng, &board));
-        Run { board, marks, kept }
-    }
-}
-
-/// Marks of an instance that is well on its way.
-fn starting_marks(rng: &mut Rng, board: &Board) -> Vec<u8> {
-    if rng.chance(50) {
-        let near = rng.between(2, 8);
-        boards::near_marks(board, near)
-    } else {
-        let open = rng.pick(&[10, 50, 80, 95]);
-        boards::random_marks(rng, board.n, open)
     }
 }
 
