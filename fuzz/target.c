@@ -26,7 +26,7 @@ static uint8_t *guarded(void)
     return at + MOST;
 }
 
-static uint8_t *table_end, *marks_end, *sheet_end, *tour_end, *list_end, *measured_end;
+static uint8_t *table_end, *marks_end, *sheet_end, *tour_end, *list_end, *measured_end, *asked_end, *settled_end, *other_list_end;
 
 static uint32_t get32(const uint8_t *at) { return at[0] | (uint32_t)at[1] << 8 | (uint32_t)at[2] << 16 | (uint32_t)at[3] << 24; }
 
@@ -52,17 +52,17 @@ static uint32_t length(const uint8_t *coordinates, uint32_t a, uint32_t b)
     return (uint32_t)((x * 31 + y * 17) % 2000003);
 }
 
-static unsigned struck(const uint8_t *marks, size_t edges)
+static unsigned count(const uint8_t *marks, size_t edges, uint8_t mark)
 {
     unsigned count = 0;
-    for (size_t i = 0; i < edges; i++) count += marks[i] == REVOSTI_STRUCK;
+    for (size_t i = 0; i < edges; i++) count += marks[i] == mark;
     return count;
 }
 
-/* Marks that marking alone left of fresh ones: two open edges at every point, and n in all. */
+/* Marks that marking or asking left of fresh ones: two open edges at every point, and n in all. */
 static void enough_open(uint32_t n, const uint8_t *marks, size_t edges)
 {
-    promise(edges - struck(marks, edges) >= n, "n edges are open");
+    promise(count(marks, edges, REVOSTI_OPEN) >= n, "n edges are open");
     for (uint32_t a = 1; a <= n; a++) {
         unsigned open = 0;
         for (uint32_t b = 1; b <= n; b++) open += b != a && marks[revosti_place(n, a, b)] == REVOSTI_OPEN;
@@ -131,6 +131,95 @@ static void try_measure(uint32_t n, uint32_t rule, const uint8_t *coordinates, s
     seen(5, (unsigned)answer, answer == 0 ? number : 0);
 }
 
+/* What confirming and withdrawing answer: 1, 6, 21, or 0. */
+static uint64_t settling(uint32_t n, const uint8_t *marks, size_t edges)
+{
+    if (n < REVOSTI_LEAST_POINTS || n > REVOSTI_MOST_POINTS) return REVOSTI_POINTS;
+    if (edges != revosti_edges(n)) return REVOSTI_MARKS;
+    for (size_t i = 0; i < edges; i++)
+        if (marks[i] > REVOSTI_PENDING) return REVOSTI_MARKS;
+    return count(marks, edges, REVOSTI_PENDING) ? 0 : REVOSTI_NOTHING_PENDING;
+}
+
+/* Confirms or withdraws on a copy, which is left in front of settled_end: pending marks become so, and no others change. */
+static void try_settle(uint32_t n, const uint8_t *marks, size_t edges, uint8_t settled,
+                       uint64_t (*settle)(uint32_t, uint8_t *, size_t))
+{
+    uint8_t *copy = settled_end - edges;
+    memcpy(copy, marks, edges);
+    uint64_t number = settling(n, marks, edges);
+    promise(settle(n, copy, edges) == number, "1, 6 and 21, or 0");
+    for (size_t i = 0; i < edges; i++)
+        promise(copy[i] == (number == 0 && marks[i] == REVOSTI_PENDING ? settled : marks[i]), "pending marks become so, and no others change");
+    promise(settle(n, copy, edges) == (number ? number : REVOSTI_NOTHING_PENDING), "nothing is pending any more");
+    if (edges) promise(settle(n, copy + 1, edges - 1) == settling(n, copy + 1, edges - 1), "a mark too few");
+    seen(6, (unsigned)number, settled);
+}
+
+/* The list counts pending edges as open: over marks that were asked it is as over those from before. */
+static void try_same_list(uint32_t n, const uint8_t *table, const uint8_t *before, const uint8_t *asked, size_t edges,
+                          uint16_t a, uint16_t b, uint16_t c)
+{
+    size_t len = 4 * edges;
+    uint8_t *list = list_end - len, *other = other_list_end - len;
+    memset(list, 0xa5, len), memset(other, 0xa5, len);
+    uint64_t answer = revosti_list_pairs(n, table, len, asked, edges, a, b, c, list, len);
+    promise(answer == revosti_list_pairs(n, table, len, before, edges, a, b, c, other, len), "pending edges are listed as open ones");
+    promise(memcmp(list, other, len) == 0, "pairs with pending edges stand");
+    seen(7, revosti_refusal(answer), (unsigned)revosti_pairs(answer));
+}
+
+/* The same for a tour of the points at order. */
+static void try_same_tour(uint32_t n, const uint8_t *table, const uint8_t *before, const uint8_t *asked, size_t edges,
+                          const uint16_t *order)
+{
+    uint8_t *tour = tour_end - 2 * n;
+    for (uint32_t i = 0; i < n; i++) tour[2 * i] = (uint8_t)order[i], tour[2 * i + 1] = 0;
+    uint64_t answer = revosti_check_tour(n, table, 4 * edges, asked, edges, tour, 2 * n);
+    promise(answer == revosti_check_tour(n, table, 4 * edges, before, edges, tour, 2 * n), "pending edges of a tour are open");
+    seen(8, revosti_refusal(answer), (unsigned)revosti_tour_open(answer));
+}
+
+/* Looks at the last pending edge: lists for it, lists with it as a leg, and a tour through it. */
+static void try_looks(uint32_t n, const uint8_t *table, const uint8_t *before, const uint8_t *asked, size_t edges, uint32_t rule)
+{
+    static uint16_t order[REVOSTI_MOST_POINTS];
+    uint16_t a = 1, b = 2, points = 2;
+    for (uint16_t i = 1; i < n; i++)
+        for (uint16_t j = (uint16_t)(i + 1); j <= n; j++)
+            if (asked[revosti_place(n, i, j)] == REVOSTI_PENDING) a = i, b = j;
+    order[0] = a, order[1] = b;
+    for (uint16_t i = 1; i <= n; i++)
+        if (i != a && i != b) order[points++] = i;
+    try_same_list(n, table, before, asked, edges, a, b, (uint16_t)((rule >> 24) % n + 1));
+    try_same_list(n, table, before, asked, edges, order[2], order[3], a);
+    try_same_tour(n, table, before, asked, edges, order);
+}
+
+/* Asks what was marked, from the marks before it: the same answer, the strikes pending; then confirms and withdraws. */
+static void try_ask(uint32_t n, const uint8_t *table, size_t table_len, const uint8_t *before, const uint8_t *marked, size_t edges,
+                    const uint8_t *sheet, size_t sheet_len, uint64_t answer)
+{
+    uint8_t *asked = asked_end - edges;
+    memcpy(asked, before, edges);
+    promise(revosti_ask_sheet(n, table, table_len, asked, edges, sheet, sheet_len) == answer, "asking answers as marking");
+    for (size_t i = 0; i < edges; i++)
+        promise(asked[i] == (marked[i] == before[i] ? before[i] : REVOSTI_PENDING), "the strikes of an asked sheet are pending");
+    int none = count(before, edges, REVOSTI_PENDING) == 0;
+    try_settle(n, asked, edges, REVOSTI_STRUCK, revosti_confirm);
+    if (none) promise(memcmp(settled_end - edges, marked, edges) == 0, "asked and confirmed is marked");
+    try_settle(n, asked, edges, REVOSTI_OPEN, revosti_withdraw);
+    if (none) promise(memcmp(settled_end - edges, before, edges) == 0, "asked and withdrawn is as before");
+    if (revosti_lines(answer) == 0) return;
+    uint8_t *copy = settled_end - edges;
+    memcpy(copy, asked, edges);
+    answer = revosti_mark_sheet(n, table, table_len, copy, edges, sheet, sheet_len);
+    promise(answer == REVOSTI_SOMETHING_PENDING, "nothing is marked while something is pending");
+    answer = revosti_ask_sheet(n, table, table_len, copy, edges, sheet, 0);
+    promise(answer == REVOSTI_SOMETHING_PENDING, "nor asked, and 20 is before 7");
+    promise(memcmp(copy, asked, edges) == 0, "20 changes no mark");
+}
+
 static void run(const uint8_t *file, size_t size)
 {
     if (size < 8) return;
@@ -161,13 +250,17 @@ static void run(const uint8_t *file, size_t size)
     size_t table_len = 4 * edges - (rule % 7 == 6 && edges ? rule >> 4 & 3 : 0);
     uint64_t answer = revosti_mark_sheet(n, table + (4 * edges - table_len), table_len, marks, edges, sheet, sheet_len);
     unsigned refusal = revosti_refusal(answer), record = revosti_record(answer), lines = revosti_lines(answer);
-    promise(refusal <= REVOSTI_NO_SAVING && answer >> 40 == 0, "the answer's parts");
+    promise((refusal <= REVOSTI_NO_SAVING || refusal == REVOSTI_SOMETHING_PENDING) && answer >> 40 == 0, "the answer's parts");
     promise(record * 16u <= sheet_len, "the record is one of the sheet");
-    promise((record == 0) == (refusal < REVOSTI_INDEX_ABOVE), "a record is named exactly by 8 to 16");
-    promise(lines == struck(marks, edges) - struck(before, edges), "lines accepted are marks changed");
-    if (refusal != 0 && refusal <= REVOSTI_SHEET) promise(memcmp(before, marks, edges) == 0, "a refused call changes no mark");
+    promise((record != 0) == (refusal >= REVOSTI_INDEX_ABOVE && refusal <= REVOSTI_NO_SAVING), "a record is named exactly by 8 to 16");
+    promise(lines == count(marks, edges, REVOSTI_STRUCK) - count(before, edges, REVOSTI_STRUCK), "lines accepted are marks changed");
+    if (refusal != 0 && record == 0) promise(memcmp(before, marks, edges) == 0, "a refused call changes no mark");
+    int pending = count(before, edges, REVOSTI_PENDING) != 0, passed = refusal == 0 || refusal > REVOSTI_MARKS;
+    promise(!passed || pending == (refusal == REVOSTI_SOMETHING_PENDING), "20, past 6, exactly where something is pending");
     for (size_t i = 0; i < edges; i++) promise(marks[i] == before[i] || (before[i] == 1 && marks[i] == 0), "marks only go from open to struck");
-    if (rule % 5 != 4 && lines > 0) enough_open(n, marks, edges);
+    try_ask(n, table + (4 * edges - table_len), table_len, before, marks, edges, sheet, sheet_len, answer);
+    if (lines > 0) try_looks(n, table, before, asked_end - edges, edges, rule);
+    if (rule % 5 != 4 && lines > 0) enough_open(n, marks, edges), enough_open(n, asked_end - edges, edges);
     seen(1, refusal, record < 40 ? record : 40 + record / 64);
     seen(2, lines < 60 ? lines : 60, refusal);
     try_list(n, table + (4 * edges - table_len), table_len, marks, edges, rule);
@@ -177,7 +270,7 @@ static void run(const uint8_t *file, size_t size)
 int main(void)
 {
     table_end = guarded(), marks_end = guarded(), sheet_end = guarded(), tour_end = guarded();
-    list_end = guarded(), measured_end = guarded();
+    list_end = guarded(), measured_end = guarded(), asked_end = guarded(), settled_end = guarded(), other_list_end = guarded();
     __AFL_INIT();
     unsigned char *file = __AFL_FUZZ_TESTCASE_BUF;
     while (__AFL_LOOP(10000)) run(file, (size_t)__AFL_FUZZ_TESTCASE_LEN);
