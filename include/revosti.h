@@ -123,7 +123,8 @@ uint64_t revosti_mark_sheet(uint32_t n, const uint8_t *table, size_t table_len, 
 /*
  * Asks a sheet: as revosti_mark_sheet, with the same refusals in the same order and the same answer on the same marks, but each edge that
  * it strikes gets REVOSTI_PENDING. A call that stops at a record keeps these. Where nothing is pending before, asking and then
- * confirming leave the marks that marking leaves (if no line is accepted, confirming is refused by 21, and they are the same anyway).
+ * confirming leave the marks that marking leaves (if no line is accepted, confirming is refused by 21, and they are the same anyway);
+ * asking and then withdrawing leave the marks as they were.
  */
 uint64_t revosti_ask_sheet(uint32_t n, const uint8_t *table, size_t table_len, uint8_t *marks, size_t marks_len,
                            const uint8_t *sheet, size_t sheet_len);
