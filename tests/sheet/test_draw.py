@@ -62,14 +62,16 @@ class Draw(unittest.TestCase):
     def test_pending_looks_like_nothing_else(self):
         p = picture(SQUARE_POINTS, [(1, 3)], [1, 2, 4, 3], pending=[(2, 4)])
         looks = dict(re.findall(r"^\.(\w+) \{ (stroke: .*) \}$", p.root.find(f"{SVG}style").text, re.M))
-        self.assertEqual(sorted(looks), ["broken", "open", "pending", "struck", "tour"])
+        self.assertEqual(sorted(looks), ["broken", "core", "open", "pending", "struck", "tour"])
         for part in ("stroke: [^;]*", "(stroke-dasharray: .*?;|$)"):
             others = [re.search(part, look)[0] for name, look in looks.items() if name != "pending"]
             self.assertNotIn(re.search(part, looks["pending"])[0], others)
 
     def test_pending_lies_above_the_tour(self):
-        order = list(picture(SQUARE_POINTS, [], [1, 2, 4, 3], pending=[(2, 4)]).groups)
-        self.assertGreater(order.index("pending"), order.index("tour"))
+        p = picture(SQUARE_POINTS, [], [1, 2, 4, 3], pending=[(2, 4), (1, 4)])
+        order = [group for group in p.groups if group in ("tour", "core", "pending")]
+        self.assertEqual(order, ["tour", "core", "pending"])
+        self.assertEqual([p.edges(g) for g in order], [4, 1, 2])
 
     def test_rules(self):
         for rule, name, length in ((2, "CEIL_2D", 50), (3, "ATT", 18), (4, "MAN_2D", 60), (5, "MAX_2D", 40)):

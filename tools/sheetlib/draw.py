@@ -37,8 +37,8 @@ def read_tour(text, n):
 
 
 def draw(parts, marks, tour):
-    """The SVG of a board. A pending leg of the tour counts as open; pending
-    edges lie above the tour, so that such a leg is seen."""
+    """The SVG of a board. A pending leg of the tour counts as open; it is drawn
+    as tour with a light core, and pending edges lie above that."""
     opened, pending, struck = (marked(parts.n, marks, mark) for mark in (OPEN, PENDING, STRUCK))
     legs = [edge(a, b) for a, b in zip(tour, tour[1:] + tour[:1])]
     broken = set(legs) & set(struck)
@@ -48,6 +48,7 @@ def draw(parts, marks, tour):
         edge_group("struck", view, struck),
         edge_group("tour", view, [e for e in legs if e not in broken]),
         edge_group("broken", view, [e for e in legs if e in broken]),
+        edge_group("core", view, sorted(set(legs) & set(pending))),
         edge_group("pending", view, pending),
         hole_group(view), label_group(view, legs),
         legend_group(view, [hole_row(parts), *edge_rows(opened, pending, struck), *tour_rows(parts, legs, broken)]),
@@ -99,6 +100,7 @@ def style(view, opened, pending, struck):
         f"opacity: {faint(pending, 1, 0.3)}; }}",
         f".tour {{ stroke: {BLUE}; stroke-width: 5; }}",
         f".broken {{ stroke: {PURPLE}; stroke-width: 5; stroke-dasharray: 10 8; }}",
+        f".core {{ stroke: {PAPER}; stroke-width: 3; }}",
         f".hole {{ fill: {INK}; stroke: {PAPER}; stroke-width: 1.2; }}",
         "text { font-family: 'DejaVu Sans', Verdana, Arial, sans-serif; }",
         f".label {{ font-size: {view.font}px; fill: {INK}; text-anchor: middle; "
