@@ -1,8 +1,8 @@
 // "Ask a sheet": 01's examples, its lines, and the tests of the call, which are those of "mark a sheet": 1, 2, 5, 6, 20, 7.
 use crate::fixtures;
-use crate::sheet_checks::broken;
-use crate::sheet_checks::hand_in_part;
-use crate::sheet_checks::operation;
+use crate::handing::broken;
+use crate::handing::hand_in_part;
+use crate::handing::operation;
 use answers::data;
 use answers::data::begin;
 use answers::data::put;

@@ -1,11 +1,11 @@
 // "Mark a sheet": accepted arguments, the refusals of a case, 13 to 16, and their order.
 use crate::fixtures;
-use crate::sheet_checks::five;
-use crate::sheet_checks::four;
-use crate::sheet_checks::one;
-use crate::sheet_checks::refused;
-use crate::sheet_checks::struck;
-use crate::sheet_checks::under;
+use crate::handing::five;
+use crate::handing::four;
+use crate::handing::one;
+use crate::handing::refused;
+use crate::handing::struck;
+use crate::handing::under;
 use answers::data::begin;
 use answers::data::lengths_as_bytes;
 use answers::data::put;

@@ -3,6 +3,7 @@
 mod asking;
 mod cases;
 mod fixtures;
+mod handing;
 mod records;
 mod sheet_checks;
 

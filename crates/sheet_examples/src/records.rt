@@ -1,9 +1,9 @@
 // "Mark a sheet": the refusals of an index and of a record, 8 to 12, and their order.
 // On the square nothing stands for 1-3 at 2, (1,4) and (2,4) stand for 1-2 at 3, and nothing stands at 2 once (1,4) is added.
-use crate::sheet_checks::given;
-use crate::sheet_checks::one;
-use crate::sheet_checks::struck;
-use crate::sheet_checks::under;
+use crate::handing::given;
+use crate::handing::one;
+use crate::handing::struck;
+use crate::handing::under;
 use answers::data::begin;
 use answers::data::put;
 use answers::tally::Tally;

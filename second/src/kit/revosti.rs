@@ -71,6 +71,13 @@ impl Revosti {
     }
 }
 
+/// Marking or asking: the two functions have one shape.
+type HandIn = unsafe extern "C" fn(u32, *const u8, usize, *mut u8, usize, *const u8, usize) -> u64;
+
+fn hand_in(function: HandIn, n: u32, table: &[u8], marks: &mut [u8], sheet: &[u8]) -> u64 {
+    unsafe { function(n, table.as_ptr(), table.len(), marks.as_mut_ptr(), marks.len(), sheet.as_ptr(), sheet.len()) }
+}
+
 // Each call lends slices with their own lengths for its duration only.
 impl Checker for Revosti {
     fn name(&self) -> &'static str {
@@ -86,31 +93,11 @@ impl Checker for Revosti {
     }
 
     fn mark_sheet(&self, n: u32, table: &[u8], marks: &mut [u8], sheet: &[u8]) -> u64 {
-        unsafe {
-            revosti_mark_sheet(
-                n,
-                table.as_ptr(),
-                table.len(),
-                marks.as_mut_ptr(),
-                marks.len(),
-                sheet.as_ptr(),
-                sheet.len(),
-            )
-        }
+        hand_in(revosti_mark_sheet, n, table, marks, sheet)
     }
 
     fn ask_sheet(&self, n: u32, table: &[u8], marks: &mut [u8], sheet: &[u8]) -> u64 {
-        unsafe {
-            revosti_ask_sheet(
-                n,
-                table.as_ptr(),
-                table.len(),
-                marks.as_mut_ptr(),
-                marks.len(),
-                sheet.as_ptr(),
-                sheet.len(),
-            )
-        }
+        hand_in(revosti_ask_sheet, n, table, marks, sheet)
     }
 
     fn confirm(&self, n: u32, marks: &mut [u8]) -> u64 {
