@@ -57,19 +57,20 @@ module _ {n at v low high : ℕ} {table rows r : List ℕ} (p : RowPart n table 
 
 -- the points below v
 
--- `from` is the place of xv, plus 1, where x is below v
-pub record Below (n : ℕ) (table rows : List ℕ) (at v : ℕ) (r : List ℕ) (from x : ℕ) : Type 0 where
+-- `from` is the place of xv, plus 1, where x is below v, and `step` is n - x
+pub record Below (n : ℕ) (table rows : List ℕ) (at v : ℕ) (r : List ℕ) (from step x : ℕ) : Type 0 where
   pub part : RowPart n table rows at v 1 x r
   pub low : 1 ≤ x
   pub high : x ≤ v
   pub here : from + tri (n + 1 - x) ≡ tri n + (v - x)
+  pub left : step + x ≡ n
 
-pub below-start : {n at v : ℕ} {table rows : List ℕ} → RowFillable n table rows at v → Below n table rows at v rows (v - 1) 1
+pub below-start : {n at v : ℕ} {table rows : List ℕ} → RowFillable n table rows at v → Below n table rows at v rows (v - 1) (n - 1) 1
 below-start {n} {at} {v} f =
     let e : n + 1 - 1 ≡ n = omega arith in
-    record { part = no-part n _ _ at v 1; low = omega arith; high = f .point .low; here = omega (arith, ap tri e) }
+    record { part = no-part n _ _ at v 1; low = omega arith; high = f .point .low; here = omega (arith, ap tri e); left = omega (arith, f .point) }
 
-module _ {n at v from x : ℕ} {table rows r : List ℕ} (f : RowFillable n table rows at v) (b : Below n table rows at v r from x) (h : x < v) where
+module _ {n at v from step x : ℕ} {table rows r : List ℕ} (f : RowFillable n table rows at v) (b : Below n table rows at v r from step x) (h : x < v) where
   below-edge : IsEdgeUp n x v
   below-edge = record { low = b .low; up = h; high = f .point .high }
 
@@ -82,7 +83,7 @@ module _ {n at v from x : ℕ} {table rows r : List ℕ} (f : RowFillable n tabl
   pub below-room : at + x < length r
   below-room = omega (arith, b .part .size, f .room, f .point)
 
-  pub below-more : {d : ℕ} → d ≡ getD table (from - 1) 0 → Below n table rows at v (set r (at + x) d) (from + (n - x - 1)) (x + 1)
+  pub below-more : {d : ℕ} → d ≡ getD table (from - 1) 0 → Below n table rows at v (set r (at + x) d) (from + (step - 1)) (step - 1) (x + 1)
   below-more is =
       let t : n + 1 - (x + 1) ≡ n - x = omega arith in
       let i : from - 1 ≡ placeUp n x v = omega (arith, below-place) in
@@ -90,11 +91,12 @@ module _ {n at v from x : ℕ} {table rows r : List ℕ} (f : RowFillable n tabl
         part = part-more (b .part) (b .low) below-room (is ∙ ap (λ (j : ℕ). getD table j 0) i ∙ sym (length-up n table x v h) ∙ length-symmetric n table x v);
         low = omega arith;
         high = omega arith;
-        here = omega (arith, b .here, ap tri t, tri-row n x (omega (arith, f .point)), f .point);
+        here = omega (arith, b .here, b .left, ap tri t, tri-row n x (omega (arith, f .point)), f .point);
+        left = omega (arith, b .left, f .point);
       }
 
-pub below-done : {n at v from x : ℕ} {table rows r : List ℕ} → Below n table rows at v r from x → v ≤ x → RowPart n table rows at v 1 v r
-below-done {n} {at} {v} {from} {x} {table} {rows} {r} b h =
+pub below-done : {n at v from step x : ℕ} {table rows r : List ℕ} → Below n table rows at v r from step x → v ≤ x → RowPart n table rows at v 1 v r
+below-done {n} {at} {v} {from} {step} {x} {table} {rows} {r} b h =
     let e : x ≡ v = omega (arith, b .high) in
     rw e at (b .part)
 

@@ -5,7 +5,7 @@ ghost use Prim.Native.Nat.{_+_};
 ghost use Rattle.endian.specs.Bytes.{whole32};
 ghost use Rattle.lengths.specs.asks.Rows.{RowFillable, RowPart, RowFilled, RowsFillable, RowsFilled};
 
-// The lengths from v to the points below it: the place of xv moves on by n - x - 1 as x does by 1.
+// The lengths from v to the points below it: the place of xv moves on by n - x - 1 as x does by 1, and `step` is n - x.
 fn fill_below(n: u16, table: &[u8], v: u16, rows: &mut [u32], at: usize)
     requires { ⌜ RowFillable n (whole32 (now table)) (now rows) at v ⌝ }
     ensures { λ _. ⌜ RowPart n (whole32 (now (table .entry))) (now (rows .entry)) at v 1 v (now (rows .exit)) ⌝ }
@@ -14,10 +14,12 @@ fn fill_below(n: u16, table: &[u8], v: u16, rows: &mut [u32], at: usize)
     let last = v as usize;
     // the place of xv, plus 1
     let mut from = last - 1;
+    let mut step = points - 1;
     let mut x = 1;
     while x < last {
         rows[at + x] = number32(table, from - 1);
-        from += points - x - 1;
+        step -= 1;
+        from += step;
         x += 1;
     }
 }

@@ -9,13 +9,16 @@ use Rattle.lengths.proofs.rows.fill_below.Statement.{statement}
 use Rattle.lengths.proofs.rows.fill_below.Tie as tie
 
 abbrev Inv-loop : tie.InvT-loop
-Inv-loop n table v rows₀ at points last from₀ x₀ rows from x = Below n (whole32 table) rows₀ at v rows from x
+Inv-loop n table v rows₀ at points last from₀ step₀ x₀ rows from step x = Below n (whole32 table) rows₀ at v rows from step x
 
 abbrev μ-loop : tie.MeasureT-loop
-μ-loop n table v rows₀ at points last from₀ x₀ rows from x = v - x
+μ-loop n table v rows₀ at points last from₀ step₀ x₀ rows from step x = v - x
 
 sub-from : tie.Need-sub-from Inv-loop μ-loop
 sub-from c = search needs
+
+sub-step : tie.Need-sub-step Inv-loop μ-loop
+sub-step c = search needs
 
 loop-holds : tie.Need-loop-holds Inv-loop μ-loop
 loop-holds c = below-start (c .before .before .pre)
@@ -35,11 +38,8 @@ mul-rows c = search needs
 slice-write-rows : tie.Need-slice-write-rows Inv-loop μ-loop
 slice-write-rows c = below-room (c .before .before .before .before .before .pre) (c .before .before .loop .inv) (c .before .loop-test .taken)
 
-sub-from-2 : tie.Need-sub-from-2 Inv-loop μ-loop
-sub-from-2 c = search needs
-
-sub-from-3 : tie.Need-sub-from-3 Inv-loop μ-loop
-sub-from-3 c = search needs
+sub-step-2 : tie.Need-sub-step-2 Inv-loop μ-loop
+sub-step-2 c = search needs
 
 add-from : tie.Need-add-from Inv-loop μ-loop
 add-from c = omega (arith, below-inside (c .before .before .before .before .before .pre) (c .before .before .loop .inv) (c .before .loop-test .taken), c .before .before .before .before .before .pre .whole, edges-few _ (c .before .before .before .before .before .pre .few))
@@ -66,14 +66,14 @@ fill-below-spec =
     Inv-loop
     μ-loop
     sub-from
+    sub-step
     loop-holds
     sub-number32
     number32-requires
     add-rows
     mul-rows
     slice-write-rows
-    sub-from-2
-    sub-from-3
+    sub-step-2
     add-from
     add-x
     loop-less
