@@ -68,6 +68,22 @@ module _ {M : Type 0} (𝓜 : Marking M) (Good : List Edge → Type 0) (Kept : M
       let r = sheet-stop 𝓜 s (λ (p : Place M). Kept (p .marks)) (turn-safe s) m k in
       subst (λ (x : Result M). Kept (x .marks)) (sym (r .3)) (r .2)
 
+-- what every strike keeps, a sheet keeps
+pub sheet-keeps : {M : Type 0} (𝓜 : Marking M) (Kept : M → Type 0) → ((m : M) (a b : ℕ) → Kept m → Kept (𝓜 .strike m a b)) → (s : List ℕ) (m : M) → Kept m → Kept (sheet 𝓜 s m .marks)
+unfolding answer start struck
+sheet-keeps {M} 𝓜 Kept strikes-keep s m k =
+    let r = sheet-stop 𝓜 s (λ (p : Place M). Kept (p .marks)) step m k in
+    subst (λ (x : Result M). Kept (x .marks)) (sym (r .3)) (r .2)
+  where
+    step : (p p′ : Place M) → Kept (p .marks) → turn 𝓜 s p ≡ accepted (onward p′) → Kept (p′ .marks)
+    step p p′ k e = by (t .x) (t .place)
+      where
+        t : TurnSays 𝓜 s p (onward p′)
+        t = turned 𝓜 s p (onward p′) e
+
+        by : (x : Struck) → p′ ≡ struck 𝓜 p x → Kept (p′ .marks)
+        by (strikes a b next high) z = subst (λ (q : Place M). Kept (q .marks)) (sym z) (strikes-keep (p .marks) a b k)
+
 -- what every call keeps, a run keeps
 pub run-keeps : {M C : Type 0} (Kept : M → Type 0) (call : C → M → M) → ((c : C) (m : M) → Kept m → Kept (call c m)) → (cs : List C) (m : M) → Kept m → Kept (run call cs m)
 unfolding run
