@@ -64,8 +64,17 @@ pub fn figure(label: &[u8], x: u64) {
     io::print_decimal(1, x);
 }
 
-fn mark(x: u8) {
-    io::print_decimal(1, x as u64);
+// Writes a byte: its four marks, the first in the lowest bits; or, of a byte set, one mark.
+fn byte(packed: bool, x: u8) {
+    let number = x as u64;
+    if packed {
+        figure(b" ", number % 4);
+        io::print_decimal(1, number / 4 % 4);
+        io::print_decimal(1, number / 16 % 4);
+        io::print_decimal(1, number / 64);
+        return;
+    }
+    io::print_decimal(1, number);
 }
 
 fn number(x: u16) {
@@ -76,13 +85,22 @@ fn length(x: u32) {
     figure(b" ", x as u64);
 }
 
-// Writes marks, one figure each.
-pub fn marks(s: &[u8]) {
+fn bytes(packed: bool, s: &[u8]) {
     let mut i = 0;
     while i < s.len() {
-        mark(s[i]);
+        byte(packed, s[i]);
         i += 1;
     }
+}
+
+// Writes the marks of a packed set, unused ones too, one figure each, and a space before each byte.
+pub fn marks(s: &[u8]) {
+    bytes(true, s);
+}
+
+// Writes the marks of a byte set, one figure each.
+pub fn byte_marks(s: &[u8]) {
+    bytes(false, s);
 }
 
 // Writes the numbers of 16 bits that the bytes are, each after a space.
@@ -108,25 +126,31 @@ pub fn lengths(s: &[u8]) {
 // Writes an answer with the marks that are left.
 fn answer(number: u64, left: &[u8]) {
     figure(b" ", number);
-    text(b" marks ");
+    text(b" marks");
     marks(left);
 }
 
 // Holds an answer and the marks that are left to what they should be.
-pub fn hold(t: Tally, got: u64, found: [u8; 7], number: u64, left: [u8; 7]) -> Tally {
-    answer(got, &found);
+pub fn hold_bytes(t: Tally, got: u64, found: &[u8], number: u64, left: &[u8]) -> Tally {
+    answer(got, found);
     text(b", should be");
-    answer(number, &left);
-    let same_marks = same(&found, &left);
+    answer(number, left);
+    let same_marks = same(found, left);
     t.judged(got == number && same_marks)
 }
 
-// Writes what is lent to an operation.
-pub fn given_text(n: u32, entries: u32, first: u32, bytes: usize, mark_1: u8) {
+// The same for the marks of four points and a byte behind them.
+pub fn hold(t: Tally, got: u64, found: [u8; 3], number: u64, left: [u8; 3]) -> Tally {
+    hold_bytes(t, got, &found, number, &left)
+}
+
+// Writes what is lent to an operation, with the first byte of the marks.
+pub fn given_text(n: u32, entries: u32, first: u32, bytes: usize, byte_1: u8) {
     figure(b" ", n as u64);
     figure(b" points, ", entries as u64);
     figure(b" lengths from ", first as u64);
     figure(b", ", bytes as u64);
-    figure(b" marks from ", mark_1 as u64);
+    text(b" bytes of marks from");
+    byte(true, byte_1);
     text(b",");
 }

@@ -1,32 +1,29 @@
 -- Asking against marking (02, Paper 3): the verdict and the lines are the same, and confirming behind asking leaves the marks of marking. The two
 -- walk through the same lines with marks that correspond: those of marking are those of asking, confirmed. Withdrawing behind asking leaves the marks as
 -- they were. Assumes nothing.
-use Prim.Native.Nat.{ℕ, _+_, _*_}
-use mathlib.Core.Path.{_≡_, refl, sym, _∙_, ap, ap₂, fun-ext}
+use Prim.Native.Nat.{ℕ}
+use mathlib.Core.Path.{_≡_, refl, sym, _∙_, ap, fun-ext}
 use mathlib.Core.Bool.{Bool, true, false}
 use mathlib.Core.List.{List}
+use native.Mathlib.Omega.{arith}
 use lib.ListN.{length}
 use lib.Seq.{set-getD}
 use Rattle.lengths.specs.Edge.{edgeCount, place}
-use Rattle.lengths.specs.Instance.{inRange}
 use Rattle.lists.specs.Test.{unless}
 use Rattle.marks.specs.Mark.{markAt, setMark, struckMark, openMark, pendingMark, areMarks, nonePending, opens, openUpTo, openIn, markIn}
 use Rattle.marks.specs.Pending.{settledAnswer, settledMark, settledMarks, settledLeft}
-use Rattle.marks.proofs.Marks.{mark-size, open-mark}
-use Rattle.marks.proofs.PendingMarks.{settled-at, confirmed-open, settled-set, marks-set, settled-none, left-none, left-settled}
-use Rattle.argument.specs.Maps.{Corresponds, SameResult}
-use Rattle.argument.specs.Rules.{Rules}
+use Rattle.marks.proofs.Marks.{mark-size, marks-set, open-mark}
+use Rattle.marks.proofs.PendingMarks.{settled-at, confirmed-open, settled-set, settled-none, left-none, left-settled}
+use Rattle.argument.specs.Maps.{Corresponds}
 use Rattle.argument.specs.Sheet.{Result, sheet}
 use Rattle.argument.proofs.Maps.{equal-judge, sheet-maps}
 use Rattle.sheets.specs.Rules.{rulesWhere, rulesOf, markingBy}
 use Rattle.sheets.specs.Sheet.{wholeSheet}
-use Rattle.endian.specs.Bytes.{whole16, whole32}
 use Rattle.marking.specs.Mark.{markBy, markTested, turnedDown, markSheet, askSheet}
 use Rattle.marking.specs.Tests.{ready}
 use Rattle.marking.specs.declared.tests.Tested.{Tested}
 use Rattle.marking.specs.declared.tests.Tested.the-variants.{Points, Refused}
 use Rattle.marking.proofs.Tested.{passed, ready-tested}
-use Rattle.revosti.specs.Mark.{resultNumber, verdictNumber, markInC}
 
 -- the marks m of marking are the marks m′ of asking, confirmed; and m′ are marks of n points
 record Same (n : ℕ) (m m′ : List ℕ) : Type 0 where
@@ -53,7 +50,7 @@ module _ (n : ℕ) (table : List ℕ) where
             record {
               confirmed = ap (λ (l : List ℕ). setMark l (place n a b) struckMark) (same .confirmed) ∙ sym (settled-set struckMark m′ (place n a b));
               whole = mark-size m′ (place n a b) pendingMark ∙ same .whole;
-              are = marks-set m′ (place n a b) (same .are);
+              are = marks-set m′ (place n a b) pendingMark (omega arith) (same .are);
             };
       }
 
@@ -130,7 +127,7 @@ module _ (n : ℕ) (table marks : List ℕ) where
               same = ap (λ (l : List ℕ). setMark l (place n a b) pendingMark) (k .same);
               withdrawn = settled-set openMark m′ (place n a b) ∙ again m′ (place n a b) k (open-mark m′ (place n a b) (ap (λ (l : List ℕ). opens openMark (markAt l (place n a b))) (sym (k .same)) ∙ o));
               whole = mark-size m′ (place n a b) pendingMark ∙ k .whole;
-              are = marks-set m′ (place n a b) (k .are);
+              are = marks-set m′ (place n a b) pendingMark (omega arith) (k .are);
             };
       }
     where
@@ -157,17 +154,3 @@ ask-withdraw n table marks s none = tests (ready n table marks) refl
             let r = sheet-maps (markingBy pendingMark p table) (markingBy pendingMark p table) (Back p marks) (backs p table marks) s marks marks start in
             left-settled openMark n _ (q .range) (r .marks .whole ∙ ap edgeCount (q .same)) (r .marks .are) ∙ r .marks .withdrawn
         sized false = left-none openMark n marks none
-
--- the same of the functions for C
-pub ask-verdict-in-C : (n : ℕ) (table marks s : List ℕ) → resultNumber (markInC pendingMark n table marks s) ≡ resultNumber (markInC struckMark n table marks s)
-unfolding resultNumber
-ask-verdict-in-C n table marks s =
-    ap₂ (λ (v l : ℕ). v + 16777216 * l) (ap verdictNumber (ask-verdict n (whole32 table) marks (whole16 s))) (ask-lines n (whole32 table) marks (whole16 s))
-
-pub ask-confirm-in-C : (n : ℕ) (table marks s : List ℕ) → nonePending marks ≡ true →
-    settledLeft (settledAnswer n (markInC pendingMark n table marks s .marks)) struckMark (markInC pendingMark n table marks s .marks) ≡ markInC struckMark n table marks s .marks
-ask-confirm-in-C n table marks s = ask-confirm n (whole32 table) marks (whole16 s)
-
-pub ask-withdraw-in-C : (n : ℕ) (table marks s : List ℕ) → nonePending marks ≡ true →
-    settledLeft (settledAnswer n (markInC pendingMark n table marks s .marks)) openMark (markInC pendingMark n table marks s .marks) ≡ marks
-ask-withdraw-in-C n table marks s = ask-withdraw n (whole32 table) marks (whole16 s)

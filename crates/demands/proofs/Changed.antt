@@ -12,6 +12,7 @@ use lib.ListN.{length}
 use Rattle.lengths.specs.Edge.{edge, IsEdge, edgeCount, place}
 use Rattle.lengths.proofs.Edges.{place-below}
 use Rattle.sets.specs.EdgeSet.{Joins, Has}
+use Rattle.marks.proofs.Marks.{length-marked}
 use Rattle.marks.specs.Mark.{markAt, setMark, openMark, openUpTo, openIn, markIn}
 use Rattle.marks.proofs.Marks.{mark-size, mark-same, mark-other, open-mark}
 use Rattle.tours.proofs.Edges.{joins-dec}
@@ -19,7 +20,7 @@ use Rattle.argument.specs.Line.{Struck, strikes, CompleteAt, CompleteLine}
 use Rattle.argument.specs.Sheet.{Place, Result, struck, start, CompleteLines, Answers}
 use Rattle.sheets.specs.Rules.{rulesOf, markingBy}
 use Rattle.demands.specs.Marked.{struckEdges, differences, Changes}
-use Rattle.demands.proofs.Strikes.{differences-none, differences-set, open-joined, length-marked, marked-same, marked-other}
+use Rattle.demands.proofs.Strikes.{differences-none, differences-set, open-joined, marked-same, marked-other}
 
 -- from `marks` to the marks at p as many have changed as lines were accepted, each from open to the mark `by`
 record Since (by : ℕ) (marks : List ℕ) (p : Place (List ℕ)) : Type 0 where

@@ -1,12 +1,12 @@
 -- DEMAND 3. No run of sheets strikes an edge of a shortest tour.
--- Below it the general form for 3-optimal tours (Paper 9), and beside both the same for runs of the function for C over bytes. Assumes nothing.
+-- Below it the general form for 3-optimal tours (Paper 9). Both are about the marks of the edges; `PackedRuns` says them of packed sets. Assumes nothing.
 use Prim.Native.Nat.{ℕ, suc, _≤_, _<_}
 use mathlib.Core.Path.{_≡_, refl, sym, _∙_, ap, subst}
 use mathlib.Core.Bool.{Bool, true, false}
 use mathlib.Core.Logic.{⊎-elim}
 use mathlib.Core.List.{List, [], _∷_, map}
 use native.Mathlib.Omega.{arith}
-use lib.ListN.{length, replicate}
+use lib.ListN.{length}
 use borrow.Author.Tests.{le-leb}
 use Rattle.lengths.specs.Edge.{edgeCount, place}
 use Rattle.lengths.specs.Instance.{leastPoints, mostPoints, inRange}
@@ -26,7 +26,6 @@ use Rattle.argument.specs.Sheet.{sheet, run}
 use Rattle.argument.proofs.Safe.{sheet-safe, run-keeps}
 use Rattle.sheets.specs.Rules.{markingBy}
 use Rattle.sheets.specs.Sheet.{wholeSheet}
-use Rattle.endian.specs.Bytes.{whole16, whole32}
 use Rattle.marks.specs.Fresh.{freshAnswer, freshMarks, freshLeft}
 use Rattle.marks.proofs.FreshMarks.{fresh-left, fresh-size, fresh-open}
 use Rattle.marking.specs.Mark.{markBy, markTested, turnedDown}
@@ -34,14 +33,14 @@ use Rattle.marking.specs.Tests.{ready}
 use Rattle.marking.proofs.Tested.{passed, ready-tested}
 use Rattle.marking.specs.declared.tests.Tested.{Tested}
 use Rattle.marking.specs.declared.tests.Tested.the-variants.{Points, Refused}
-use Rattle.demands.specs.Run.{Step, marking, asking, confirming, withdrawing, stepped, stepsOf, stepsInC, Call, runOf, runInC}
+use Rattle.demands.specs.Run.{Step, marking, asking, confirming, withdrawing, stepped, stepsOf, Call, runOf}
 use Rattle.demands.proofs.Kept.{Kept, InTour, guarded}
 
 -- n(n - 1)/2 tells n from 1 on
 edge-count-rises : (m n : ℕ) → 1 ≤ m → m < n → edgeCount m < edgeCount n
 edge-count-rises m n h l = omega (arith, edgeCount-tri m, edgeCount-tri n, tri-suc m, tri-mono (suc m) n l)
 
-edge-count-injective : (m n : ℕ) → 1 ≤ m → 1 ≤ n → edgeCount m ≡ edgeCount n → m ≡ n
+pub edge-count-injective : (m n : ℕ) → 1 ≤ m → 1 ≤ n → edgeCount m ≡ edgeCount n → m ≡ n
 edge-count-injective m n h g e =
     ⊎-elim
     (λ l. absurd (omega (arith, edge-count-rises m n h l)))
@@ -90,7 +89,7 @@ module _ {n : ℕ} (table : List ℕ) {t : List ℕ} (some : leastPoints ≤ n) 
   pub fresh-kept : Kept n t (freshMarks n)
   fresh-kept = record { whole = fresh-size n; all-open = λ a b u. fresh-open (tour-edge (best .tour) (omega arith) a b u) }
 
-in-limits : {n : ℕ} → leastPoints ≤ n → n ≤ mostPoints → inRange n ≡ true
+pub in-limits : {n : ℕ} → leastPoints ≤ n → n ≤ mostPoints → inRange n ≡ true
 unfolding inRange
 in-limits {n} some most = rw (inRange, le-leb leastPoints n some, le-leb n mostPoints most)
 
@@ -120,11 +119,11 @@ pub shortest-open :
 shortest-open n some most table whole before sized steps t best = three-optimal-open n some most table whole before sized steps t (shortest-optimal best)
 
 -- a run of *mark a sheet* alone is such a run
-marking-step : Call → Step
+abbrev pub marking-step : Call → Step
 marking-step call = marking (call .n) (call .sheet)
 
 run-steps : (table : List ℕ) (calls : List Call) (m : List ℕ) → runOf table calls m ≡ stepsOf table (map marking-step calls) m
-unfolding run marking-step
+unfolding run
 run-steps table [] m = refl
 run-steps table (call ∷ calls) m = run-steps table calls _
 
@@ -138,49 +137,3 @@ unfolding openUpTo
 demand-3 n some most table whole before sized calls t best a b u =
     ap (λ (m : List ℕ). openIn n m a b) (run-steps table calls (freshLeft (freshAnswer n (length before)) n before))
     ∙ ap (opens openMark) (shortest-open n some most table whole before sized (map marking-step calls) t best a b u)
-
--- a step over bytes is a step over the numbers that they are
-decoded : Step → Step
-decoded (marking n s) = marking n (whole16 s)
-decoded (asking n s) = asking n (whole16 s)
-decoded (confirming n) = confirming n
-decoded (withdrawing n) = withdrawing n
-
-steps-decoded : (table : List ℕ) (steps : List Step) (m : List ℕ) → stepsInC table steps m ≡ stepsOf (whole32 table) (map decoded steps) m
-unfolding run decoded
-steps-decoded table [] m = refl
-steps-decoded table (marking n s ∷ steps) m = steps-decoded table steps _
-steps-decoded table (asking n s ∷ steps) m = steps-decoded table steps _
-steps-decoded table (confirming n ∷ steps) m = steps-decoded table steps _
-steps-decoded table (withdrawing n ∷ steps) m = steps-decoded table steps _
-
--- the same for runs of the functions for C, from n(n - 1)/2 bytes of 1, which a C program writes or `revosti_fresh_marks` leaves: `table` and the
--- sheets are bytes, and the lengths are those that the table's bytes are
-pub three-optimal-open-in-C :
-    (n : ℕ) → leastPoints ≤ n → n ≤ mostPoints → (table : List ℕ) → length (whole32 table) ≡ edgeCount n →
-    (steps : List Step) (t : List ℕ) → ThreeOptimal n (lengthOf n (whole32 table)) t → (a b : ℕ) → Uses t a b →
-    markAt (stepsInC table steps (replicate (edgeCount n) 1)) (place n a b) ≡ openMark
-unfolding freshMarks openUpTo
-three-optimal-open-in-C n some most table whole steps t best a b u =
-    let kept = steps-kept (whole32 table) some whole best (map decoded steps) (freshMarks n) (fresh-kept (whole32 table) some whole best) in
-    ap (λ (m : List ℕ). markAt m (place n a b)) (steps-decoded table steps (freshMarks n)) ∙ open-mark _ (place n a b) (kept .all-open a b u)
-
-pub shortest-open-in-C :
-    (n : ℕ) → leastPoints ≤ n → n ≤ mostPoints → (table : List ℕ) → length (whole32 table) ≡ edgeCount n →
-    (steps : List Step) (t : List ℕ) → Shortest n (lengthOf n (whole32 table)) t → (a b : ℕ) → Uses t a b →
-    markAt (stepsInC table steps (replicate (edgeCount n) 1)) (place n a b) ≡ openMark
-shortest-open-in-C n some most table whole steps t best = three-optimal-open-in-C n some most table whole steps t (shortest-optimal best)
-
-run-steps-in-C : (table : List ℕ) (calls : List Call) (m : List ℕ) → runInC table calls m ≡ stepsInC table (map marking-step calls) m
-unfolding run marking-step
-run-steps-in-C table [] m = refl
-run-steps-in-C table (call ∷ calls) m = run-steps-in-C table calls _
-
-pub demand-3-in-C :
-    (n : ℕ) → leastPoints ≤ n → n ≤ mostPoints → (table : List ℕ) → length (whole32 table) ≡ edgeCount n →
-    (calls : List Call) (t : List ℕ) → Shortest n (lengthOf n (whole32 table)) t → (a b : ℕ) → Uses t a b →
-    openIn n (runInC table calls (replicate (edgeCount n) 1)) a b ≡ true
-unfolding openUpTo
-demand-3-in-C n some most table whole calls t best a b u =
-    ap (λ (m : List ℕ). openIn n m a b) (run-steps-in-C table calls (replicate (edgeCount n) 1))
-    ∙ ap (opens openMark) (shortest-open-in-C n some most table whole (map marking-step calls) t best a b u)

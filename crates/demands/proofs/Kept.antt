@@ -12,6 +12,7 @@ use Rattle.lengths.specs.Instance.{leastPoints}
 use Rattle.lengths.specs.Table.{lengthOf}
 use Rattle.lengths.proofs.Tables.{length-symmetric}
 use Rattle.sets.specs.EdgeSet.{Joins, Has, closedEdges, withPair}
+use Rattle.marks.proofs.Marks.{length-marked}
 use Rattle.marks.specs.Mark.{openIn, markIn}
 use Rattle.rules.specs.Pair.{FeasiblePair}
 use Rattle.tours.specs.Tour.{Uses, ThreeOptimal, Symmetric}
@@ -21,7 +22,7 @@ use Rattle.argument.specs.Safety.{Upheld, Guarded}
 use Rattle.sheets.specs.Rules.{rulesOf, markingBy}
 use Rattle.demands.proofs.Lawful.{lawful}
 use Rattle.demands.proofs.Optimal.{OwnPair, optimal-feasible, optimal-not-closed}
-use Rattle.demands.proofs.Strikes.{length-marked, marked-other}
+use Rattle.demands.proofs.Strikes.{marked-other}
 
 -- the tour uses every edge of K
 abbrev pub InTour : List ℕ → List Edge → Type 0

@@ -1,4 +1,5 @@
 pub mod Asked
+pub mod AskedPacked
 pub mod Changed
 pub mod Demand2
 pub mod Demand3
@@ -7,6 +8,8 @@ pub mod Kept
 pub mod Lawful
 pub mod Listed
 pub mod Measured
+pub mod OnPacked
 pub mod OpenEdges
 pub mod Optimal
+pub mod PackedRuns
 pub mod Strikes

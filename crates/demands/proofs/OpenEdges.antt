@@ -6,7 +6,7 @@ use mathlib.Core.Bool.{true}
 use mathlib.Core.Logic.{inl, inr}
 use mathlib.Core.List.{List, [], _∷_}
 use native.Mathlib.Omega.{arith}
-use lib.ListN.{length, replicate}
+use lib.ListN.{length}
 use Rattle.lengths.specs.Edge.{Point, Edge, edge, IsEdge, edgeCount}
 use Rattle.lengths.specs.Instance.{leastPoints, mostPoints}
 use Rattle.lengths.specs.Table.{lengthOf}
@@ -19,9 +19,8 @@ use Rattle.tours.specs.Tour.{Tour, Uses, total, tourLength}
 use Rattle.tours.proofs.Count.{tour-once, tour-length}
 use Rattle.tours.proofs.Edges.{mark, mark-true, has-total, one, length-one}
 use Rattle.tours.proofs.TourNeighbours.{tour-edge, uses-once, TourNeighbours, tour-neighbours}
-use Rattle.endian.specs.Bytes.{whole32}
-use Rattle.demands.specs.Run.{Step, stepsOf, stepsInC}
-use Rattle.demands.proofs.Demand3.{shortest-open, shortest-open-in-C}
+use Rattle.demands.specs.Run.{Step, stepsOf}
+use Rattle.demands.proofs.Demand3.{shortest-open}
 use Rattle.demands.proofs.Exists.{shortest-exists}
 use Rattle.demands.proofs.Strikes.{struck-count, marked-other}
 
@@ -88,20 +87,3 @@ unfolding openUpTo
 n-open-edges n some most table whole before sized steps =
     let s = shortest-exists n (lengthOf n table) in
     tour-count some (s .1 .tour) _ (λ a b u. ap (opens openMark) (shortest-open n some most table whole before sized steps (s .0) (s .1) a b u))
-
--- both for runs of the functions for C
-pub two-open-edges-in-C :
-    (n : ℕ) → leastPoints ≤ n → n ≤ mostPoints → (table : List ℕ) → length (whole32 table) ≡ edgeCount n →
-    (steps : List Step) (v : ℕ) → Point n v → 2 ≤ openDegree n (stepsInC table steps (replicate (edgeCount n) 1)) v
-unfolding openUpTo
-two-open-edges-in-C n some most table whole steps =
-    let s = shortest-exists n (lengthOf n (whole32 table)) in
-    tour-degree some (s .1 .tour) _ (λ a b u. ap (opens openMark) (shortest-open-in-C n some most table whole steps (s .0) (s .1) a b u))
-
-pub n-open-edges-in-C :
-    (n : ℕ) → leastPoints ≤ n → n ≤ mostPoints → (table : List ℕ) → length (whole32 table) ≡ edgeCount n →
-    (steps : List Step) → n ≤ openCount (stepsInC table steps (replicate (edgeCount n) 1))
-unfolding openUpTo
-n-open-edges-in-C n some most table whole steps =
-    let s = shortest-exists n (lengthOf n (whole32 table)) in
-    tour-count some (s .1 .tour) _ (λ a b u. ap (opens openMark) (shortest-open-in-C n some most table whole steps (s .0) (s .1) a b u))

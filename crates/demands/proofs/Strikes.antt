@@ -13,7 +13,7 @@ use Rattle.lengths.specs.Edge.{edge, IsEdge, edgeCount, place}
 use Rattle.lengths.proofs.Edges.{place-below, place-injective, place-symmetric}
 use Rattle.sets.specs.EdgeSet.{Joins}
 use Rattle.marks.specs.Mark.{markAt, setMark, openMark, struckMark, opens, openAt, openUpTo, openCount, openIn, markIn, strikeIn}
-use Rattle.marks.proofs.Marks.{mark-size, mark-same, mark-other, open-one, open-mark}
+use Rattle.marks.proofs.Marks.{mark-same, mark-other, open-one, open-mark}
 use Rattle.demands.specs.Marked.{differences}
 
 -- nothing differs from itself
@@ -44,10 +44,6 @@ place-joined n a b c d (inr e) = rw (sym (e .0), sym (e .1)) (place-symmetric n 
 pub open-joined : (n : ℕ) (marks : List ℕ) (a b c d : ℕ) → Joins (edge a b) c d → openIn n marks c d ≡ openIn n marks a b
 unfolding openUpTo
 open-joined n marks a b c d j = ap (openAt openMark marks) (place-joined n a b c d j)
-
-pub length-marked : (by n : ℕ) (marks : List ℕ) (a b : ℕ) → length (markIn by n marks a b) ≡ length marks
-unfolding markIn
-length-marked by n marks a b = mark-size marks (place n a b) by
 
 -- striking an open edge leaves one open edge less
 pub struck-count : (n : ℕ) (marks : List ℕ) (a b : ℕ) → openIn n marks a b ≡ true → openCount marks ≡ 1 + openCount (strikeIn n marks a b)

@@ -4,9 +4,9 @@ use Prim.Native.Nat.{ℕ}
 use mathlib.Core.List.{List}
 use Rattle.argument.specs.Sheet.{run}
 use Rattle.marks.specs.Mark.{struckMark, openMark, pendingMark}
-use Rattle.marks.specs.Pending.{settledAnswer, settledLeft}
+use Rattle.marks.specs.Pending.{settledAnswer, settledLeft, settledSet}
 use Rattle.revosti.specs.Mark.{markInC}
-use Rattle.marking.specs.Mark.{markSheet, askSheet}
+use Rattle.marking.specs.Mark.{markSheet, askSheet, markPacked, askPacked}
 
 -- "any run of asking, confirming, withdrawing and direct marking"
 pub data Step : Type 0 where
@@ -26,12 +26,22 @@ stepped table (withdrawing n) m = settledLeft (settledAnswer n m) openMark m
 abbrev pub stepsOf : List ℕ → List Step → List ℕ → List ℕ
 stepsOf table = run (stepped table)
 
--- the same over bytes, by the functions for C
+-- the same over packed sets: the set after a step, and after a list of steps
+abbrev pub steppedPacked : List ℕ → Step → List ℕ → List ℕ
+steppedPacked table (marking n sheet) set = markPacked n table set sheet .marks
+steppedPacked table (asking n sheet) set = askPacked n table set sheet .marks
+steppedPacked table (confirming n) set = settledSet struckMark n set
+steppedPacked table (withdrawing n) set = settledSet openMark n set
+
+abbrev pub stepsPacked : List ℕ → List Step → List ℕ → List ℕ
+stepsPacked table = run (steppedPacked table)
+
+-- and with the table and the sheets in bytes, by the functions for C
 abbrev pub steppedInC : List ℕ → Step → List ℕ → List ℕ
-steppedInC table (marking n sheet) m = markInC struckMark n table m sheet .marks
-steppedInC table (asking n sheet) m = markInC pendingMark n table m sheet .marks
-steppedInC table (confirming n) m = settledLeft (settledAnswer n m) struckMark m
-steppedInC table (withdrawing n) m = settledLeft (settledAnswer n m) openMark m
+steppedInC table (marking n sheet) set = markInC struckMark n table set sheet .marks
+steppedInC table (asking n sheet) set = markInC pendingMark n table set sheet .marks
+steppedInC table (confirming n) set = settledSet struckMark n set
+steppedInC table (withdrawing n) set = settledSet openMark n set
 
 abbrev pub stepsInC : List ℕ → List Step → List ℕ → List ℕ
 stepsInC table = run (steppedInC table)
@@ -47,8 +57,11 @@ markedBy table call m = markSheet (call .n) table m (call .sheet) .marks
 abbrev pub runOf : List ℕ → List Call → List ℕ → List ℕ
 runOf table = run (markedBy table)
 
+abbrev pub runPacked : List ℕ → List Call → List ℕ → List ℕ
+runPacked table = run (λ call set. markPacked (call .n) table set (call .sheet) .marks)
+
 abbrev pub markedInC : List ℕ → Call → List ℕ → List ℕ
-markedInC table call m = markInC struckMark (call .n) table m (call .sheet) .marks
+markedInC table call set = markInC struckMark (call .n) table set (call .sheet) .marks
 
 abbrev pub runInC : List ℕ → List Call → List ℕ → List ℕ
 runInC table = run (markedInC table)

@@ -11,6 +11,7 @@ ghost use mathlib.Core.Path.{_≡_};
 ghost use lib.Dec.{eqb, leb};
 ghost use Rattle.endian.specs.Bytes.{whole32};
 ghost use Rattle.lengths.specs.Edge.{edges};
+ghost use Rattle.marks.specs.Packed.{marksOf};
 ghost use Rattle.rules.specs.Pairs.{keep};
 ghost use Rattle.enumeration.specs.Find.{pairsAt};
 ghost use Rattle.enumeration.specs.asks.Find.{ones, barredIn, passesApart?, atEnd?, RowToList, RowFound, RowsToList, RowsFound, EndAsked, FindAsked, Found};
@@ -155,8 +156,8 @@ pub fn find_pairs(
     c: u16,
     found: &mut [u16],
 ) -> u16
-    requires { ⌜ FindAsked n (whole32 (now table)) (now marks) a b c (now found) ⌝ }
-    ensures { λ r. ⌜ Found (pairsAt n (whole32 (now (table .entry))) (now (marks .entry)) a b c) r (now (found .exit)) ⌝ }
+    requires { ⌜ FindAsked n (whole32 (now table)) (marksOf n (now marks)) a b c (now found) ⌝ }
+    ensures { λ r. ⌜ Found (pairsAt n (whole32 (now (table .entry))) (marksOf n (now (marks .entry))) a b c) r (now (found .exit)) ⌝ }
 {
     let k = EdgeSet::single(a, b);
     let split = prepare_single(n, table, marks, k, c);

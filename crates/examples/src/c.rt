@@ -1,5 +1,5 @@
 // The 64-bit numbers that *mark a sheet* and *check a tour* answer for C, on the square, with bytes written
-// out, and bytes that are no whole number of entries.
+// out, and bytes that are no whole number of entries. 85 and 5 are the square's fresh marks; another 85 stands behind them.
 use crate::tour_checks::check;
 use answers::data::begin;
 use answers::data::put;
@@ -28,18 +28,18 @@ fn table_of(high: u8) -> [u8; 40] {
 }
 
 // Writes what is lent.
-fn lent_text(operation: &[u8], n: u32, table: usize, high: u8, bytes: usize, mark_1: u8) {
+fn lent_text(operation: &[u8], n: u32, table: usize, high: u8, bytes: usize, byte_1: u8) {
     text(operation);
     figure(b" points ", n as u64);
     figure(b", table of bytes ", table as u64);
     figure(b" from 10 0 0 ", high as u64);
-    figure(b", marks ", bytes as u64);
-    figure(b" from ", mark_1 as u64);
+    figure(b", marks of bytes ", bytes as u64);
+    figure(b" from ", byte_1 as u64);
 }
 
 // Writes what is lent to *mark a sheet*.
-fn mark_text(n: u32, table: usize, high: u8, bytes: usize, mark_1: u8, sheet: usize) {
-    lent_text(b"C mark,", n, table, high, bytes, mark_1);
+fn mark_text(n: u32, table: usize, high: u8, bytes: usize, byte_1: u8, sheet: usize) {
+    lent_text(b"C mark,", n, table, high, bytes, byte_1);
     figure(b", sheet of bytes ", sheet as u64);
     text(b":");
 }
@@ -51,14 +51,14 @@ fn mark(
     table: usize,
     high: u8,
     bytes: usize,
-    mark_1: u8,
+    byte_1: u8,
     sheet: &[u8],
     number: u64,
-    left: [u8; 7],
+    left: [u8; 3],
 ) -> Tally {
-    mark_text(n, table, high, bytes, mark_1, sheet.len());
+    mark_text(n, table, high, bytes, byte_1, sheet.len());
     let lengths = table_of(high);
-    let mut fresh = [mark_1, 1, 1, 1, 1, 1, 1];
+    let mut fresh = [byte_1, 5, 85];
     let k = some_bytes(table, &lengths);
     let m = some_bytes(bytes, &fresh);
     let got = revosti_mark_sheet(n, &lengths[..k], &mut fresh[..m], sheet);
@@ -66,13 +66,13 @@ fn mark(
 }
 
 // The same on the square with fresh marks.
-fn square_leaves(t: Tally, sheet: &[u8], number: u64, left: [u8; 7]) -> Tally {
-    mark(t, 4, 24, 0, 6, 1, sheet, number, left)
+fn square_leaves(t: Tally, sheet: &[u8], number: u64, left: [u8; 3]) -> Tally {
+    mark(t, 4, 24, 0, 2, 85, sheet, number, left)
 }
 
 // The same, where the sheet is refused at its first line: the marks stay.
 fn refused(t: Tally, sheet: &[u8], number: u64) -> Tally {
-    square_leaves(t, sheet, number, [1, 1, 1, 1, 1, 1, 1])
+    square_leaves(t, sheet, number, [85, 5, 85])
 }
 
 // The same, with so many bytes of a good sheet, where what is lent is refused: the marks stay.
@@ -82,7 +82,7 @@ fn lent(
     table: usize,
     high: u8,
     bytes: usize,
-    mark_1: u8,
+    byte_1: u8,
     sheet: usize,
     number: u64,
 ) -> Tally {
@@ -94,10 +94,10 @@ fn lent(
         table,
         high,
         bytes,
-        mark_1,
+        byte_1,
         &good[..k],
         number,
-        [mark_1, 1, 1, 1, 1, 1, 1],
+        [byte_1, 5, 85],
     )
 }
 
@@ -108,17 +108,17 @@ fn tour(
     table: usize,
     high: u8,
     bytes: usize,
-    mark_1: u8,
+    byte_1: u8,
     size: usize,
     last: u8,
     number: u64,
 ) -> Tally {
-    lent_text(b"C tour,", n, table, high, bytes, mark_1);
+    lent_text(b"C tour,", n, table, high, bytes, byte_1);
     figure(b", tour of bytes ", size as u64);
     figure(b", byte 8 is ", last as u64);
     text(b":");
     let points = [1, 0, 2, 0, 3, 0, 4, last, 0, 0, 0, 0, 0, 0, 0, 0];
-    let fresh = [mark_1, 1, 1, 1, 1, 1, 1];
+    let fresh = [byte_1, 5, 85];
     let got = check(n, table_of(high), table, fresh, bytes, points, size);
     figure(b" ", got);
     figure(b", should be ", number);
@@ -126,7 +126,7 @@ fn tour(
 }
 
 // The first so many bytes of a sheet.
-fn part(t: Tally, sheet: [u8; 112], size: usize, number: u64, left: [u8; 7]) -> Tally {
+fn part(t: Tally, sheet: [u8; 112], size: usize, number: u64, left: [u8; 3]) -> Tally {
     let k = some_bytes(size, &sheet);
     square_leaves(t, &sheet[..k], number, left)
 }
@@ -135,11 +135,11 @@ fn part(t: Tally, sheet: [u8; 112], size: usize, number: u64, left: [u8; 7]) -> 
 fn two_lines(t: Tally) -> Tally {
     let sheet = begin([1, 1, 3, 0, 0, 2, 0, 2]);
     let sheet = put(sheet, 1, [1, 2, 4, 0, 0, 1, 0, 0]);
-    part(t, sheet, 32, 33_554_432, [1, 0, 1, 1, 0, 1, 1])
+    part(t, sheet, 32, 33_554_432, [81, 4, 85])
 }
 
 // A sheet of one record.
-fn one(t: Tally, record: [u16; 8], number: u64, left: [u8; 7]) -> Tally {
+fn one(t: Tally, record: [u16; 8], number: u64, left: [u8; 3]) -> Tally {
     part(t, begin(record), 16, number, left)
 }
 
@@ -148,16 +148,11 @@ fn layout(t: Tally) -> Tally {
     subject(b"mark a sheet for C: refusal + 256 record + 16777216 lines");
     let t = two_lines(t);
     // 9, record 1, one line.
-    let t = one(
-        t,
-        [1, 1, 3, 0, 0, 2, 0, 1],
-        16_777_481,
-        [1, 0, 1, 1, 1, 1, 1],
-    );
+    let t = one(t, [1, 1, 3, 0, 0, 2, 0, 1], 16_777_481, [81, 5, 85]);
     // 14, record 1.
-    let t = one(t, [1, 1, 2, 0, 0, 3, 0, 0], 270, [1, 1, 1, 1, 1, 1, 1]);
+    let t = one(t, [1, 1, 2, 0, 0, 3, 0, 0], 270, [85, 5, 85]);
     // The kind has 1 in its high byte: 10, record 1.
-    one(t, [257, 1, 3, 0, 0, 2, 0, 0], 266, [1, 1, 1, 1, 1, 1, 1])
+    one(t, [257, 1, 3, 0, 0, 2, 0, 0], 266, [85, 5, 85])
 }
 
 // Its bytes written out, record 1 strikes 1-3 and names record 4,000, of kind 0: 10, record 4,000, one line. One record more, or one byte, is 7.
@@ -169,7 +164,7 @@ fn long_sheets(t: Tally) -> Tally {
     sheet[10] = 2;
     sheet[14] = 160;
     sheet[15] = 15;
-    let t = square_leaves(t, &sheet[..64000], 17_801_226, [1, 0, 1, 1, 1, 1, 1]);
+    let t = square_leaves(t, &sheet[..64000], 17_801_226, [81, 5, 85]);
     let t = refused(t, &sheet[..64001], 7);
     refused(t, &sheet, 7)
 }
@@ -177,59 +172,59 @@ fn long_sheets(t: Tally) -> Tally {
 // No whole number of entries, and the other refusals of the call.
 fn sizes(t: Tally) -> Tally {
     subject(b"mark a sheet for C: 1, 2, 5, 6, 20, 7");
-    let t = lent(t, 3, 12, 0, 3, 1, 16, 1);
-    let t = lent(t, 4, 23, 0, 6, 1, 16, 2);
-    let t = lent(t, 4, 25, 0, 6, 1, 16, 2);
-    let t = lent(t, 4, 20, 0, 6, 1, 16, 2);
-    let t = lent(t, 4, 24, 1, 6, 1, 16, 5);
-    let t = lent(t, 4, 24, 0, 5, 1, 16, 6);
-    let t = lent(t, 4, 24, 0, 6, 3, 16, 6);
-    let t = lent(t, 4, 24, 0, 6, 2, 16, 20);
-    let t = lent(t, 4, 24, 0, 6, 1, 0, 7);
-    let t = lent(t, 4, 24, 0, 6, 1, 14, 7);
-    let t = lent(t, 4, 24, 0, 6, 1, 15, 7);
-    lent(t, 4, 24, 0, 6, 1, 17, 7)
+    let t = lent(t, 3, 12, 0, 1, 21, 16, 1);
+    let t = lent(t, 4, 23, 0, 2, 85, 16, 2);
+    let t = lent(t, 4, 25, 0, 2, 85, 16, 2);
+    let t = lent(t, 4, 20, 0, 2, 85, 16, 2);
+    let t = lent(t, 4, 24, 1, 2, 85, 16, 5);
+    let t = lent(t, 4, 24, 0, 1, 85, 16, 6);
+    let t = lent(t, 4, 24, 0, 2, 87, 16, 6);
+    let t = lent(t, 4, 24, 0, 2, 86, 16, 20);
+    let t = lent(t, 4, 24, 0, 2, 85, 0, 7);
+    let t = lent(t, 4, 24, 0, 2, 85, 14, 7);
+    let t = lent(t, 4, 24, 0, 2, 85, 15, 7);
+    lent(t, 4, 24, 0, 2, 85, 17, 7)
 }
 
 fn order(t: Tally) -> Tally {
     subject(b"mark a sheet for C: 1 before 2, 7; 2 before 5, 6, 7; 5 before 6, 7; 6 before 7");
-    let t = lent(t, 3, 23, 0, 3, 1, 16, 1);
-    let t = lent(t, 3, 12, 0, 3, 1, 15, 1);
-    let t = lent(t, 4, 23, 1, 6, 1, 16, 2);
-    let t = lent(t, 4, 23, 0, 5, 1, 16, 2);
-    let t = lent(t, 4, 23, 0, 6, 1, 15, 2);
-    let t = lent(t, 4, 24, 1, 5, 1, 16, 5);
-    let t = lent(t, 4, 24, 1, 6, 1, 15, 5);
-    lent(t, 4, 24, 0, 5, 1, 15, 6)
+    let t = lent(t, 3, 23, 0, 1, 21, 16, 1);
+    let t = lent(t, 3, 12, 0, 1, 21, 15, 1);
+    let t = lent(t, 4, 23, 1, 2, 85, 16, 2);
+    let t = lent(t, 4, 23, 0, 1, 85, 16, 2);
+    let t = lent(t, 4, 23, 0, 2, 85, 15, 2);
+    let t = lent(t, 4, 24, 1, 1, 85, 16, 5);
+    let t = lent(t, 4, 24, 1, 2, 85, 15, 5);
+    lent(t, 4, 24, 0, 1, 85, 15, 6)
 }
 
 // The layout of a tour's answer, 65,536 times the length and 256 if all edges are open, and its refusals.
 fn tours(t: Tally) -> Tally {
     subject(b"check a tour for C: 65536 length + 256 open; 1, 2, 5, 6, 17");
-    let t = tour(t, 4, 24, 0, 6, 1, 8, 0, 2_621_696);
-    let t = tour(t, 4, 24, 0, 6, 0, 8, 0, 2_621_440);
-    let t = tour(t, 4, 24, 0, 6, 2, 8, 0, 2_621_696);
-    let t = tour(t, 3, 12, 0, 3, 1, 6, 0, 1);
-    let t = tour(t, 4, 23, 0, 6, 1, 8, 0, 2);
-    let t = tour(t, 4, 25, 0, 6, 1, 8, 0, 2);
-    let t = tour(t, 4, 24, 1, 6, 1, 8, 0, 5);
-    let t = tour(t, 4, 24, 0, 5, 1, 8, 0, 6);
-    let t = tour(t, 4, 24, 0, 6, 1, 6, 0, 17);
-    let t = tour(t, 4, 24, 0, 6, 1, 7, 0, 17);
-    let t = tour(t, 4, 24, 0, 6, 1, 9, 0, 17);
-    tour(t, 4, 24, 0, 6, 1, 8, 1, 17)
+    let t = tour(t, 4, 24, 0, 2, 85, 8, 0, 2_621_696);
+    let t = tour(t, 4, 24, 0, 2, 84, 8, 0, 2_621_440);
+    let t = tour(t, 4, 24, 0, 2, 86, 8, 0, 2_621_696);
+    let t = tour(t, 3, 12, 0, 1, 21, 6, 0, 1);
+    let t = tour(t, 4, 23, 0, 2, 85, 8, 0, 2);
+    let t = tour(t, 4, 25, 0, 2, 85, 8, 0, 2);
+    let t = tour(t, 4, 24, 1, 2, 85, 8, 0, 5);
+    let t = tour(t, 4, 24, 0, 1, 85, 8, 0, 6);
+    let t = tour(t, 4, 24, 0, 2, 85, 6, 0, 17);
+    let t = tour(t, 4, 24, 0, 2, 85, 7, 0, 17);
+    let t = tour(t, 4, 24, 0, 2, 85, 9, 0, 17);
+    tour(t, 4, 24, 0, 2, 85, 8, 1, 17)
 }
 
 fn tour_order(t: Tally) -> Tally {
     subject(b"check a tour for C: 1 before 2, 17; 2 before 5, 6, 17; 5 before 6, 17; 6 before 17");
-    let t = tour(t, 3, 23, 0, 3, 1, 6, 0, 1);
-    let t = tour(t, 3, 12, 0, 3, 1, 7, 0, 1);
-    let t = tour(t, 4, 23, 1, 6, 1, 8, 0, 2);
-    let t = tour(t, 4, 23, 0, 5, 1, 8, 0, 2);
-    let t = tour(t, 4, 23, 0, 6, 1, 7, 0, 2);
-    let t = tour(t, 4, 24, 1, 5, 1, 8, 0, 5);
-    let t = tour(t, 4, 24, 1, 6, 1, 7, 0, 5);
-    tour(t, 4, 24, 0, 5, 1, 7, 0, 6)
+    let t = tour(t, 3, 23, 0, 1, 21, 6, 0, 1);
+    let t = tour(t, 3, 12, 0, 1, 21, 7, 0, 1);
+    let t = tour(t, 4, 23, 1, 2, 85, 8, 0, 2);
+    let t = tour(t, 4, 23, 0, 1, 85, 8, 0, 2);
+    let t = tour(t, 4, 23, 0, 2, 85, 7, 0, 2);
+    let t = tour(t, 4, 24, 1, 1, 85, 8, 0, 5);
+    let t = tour(t, 4, 24, 1, 2, 85, 7, 0, 5);
+    tour(t, 4, 24, 0, 1, 85, 7, 0, 6)
 }
 
 pub fn run(t: Tally) -> Tally {

@@ -1,10 +1,12 @@
 // Examples of the operations, executed by their functions for C, for every refusal but those of a sheet's records: a line for each, with what it
 // should be.
 mod c;
+mod converting;
 mod fresh;
 mod measure;
 mod pairs;
 mod pending;
+mod six;
 mod tour_checks;
 
 use answers::tally::Tally;
@@ -16,5 +18,7 @@ fn main() {
     let t = tour_checks::run(t);
     let t = c::run(t);
     let t = pending::run(t);
+    let t = six::run(t);
+    let t = converting::run(t);
     t.print();
 }

@@ -19,10 +19,10 @@ use revosti::pending::revosti_confirm;
 use revosti::pending::revosti_withdraw;
 
 // Fresh marks of four points, and a byte behind them.
-const FRESH: [u8; 7] = [1, 1, 1, 1, 1, 1, 1];
+const FRESH: [u8; 3] = [85, 5, 85];
 
-// The same once the square's two lines are asked; the byte behind is no mark.
-const PENDING: [u8; 7] = [1, 2, 1, 1, 2, 1, 2];
+// The same once the square's two lines are asked: 1-3 and 2-4 are pending. The byte behind is no mark.
+const PENDING: [u8; 3] = [89, 6, 170];
 
 // Confirms, or withdraws.
 fn settle(confirms: bool, n: u32, marks: &mut [u8]) -> u64 {
@@ -34,56 +34,50 @@ fn settle(confirms: bool, n: u32, marks: &mut [u8]) -> u64 {
     revosti_withdraw(n, marks)
 }
 
-// Confirms, or withdraws, with n stated and the first so many of these marks.
+// Confirms, or withdraws, with n stated and the first so many bytes of these marks.
 fn settled(
     t: Tally,
     confirms: bool,
     n: u32,
-    lent: [u8; 7],
+    lent: [u8; 3],
     size: usize,
     number: u64,
-    left: [u8; 7],
+    left: [u8; 3],
 ) -> Tally {
     let mut found = lent;
     let k = some_bytes(size, &found);
     let got = settle(confirms, n, &mut found[..k]);
     figure(b" points ", n as u64);
     figure(b", first ", size as u64);
-    text(b" of marks ");
+    text(b" bytes of marks");
     marks(&lent);
     text(b":");
     hold(t, got, found, number, left)
 }
 
 // The same, where it is refused: the marks stay.
-fn refused(t: Tally, confirms: bool, n: u32, lent: [u8; 7], size: usize, number: u64) -> Tally {
+fn refused(t: Tally, confirms: bool, n: u32, lent: [u8; 3], size: usize, number: u64) -> Tally {
     settled(t, confirms, n, lent, size, number, lent)
 }
 
-// What is pending becomes `to`; each refusal, and their order.
-fn each(t: Tally, confirms: bool, to: u8) -> Tally {
-    let done = [1, to, 1, 1, to, 1, 2];
-    let t = settled(t, confirms, 4, PENDING, 6, 0, done);
-    let t = refused(t, confirms, 4, done, 6, 21);
-    let t = settled(
-        t,
-        confirms,
-        4,
-        [0, 2, 1, 0, 2, 2, 3],
-        6,
-        0,
-        [0, to, 1, 0, to, to, 3],
-    );
-    let t = refused(t, confirms, 3, PENDING, 3, 1);
-    let t = refused(t, confirms, 181, PENDING, 6, 1);
-    let t = refused(t, confirms, 4, PENDING, 5, 6);
-    let t = refused(t, confirms, 4, PENDING, 7, 6);
-    let t = refused(t, confirms, 4, [2, 1, 1, 1, 1, 3, 1], 6, 6);
+// What is pending is settled, of the two edges and of marks 021022; each refusal, and their order.
+fn each(t: Tally, confirms: bool, two: [u8; 3], three: [u8; 3]) -> Tally {
+    let t = settled(t, confirms, 4, PENDING, 2, 0, two);
+    let t = refused(t, confirms, 4, two, 2, 21);
+    let t = settled(t, confirms, 4, [24, 10, 255], 2, 0, three);
+    let t = refused(t, confirms, 3, [25, 6, 170], 1, 1);
+    let t = refused(t, confirms, 181, PENDING, 2, 1);
+    let t = refused(t, confirms, 4, PENDING, 1, 6);
+    let t = refused(t, confirms, 4, PENDING, 3, 6);
+    // The last edge has a mark of 3; an unused bit is set.
+    let t = refused(t, confirms, 4, [86, 13, 85], 2, 6);
+    let t = refused(t, confirms, 4, [86, 21, 85], 2, 6);
     // 1 before 6 and 21; 6 before 21.
-    let t = refused(t, confirms, 3, [2, 3, 1, 1, 1, 1, 1], 6, 1);
-    let t = refused(t, confirms, 3, FRESH, 3, 1);
-    let t = refused(t, confirms, 4, FRESH, 5, 6);
-    refused(t, confirms, 4, [3, 1, 1, 1, 1, 1, 1], 6, 6)
+    let t = refused(t, confirms, 3, [30, 5, 85], 2, 1);
+    let t = refused(t, confirms, 3, [21, 5, 85], 1, 1);
+    let t = refused(t, confirms, 4, FRESH, 1, 6);
+    let t = refused(t, confirms, 4, [87, 5, 85], 2, 6);
+    refused(t, confirms, 4, [85, 21, 85], 2, 6)
 }
 
 // Asks a sheet on the square, then confirms it: the verdict and the marks are those of marking it, and confirming answers this number.
@@ -92,15 +86,15 @@ fn as_marked(t: Tally, sheet: [u8; 112], size: usize, number: u64) -> Tally {
     let table = square(10);
     let k = some_bytes(24, &table);
     let mut marked = FRESH;
-    let verdict = revosti_mark_sheet(4, &table[..k], &mut marked[..6], &sheet[..p]);
+    let verdict = revosti_mark_sheet(4, &table[..k], &mut marked[..2], &sheet[..p]);
     let mut asked = FRESH;
-    let got = revosti_ask_sheet(4, &table[..k], &mut asked[..6], &sheet[..p]);
+    let got = revosti_ask_sheet(4, &table[..k], &mut asked[..2], &sheet[..p]);
     text(b"ask,");
     numbers(&sheet[..p]);
     figure(b": ", got);
     figure(b", should be as marked, ", verdict);
     let t = t.judged(got == verdict);
-    settled(t, true, 4, asked, 6, number, marked)
+    settled(t, true, 4, asked, 2, number, marked)
 }
 
 // Accepted; stopped behind its first line; and stopped there, so that nothing is pending.
@@ -116,8 +110,8 @@ fn sheets(t: Tally) -> Tally {
 fn tour(t: Tally) -> Tally {
     subject(b"check a tour with pending edges: they count as open");
     let points = numbers_as_bytes([1, 3, 2, 4, 0, 0, 0, 0]);
-    let got = check(4, square(10), 24, PENDING, 6, points, 8);
-    figure(b"tour 1 3 2 4, marks 121121: ", got);
+    let got = check(4, square(10), 24, PENDING, 2, points, 8);
+    figure(b"tour 1 3 2 4, marks 1211 2100: ", got);
     figure(b", should be ", 3_145_984);
     t.judged(got == 3_145_984)
 }
@@ -126,7 +120,7 @@ pub fn run(t: Tally) -> Tally {
     let t = sheets(t);
     let t = tour(t);
     subject(b"confirm: 21 the second time, 1, 6; 1 before 6, 21; 6 before 21");
-    let t = each(t, true, 0);
+    let t = each(t, true, [81, 4, 170], [16, 0, 255]);
     subject(b"withdraw: 21 the second time, 1, 6; 1 before 6, 21; 6 before 21");
-    each(t, false, 1)
+    each(t, false, [85, 5, 170], [20, 5, 255])
 }

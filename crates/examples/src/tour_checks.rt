@@ -36,7 +36,7 @@ pub fn check(
     n: u32,
     lengths: [u8; 40],
     table: usize,
-    marks: [u8; 7],
+    marks: [u8; 3],
     bytes: usize,
     tour: [u8; 16],
     size: usize,
@@ -65,15 +65,15 @@ fn closed(points: [u16; 4]) -> [u8; 16] {
     numbers_as_bytes(numbers)
 }
 
-// Checks a tour: the first so many of the points and the first again, with the first so many of the square's lengths and marks, the first of
-// each changed.
+// Checks a tour: the first so many of the points and the first again, with the first so many of the square's lengths and of the bytes
+// of its marks, the first of each changed.
 fn tour(
     t: Tally,
     n: u32,
     entries: u32,
     first: u32,
     bytes: usize,
-    mark_1: u8,
+    byte_1: u8,
     points: [u16; 4],
     size: u32,
     number: u64,
@@ -81,7 +81,7 @@ fn tour(
     open: u64,
 ) -> Tally {
     text(b"tour,");
-    given_text(n, entries, first, bytes, mark_1);
+    given_text(n, entries, first, bytes, byte_1);
     let tour = closed(points);
     let end = 2 * size as usize;
     tour_text(tour, end);
@@ -89,7 +89,7 @@ fn tour(
         n,
         square(first),
         4 * entries as usize,
-        [mark_1, 1, 1, 1, 1, 1, 1],
+        [byte_1, 5, 85],
         bytes,
         tour,
         end,
@@ -98,13 +98,13 @@ fn tour(
 }
 
 // The same, where it is a tour.
-fn checked(t: Tally, first: u32, mark_1: u8, points: [u16; 4], length: u64, open: u64) -> Tally {
-    tour(t, 4, 6, first, 6, mark_1, points, 4, 0, length, open)
+fn checked(t: Tally, first: u32, byte_1: u8, points: [u16; 4], length: u64, open: u64) -> Tally {
+    tour(t, 4, 6, first, 2, byte_1, points, 4, 0, length, open)
 }
 
 // The same, where the points are no tour.
 fn no_tour(t: Tally, points: [u16; 4], size: u32) -> Tally {
-    tour(t, 4, 6, 10, 6, 1, points, size, 17, 0, 0)
+    tour(t, 4, 6, 10, 2, 85, points, size, 17, 0, 0)
 }
 
 // The same, where what is lent is refused, though nothing is wrong with the tour of four points.
@@ -114,10 +114,10 @@ fn lent(
     entries: u32,
     first: u32,
     bytes: usize,
-    mark_1: u8,
+    byte_1: u8,
     number: u64,
 ) -> Tally {
-    tour(t, n, entries, first, bytes, mark_1, ROUND, 4, number, 0, 0)
+    tour(t, n, entries, first, bytes, byte_1, ROUND, 4, number, 0, 0)
 }
 
 // The same with a point twice.
@@ -127,7 +127,7 @@ fn lent_twice(
     entries: u32,
     first: u32,
     bytes: usize,
-    mark_1: u8,
+    byte_1: u8,
     number: u64,
 ) -> Tally {
     tour(
@@ -136,7 +136,7 @@ fn lent_twice(
         entries,
         first,
         bytes,
-        mark_1,
+        byte_1,
         [1, 2, 3, 3],
         4,
         number,
@@ -148,14 +148,14 @@ fn lent_twice(
 // Lengths and marks: the edge from last to first counts.
 fn accepted(t: Tally) -> Tally {
     subject(b"check a tour");
-    let t = checked(t, 10, 1, [1, 2, 3, 4], 40, 1);
-    let t = checked(t, 10, 1, [1, 3, 2, 4], 48, 1);
-    let t = checked(t, 10, 0, [1, 2, 3, 4], 40, 0);
-    let t = checked(t, 10, 0, [2, 3, 4, 1], 40, 0);
-    let t = checked(t, 10, 0, [1, 3, 2, 4], 48, 1);
-    let t = checked(t, 2_000_000, 1, [2, 3, 4, 1], 2_000_030, 1);
+    let t = checked(t, 10, 85, [1, 2, 3, 4], 40, 1);
+    let t = checked(t, 10, 85, [1, 3, 2, 4], 48, 1);
+    let t = checked(t, 10, 84, [1, 2, 3, 4], 40, 0);
+    let t = checked(t, 10, 84, [2, 3, 4, 1], 40, 0);
+    let t = checked(t, 10, 84, [1, 3, 2, 4], 48, 1);
+    let t = checked(t, 2_000_000, 85, [2, 3, 4, 1], 2_000_030, 1);
     // 1-2 is pending, which counts as open.
-    checked(t, 10, 2, [1, 2, 3, 4], 40, 1)
+    checked(t, 10, 86, [1, 2, 3, 4], 40, 1)
 }
 
 fn points(t: Tally) -> Tally {
@@ -171,29 +171,29 @@ fn points(t: Tally) -> Tally {
 
 fn lendings(t: Tally) -> Tally {
     subject(b"check a tour: 1, 2, 5, 6");
-    let t = tour(t, 3, 3, 10, 3, 1, ROUND, 3, 1, 0, 0);
-    let t = lent(t, 181, 6, 10, 6, 1, 1);
-    let t = lent(t, 4, 5, 10, 6, 1, 2);
-    let t = lent(t, 4, 7, 10, 6, 1, 2);
-    let t = lent(t, 4, 6, 2_000_001, 6, 1, 5);
-    let t = lent(t, 4, 6, 10, 5, 1, 6);
-    let t = lent(t, 4, 6, 10, 7, 1, 6);
-    lent(t, 4, 6, 10, 6, 3, 6)
+    let t = tour(t, 3, 3, 10, 1, 21, ROUND, 3, 1, 0, 0);
+    let t = lent(t, 181, 6, 10, 2, 85, 1);
+    let t = lent(t, 4, 5, 10, 2, 85, 2);
+    let t = lent(t, 4, 7, 10, 2, 85, 2);
+    let t = lent(t, 4, 6, 2_000_001, 2, 85, 5);
+    let t = lent(t, 4, 6, 10, 1, 85, 6);
+    let t = lent(t, 4, 6, 10, 3, 85, 6);
+    lent(t, 4, 6, 10, 2, 87, 6)
 }
 
 fn order(t: Tally) -> Tally {
     subject(b"check a tour: 1 before 2, 5, 6, 17; 2 before 5, 6, 17; 5 before 6, 17; 6 before 17");
-    let t = tour(t, 3, 6, 10, 3, 1, ROUND, 3, 1, 0, 0);
-    let t = tour(t, 3, 3, 2_000_001, 3, 1, ROUND, 3, 1, 0, 0);
-    let t = tour(t, 3, 3, 10, 3, 3, ROUND, 3, 1, 0, 0);
-    let t = lent_twice(t, 3, 3, 10, 3, 1, 1);
-    let t = lent(t, 4, 5, 2_000_001, 6, 1, 2);
-    let t = lent(t, 4, 5, 10, 5, 1, 2);
-    let t = lent_twice(t, 4, 5, 10, 6, 1, 2);
-    let t = lent(t, 4, 6, 2_000_001, 5, 1, 5);
-    let t = lent_twice(t, 4, 6, 2_000_001, 6, 1, 5);
-    let t = lent_twice(t, 4, 6, 10, 5, 1, 6);
-    lent_twice(t, 4, 6, 10, 6, 3, 6)
+    let t = tour(t, 3, 6, 10, 1, 21, ROUND, 3, 1, 0, 0);
+    let t = tour(t, 3, 3, 2_000_001, 1, 21, ROUND, 3, 1, 0, 0);
+    let t = tour(t, 3, 3, 10, 1, 23, ROUND, 3, 1, 0, 0);
+    let t = lent_twice(t, 3, 3, 10, 1, 21, 1);
+    let t = lent(t, 4, 5, 2_000_001, 2, 85, 2);
+    let t = lent(t, 4, 5, 10, 1, 85, 2);
+    let t = lent_twice(t, 4, 5, 10, 2, 85, 2);
+    let t = lent(t, 4, 6, 2_000_001, 1, 85, 5);
+    let t = lent_twice(t, 4, 6, 2_000_001, 2, 85, 5);
+    let t = lent_twice(t, 4, 6, 10, 1, 85, 6);
+    lent_twice(t, 4, 6, 10, 2, 87, 6)
 }
 
 pub fn run(t: Tally) -> Tally {

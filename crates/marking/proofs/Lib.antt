@@ -1,5 +1,6 @@
 pub mod ListingAnswers
 pub mod MarkingSheets
+pub mod PackedSheets
 pub mod TestWays
 pub mod Tested
 pub mod TourAnswers

@@ -1,6 +1,6 @@
 -- `listTests`, `listed` and `listLeft` at each way out of `test_listing`, `list_pairs` and `list_into`, from the tests that led there. Assumes nothing.
 use Prim.Native.Nat.{ℕ, _*_, _≤_, _<_}
-use mathlib.Core.Path.{_≡_, refl, sym, _∙_, ap}
+use mathlib.Core.Path.{_≡_, refl, sym, _∙_, ap, subst}
 use mathlib.Core.Bool.{Bool, true, false}
 use mathlib.Core.List.{List, _++_}
 use native.Mathlib.Omega.{arith}
@@ -19,6 +19,7 @@ use Rattle.argument.proofs.Tests.{Fits, fits-means}
 use Rattle.lengths.specs.Instance.{fewEdges, fewPoints, mostEdges}
 use Rattle.enumeration.specs.Find.{pairsAt}
 use Rattle.enumeration.specs.asks.Find.{Found, FindAsked}
+use Rattle.marks.specs.Packed.{marksOf}
 use Rattle.marking.specs.Listing.{listTested, listed, listLeft, placesOf, ListedAs}
 use Rattle.marking.specs.asks.Listing.{askTested, listTests, ListedInto}
 use Rattle.marking.specs.Tests.{tested}
@@ -116,7 +117,7 @@ module _ (n : ℕ) (table marks : List ℕ) (a b c : ℕ) where
       by (tests.Refused j) e = let q : j ≡ k = cc in ap (λ (i : ℕ). Refused i 0) q
       by (tests.Points m) e = refused-at (fits m a b (splits c 0)) (unstruckIn m marks a b) m k _ e
 
-  pub tests-passed : {m : ℕ} → listTests n table marks a b c ≡ tests.Points m → Listable n table marks m a b c
+  tests-passed : {m : ℕ} → listTests n table marks a b c ≡ tests.Points m → Listable n table marks m a b c
   unfolding listTests
   tests-passed {m} h = by (tested n table marks) refl h
     where
@@ -139,7 +140,7 @@ module _ {n : ℕ} {table marks : List ℕ} {a b c : ℕ} {list : List ℕ} wher
 
   module _ {m : ℕ} where
     -- what `list_into` answers is the answer
-    pub listed-as : {answer : Listed} {left : List ℕ} → Listable n table marks m a b c → ListedInto m table marks a b c list answer left → ListedAs n table marks a b c list answer left
+    listed-as : {answer : Listed} {left : List ℕ} → Listable n table marks m a b c → ListedInto m table marks a b c list answer left → ListedAs n table marks a b c list answer left
     listed-as {answer} {left} f r =
         let e : answer ≡ listed n table marks a b c (placesOf list) = r .answered ∙ sym (reached f (placesOf list)) in
         record {
@@ -151,6 +152,18 @@ module _ {n : ℕ} {table marks : List ℕ} {a b c : ℕ} {list : List ℕ} wher
         }
 
 -- the pairs found, two numbers each
+-- over a packed set: the marks are those that it holds for the number of points that the tests answer
+module _ (n : ℕ) (table s : List ℕ) (a b c : ℕ) {m : ℕ} where
+  pub listable-set : listTests n table (marksOf n s) a b c ≡ tests.Points m → Listable n table (marksOf m s) m a b c
+  listable-set h =
+      let l = tests-passed n table (marksOf n s) a b c h in
+      subst (λ (k : List ℕ). Listable n table k m a b c) (sym (ap (λ (k : ℕ). marksOf k s) (l .fitted .passed .same))) l
+
+  pub listed-set : {list : List ℕ} {answer : Listed} {left : List ℕ} → Listable n table (marksOf m s) m a b c → ListedInto m table (marksOf m s) a b c list answer left
+      → ListedAs n table (marksOf n s) a b c list answer left
+  listed-set {list} {answer} {left} l i =
+      subst (λ (k : List ℕ). ListedAs n table k a b c list answer left) (ap (λ (k : ℕ). marksOf k s) (l .fitted .passed .same)) (listed-as l i)
+
 module _ {pairs : List Edge} {count : ℕ} {found : List ℕ} (r : Found pairs count found) where
   pub found-length : 2 * count ≡ length (take (2 * count) found)
   found-length = sym (length-take-le (2 * count) found (r .room))

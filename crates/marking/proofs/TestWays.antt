@@ -3,15 +3,21 @@ use Prim.Native.Nat.{ℕ}
 use mathlib.Core.Path.{_≡_, refl, sym, _∙_, ap}
 use mathlib.Core.Bool.{Bool, true, false}
 use mathlib.Core.List.{List}
+use native.Mathlib.Omega.{arith}
 use lib.ListN.{length}
 use borrow.Author.Tests.{eq-eqb, ne-eqb}
-use Rattle.marks.specs.Mark.{areMarks, nonePending}
+use Rattle.marks.specs.Mark.{openMark, areMarks, nonePending}
+use Rattle.marks.specs.Packed.{wellPacked, marksOf}
+use Rattle.marks.specs.asks.Packed.{SetWithin}
+use Rattle.marks.proofs.PackedSets.{marks-none, marks-size, whole-well, some-edges, points-edges}
+use Rattle.marks.proofs.Settling.{within-held}
 use Rattle.lengths.specs.Edge.{edgeCount}
 use Rattle.lengths.specs.Instance.{inRange, admission, mostLength}
 use Rattle.lists.specs.Test.{allAtMost, unless}
 use Rattle.lengths.specs.declared.instance.Admission.the-variants.{OutOfRange}
 use Rattle.lengths.specs.declared.instance.Instance.{Instance}
 use Rattle.lengths.proofs.Instances.{Admits, out-of-range}
+use Rattle.marking.proofs.Tested.{InstancePassed, passed}
 use Rattle.marking.specs.Tests.{tested, untilPending, ready}
 use Rattle.marking.specs.declared.tests.Tested.{Tested}
 use Rattle.marking.specs.declared.tests.Tested.the-variants.{Points, Refused}
@@ -47,17 +53,6 @@ module _ (n : ℕ) (table marks : List ℕ) where
         )
 
         module _ (marked : length marks ≡ edgeCount (i .points)) where
-          pub refused-mark : areMarks marks ≡ false → Refused 6 ≡ tested n table marks
-          unfolding tested
-          refused-mark h = rw (
-            tested,
-            a .range,
-            eq-eqb (length table) (edgeCount n) (edges-of a whole),
-            small,
-            eq-eqb (length marks) (edgeCount n) (edges-of a marked),
-            h,
-          )
-
           pub passed-tests : areMarks marks ≡ true → Points (i .points) ≡ tested n table marks
           unfolding tested
           passed-tests h = ap Points (a .points) ∙ rw (
@@ -68,6 +63,17 @@ module _ (n : ℕ) (table marks : List ℕ) where
             eq-eqb (length marks) (edgeCount n) (edges-of a marked),
             h,
           )
+
+-- test 6 of a packed set, as facts of the marks that it holds
+module _ {n : ℕ} (s : List ℕ) {i : Instance} (a : Admits n i) {r : Bool} (is : r ≡ wellPacked (i .points) s) where
+  well : wellPacked n s ≡ r
+  well = ap (λ (m : ℕ). wellPacked m s) (sym (a .points)) ∙ sym is
+
+  pub holds-none : r ≡ false → length (marksOf n s) ≡ edgeCount (i .points) → ⊥
+  holds-none f e = omega (arith, e, ap length (marks-none n s (well ∙ f)), points-edges a)
+
+  pub holds-all : r ≡ true → length (marksOf n s) ≡ edgeCount (i .points)
+  holds-all t = marks-size n s (well ∙ t) ∙ ap edgeCount (sym (a .points))
 
 -- a table of a wrong size is refused by 1 or 2, whatever is in it
 pub wrong-size : (n : ℕ) (table marks : List ℕ) → (inRange n ≡ true → length table ≡ edgeCount n → ⊥)
@@ -80,7 +86,11 @@ wrong-size n table marks h = go (inRange n) refl
     go false e = rw (tested, e)
 
 -- 20 behind them: `ready` at each way out of `test_ready`
-module _ (n : ℕ) (table marks : List ℕ) {t : Tested} (e : t ≡ tested n table marks) where
+-- over a packed set, whose test is that of the marks that it holds
+module _ (n : ℕ) (table s : List ℕ) {t : Tested} (e : t ≡ tested n table (marksOf n s)) where
+  abbrev marks : List ℕ
+  marks = marksOf n s
+
   as-ready : {t′ : Tested} → t ≡ t′ → untilPending t′ marks ≡ ready n table marks
   unfolding ready
   as-ready g = ap (λ (r : Tested). untilPending r marks) (sym g ∙ e)
@@ -88,9 +98,15 @@ module _ (n : ℕ) (table marks : List ℕ) {t : Tested} (e : t ≡ tested n tab
   pub ready-refused : {k : ℕ} → t ≡ Refused k → Refused k ≡ ready n table marks
   ready-refused g = as-ready g
 
-  module _ {m : ℕ} (g : t ≡ Points m) where
-    pub ready-pending : nonePending marks ≡ false → Refused 20 ≡ ready n table marks
-    ready-pending h = ap (λ (b : Bool). unless b (Refused 20) (Points m)) (sym h) ∙ as-ready g
+  module _ {m : ℕ} (g : t ≡ Points m) {r : Bool} (w : SetWithin openMark s r) where
+    -- nothing in the set is pending exactly when none of the marks that it holds is
+    tells : r ≡ nonePending marks
+    tells =
+        let p : InstancePassed n table marks m = passed (sym e ∙ g) in
+        w .tested ∙ within-held n s (whole-well n s (p .marked ∙ ap edgeCount (p .same)) (some-edges n (omega (arith, p .same, p .least)))) openMark
 
-    pub ready-passed : nonePending marks ≡ true → Points m ≡ ready n table marks
-    ready-passed h = ap (λ (b : Bool). unless b (Refused 20) (Points m)) (sym h) ∙ as-ready g
+    pub ready-pending : r ≡ false → Refused 20 ≡ ready n table marks
+    ready-pending h = ap (λ (b : Bool). unless b (Refused 20) (Points m)) (sym (sym tells ∙ h)) ∙ as-ready g
+
+    pub ready-passed : r ≡ true → Points m ≡ ready n table marks
+    ready-passed h = ap (λ (b : Bool). unless b (Refused 20) (Points m)) (sym (sym tells ∙ h)) ∙ as-ready g

@@ -1,6 +1,6 @@
 -- What the shared tests say of an instance that they pass: each test is taken off in its order. Assumes nothing.
 use Prim.Native.Nat.{ℕ, _≤_}
-use mathlib.Core.Path.{_≡_, refl, _∙_}
+use mathlib.Core.Path.{_≡_, refl, sym, _∙_, ap, subst}
 use mathlib.Core.Bool.{true}
 use mathlib.Core.List.{List}
 use native.Mathlib.Omega.{arith}
@@ -8,6 +8,7 @@ use lib.Dec.{eqb}
 use lib.ListN.{length}
 use borrow.Author.Tests.{eqb-true}
 use Rattle.marks.specs.Mark.{areMarks, nonePending}
+use Rattle.marks.specs.Packed.{marksOf}
 use Rattle.lists.proofs.Tests.{answered}
 use Rattle.lengths.specs.Edge.{edgeCount}
 use Rattle.lengths.specs.Instance.{inRange, leastPoints, admission, mostLength}
@@ -61,6 +62,13 @@ passed {n} {table} {marks} {m} h =
       marked = rw e (eqb-true (length marks) (edgeCount n) (p4 .0));
       bytes = p5 .0;
     }
+
+-- over a packed set: the marks are those that it holds for the number of points that the tests answer
+pub held-same : (n : ℕ) (table s : List ℕ) {m : ℕ} → tested n table (marksOf n s) ≡ Points m → marksOf m s ≡ marksOf n s
+held-same n table s {m} h = let p : InstancePassed n table (marksOf n s) m = passed h in ap (λ (k : ℕ). marksOf k s) (p .same)
+
+pub passed-set : {n : ℕ} {table : List ℕ} (s : List ℕ) {m : ℕ} → tested n table (marksOf n s) ≡ Points m → InstancePassed n table (marksOf m s) m
+passed-set {n} {table} s {m} h = subst (λ (k : List ℕ). InstancePassed n table k m) (sym (held-same n table s h)) (passed h)
 
 -- 20 is passed: the tests before it are, and nothing is pending
 pub record Ready (n : ℕ) (table marks : List ℕ) (m : ℕ) : Type 0 where

@@ -1,6 +1,6 @@
 -- `tourChecked` at each way out of `check_tour`, and that a tour's length stays below 2 ^ 40: no length is above 2,000,000. Assumes nothing.
 use Prim.Native.Nat.{ℕ, suc, _*_, _≤_}
-use mathlib.Core.Path.{_≡_, refl, ap, ap₂}
+use mathlib.Core.Path.{_≡_, refl, ap, ap₂, subst}
 use mathlib.Core.Bool.{Bool, true, false}
 use mathlib.Core.List.{List, [], _∷_}
 use native.Mathlib.Omega.{arith}
@@ -13,10 +13,12 @@ use Rattle.marks.specs.Mark.{unstruckIn}
 use Rattle.rules.specs.PairTest.{every}
 use Rattle.lengths.proofs.Tables.{length-small}
 use Rattle.tours.specs.Tour.{total, tourLength}
+use Rattle.marks.specs.Packed.{marksOf}
 use Rattle.marking.specs.Tests.{tested}
 use Rattle.marking.specs.Tour.{isTour, tourChecked, CheckedAs}
 use Rattle.marking.specs.asks.Tour.{TourAsked}
 use Rattle.marking.specs.declared.tests.Tested.the-variants as tests
+use Rattle.marking.specs.declared.tour.Checked.{Checked}
 use Rattle.marking.specs.declared.tour.Checked.the-variants.{Tour, Refused}
 use Rattle.marking.proofs.Tested.{InstancePassed}
 use Rattle.marking.proofs.TourLoops.{tour-size}
@@ -73,3 +75,7 @@ module _ {n : ℕ} {table marks t : List ℕ} where
           h .passed .lengths .few,
         );
       }
+
+-- over a packed set: the marks are those that it holds for the number of points that the tests answer
+pub checked-set : {n : ℕ} {table : List ℕ} (s : List ℕ) {m : ℕ} {t : List ℕ} {r : Checked} → InstancePassed n table (marksOf m s) m → CheckedAs n table (marksOf m s) t r → CheckedAs n table (marksOf n s) t r
+checked-set {n} {table} s {t = t} {r = r} p c = subst (λ (k : List ℕ). CheckedAs n table k t r) (ap (λ (k : ℕ). marksOf k s) (p .same)) c

@@ -8,6 +8,7 @@ use Rattle.argument.specs.Sheet.{Result, sheet}
 use Rattle.sheets.specs.Rules.{markingBy}
 use Rattle.sheets.specs.Sheet.{wholeSheet}
 use Rattle.marks.specs.Mark.{struckMark, pendingMark}
+use Rattle.marks.specs.Packed.{marksOf, repacked}
 use Rattle.marking.specs.Tests.{ready}
 use Rattle.marking.specs.declared.tests.Tested.{Tested}
 use Rattle.marking.specs.declared.tests.Tested.the-variants.{Points, Refused}
@@ -31,3 +32,16 @@ markSheet = markBy struckMark
 -- "ask a sheet" (02, Paper 3): "its strikes get mark 2, pending"
 abbrev pub askSheet : ℕ → List ℕ → List ℕ → List ℕ → Result (List ℕ)
 askSheet = markBy pendingMark
+
+-- over a packed set: the marks that it holds are marked, and it holds those that are left
+abbrev pub repack : ℕ → List ℕ → Result (List ℕ) → Result (List ℕ)
+repack n set r = record { marks = repacked n set (r .marks); lines = r .lines; verdict = r .verdict }
+
+unfoldable pub markPackedBy : (by : ℕ) → ℕ → List ℕ → List ℕ → List ℕ → Result (List ℕ)
+markPackedBy by n table set s = repack n set (markBy by n table (marksOf n set) s)
+
+abbrev pub markPacked : ℕ → List ℕ → List ℕ → List ℕ → Result (List ℕ)
+markPacked = markPackedBy struckMark
+
+abbrev pub askPacked : ℕ → List ℕ → List ℕ → List ℕ → Result (List ℕ)
+askPacked = markPackedBy pendingMark

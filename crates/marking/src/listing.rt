@@ -12,6 +12,7 @@ use sheets::walk::points_fit;
 ghost use mathlib.Core.Path.{_≡_};
 ghost use Rattle.endian.specs.Bytes.{whole32};
 ghost use Rattle.enumeration.specs.asks.Find.{FindAsked};
+ghost use Rattle.marks.specs.Packed.{marksOf};
 ghost use Rattle.marking.specs.Listing.{ListedAs};
 ghost use Rattle.marking.specs.asks.Listing.{listTests, ListedInto};
 
@@ -32,8 +33,8 @@ fn list_into(
     found: &mut [u16],
     list: &mut [u8],
 ) -> Listed
-    requires { ⌜ FindAsked n (whole32 (now table)) (now marks) a b c (now found) ⌝ }
-    ensures { λ r. ⌜ ListedInto n (whole32 (now (table .entry))) (now (marks .entry)) a b c (now (list .entry)) r (now (list .exit)) ⌝ }
+    requires { ⌜ FindAsked n (whole32 (now table)) (marksOf n (now marks)) a b c (now found) ⌝ }
+    ensures { λ r. ⌜ ListedInto n (whole32 (now (table .entry))) (marksOf n (now (marks .entry))) a b c (now (list .entry)) r (now (list .exit)) ⌝ }
 {
     let count = find_pairs(n, table, marks, a, b, c, found);
     let size = 2 * count as usize;
@@ -49,7 +50,7 @@ fn list_into(
 
 // Tests 1, 2, 5, 6, 11 and 12, which a pending edge passes: the number of points, or the number of the first refusal.
 fn test_listing(n: u32, table: &[u8], marks: &[u8], a: u16, b: u16, c: u16) -> Tested
-    ensures { λ r. ⌜ r ≡ listTests n (whole32 (now (table .entry))) (now (marks .entry)) a b c ⌝ }
+    ensures { λ r. ⌜ r ≡ listTests n (whole32 (now (table .entry))) (marksOf n (now (marks .entry))) a b c ⌝ }
 {
     let tested = test_instance(n, table, marks);
     let points = match tested {
@@ -77,7 +78,7 @@ pub fn list_pairs(
     c: u16,
     list: &mut [u8],
 ) -> Listed
-    ensures { λ r. ⌜ ListedAs n (whole32 (now (table .entry))) (now (marks .entry)) a b c (now (list .entry)) r (now (list .exit)) ⌝ }
+    ensures { λ r. ⌜ ListedAs n (whole32 (now (table .entry))) (marksOf n (now (marks .entry))) a b c (now (list .entry)) r (now (list .exit)) ⌝ }
 {
     let tested = test_listing(n, table, marks, a, b, c);
     let points = match tested {

@@ -10,14 +10,17 @@ use sheet_lines::line::mark_lines;
 use sheets::sheet::Sheet;
 use sheets::sheet::SheetAdmission;
 use sheets::verdict::Verdict;
+ghost use Prim.Native.Nat.{_≤_};
 ghost use mathlib.Core.Path.{_≡_};
 ghost use Rattle.endian.specs.Bytes.{whole16, whole32};
 ghost use Rattle.argument.specs.Sheet as lines;
+ghost use Rattle.marks.specs.Mark.{pendingMark};
+ghost use Rattle.marks.specs.Packed.{marksOf};
 ghost use Rattle.sheet_lines.specs.asks.Line.{RowsAsked};
 ghost use Rattle.sheets.specs.Verdict.{resultOf};
 ghost use Rattle.sheets.specs.Rules.{markingBy};
-ghost use Rattle.sheets.specs.asks.Walk.{Admitted};
-ghost use Rattle.marking.specs.Mark.{markBy, markSheet, askSheet};
+ghost use Rattle.marking.specs.Mark.{markPackedBy, markPacked, askPacked};
+ghost use Rattle.marking.specs.asks.Mark.{AdmittedBy};
 
 // The numbers in the rows of few points: a place for each point and one for 0, in the row of each point and of 0.
 const FEW_ROWS: usize = Instance::FEW_PLACES * Instance::FEW_PLACES;
@@ -35,8 +38,8 @@ fn mark_by_rows(
     sheet: &[u8],
     count: u16,
 ) -> Verdict
-    requires { ⌜ RowsAsked n (whole32 (now table)) (now rows) (now marks) (whole16 (now sheet)) count ⌝ }
-    ensures { λ r. ⌜ resultOf r (now (marks .exit)) ≡ lines.sheet (markingBy by n (whole32 (now (table .entry)))) (whole16 (now (sheet .entry))) (now (marks .entry)) ⌝ }
+    requires { ⌜ RowsAsked by n (whole32 (now table)) (now rows) (marksOf n (now marks)) (whole16 (now sheet)) count ⌝ }
+    ensures { λ r. ⌜ resultOf r (marksOf n (now (marks .exit))) ≡ lines.sheet (markingBy by n (whole32 (now (table .entry)))) (whole16 (now (sheet .entry))) (marksOf n (now (marks .entry))) ⌝ }
 {
     fill_rows(n, table, rows);
     mark_lines(n, by, table, rows, marks, sheet, count)
@@ -51,8 +54,8 @@ fn mark_admitted(
     sheet: &[u8],
     count: u16,
 ) -> Verdict
-    requires { ⌜ Admitted n (whole32 (now table)) (now marks) (whole16 (now sheet)) count ⌝ }
-    ensures { λ r. ⌜ resultOf r (now (marks .exit)) ≡ lines.sheet (markingBy by n (whole32 (now (table .entry)))) (whole16 (now (sheet .entry))) (now (marks .entry)) ⌝ }
+    requires { ⌜ AdmittedBy by n (whole32 (now table)) (marksOf n (now marks)) (whole16 (now sheet)) count ⌝ }
+    ensures { λ r. ⌜ resultOf r (marksOf n (now (marks .exit))) ≡ lines.sheet (markingBy by n (whole32 (now (table .entry)))) (whole16 (now (sheet .entry))) (marksOf n (now (marks .entry))) ⌝ }
 {
     if n <= Instance::FEW_POINTS {
         let mut rows = [0u32; FEW_ROWS];
@@ -75,7 +78,8 @@ fn turned_down(number: u8) -> Verdict
 
 // A sheet whose accepted lines write the mark `by`: tests 1, 2, 5, 6, 20 and 7, then its lines.
 fn mark_with(by: u8, n: u32, table: &[u8], marks: &mut [u8], sheet: &[u8]) -> Verdict
-    ensures { λ r. ⌜ resultOf r (now (marks .exit)) ≡ markBy by n (whole32 (now (table .entry))) (now (marks .entry)) (whole16 (now (sheet .entry))) ⌝ }
+    requires { ⌜ by ≤ pendingMark ⌝ }
+    ensures { λ r. ⌜ resultOf r (now (marks .exit)) ≡ markPackedBy by n (whole32 (now (table .entry))) (now (marks .entry)) (whole16 (now (sheet .entry))) ⌝ }
 {
     let points = match test_ready(n, table, marks) {
         Tested::Points(points) => points,
@@ -97,14 +101,14 @@ fn mark_with(by: u8, n: u32, table: &[u8], marks: &mut [u8], sheet: &[u8]) -> Ve
 
 // Marks a sheet: an accepted line strikes its edge.
 pub fn mark_sheet(n: u32, table: &[u8], marks: &mut [u8], sheet: &[u8]) -> Verdict
-    ensures { λ r. ⌜ resultOf r (now (marks .exit)) ≡ markSheet n (whole32 (now (table .entry))) (now (marks .entry)) (whole16 (now (sheet .entry))) ⌝ }
+    ensures { λ r. ⌜ resultOf r (now (marks .exit)) ≡ markPacked n (whole32 (now (table .entry))) (now (marks .entry)) (whole16 (now (sheet .entry))) ⌝ }
 {
     mark_with(mark::STRUCK, n, table, marks, sheet)
 }
 
 // Asks a sheet: an accepted line's edge is pending, until it is confirmed or withdrawn.
 pub fn ask_sheet(n: u32, table: &[u8], marks: &mut [u8], sheet: &[u8]) -> Verdict
-    ensures { λ r. ⌜ resultOf r (now (marks .exit)) ≡ askSheet n (whole32 (now (table .entry))) (now (marks .entry)) (whole16 (now (sheet .entry))) ⌝ }
+    ensures { λ r. ⌜ resultOf r (now (marks .exit)) ≡ askPacked n (whole32 (now (table .entry))) (now (marks .entry)) (whole16 (now (sheet .entry))) ⌝ }
 {
     mark_with(mark::PENDING, n, table, marks, sheet)
 }

@@ -6,9 +6,11 @@ use lengths::instance::Instance;
 use lengths::limit::all_at_most;
 use lengths::refusal;
 use marks::mark;
-use marks::mark::marks_within;
+use marks::packed::marks_within;
+use marks::packed::well_packed;
 ghost use mathlib.Core.Path.{_≡_};
 ghost use Rattle.endian.specs.Bytes.{whole32};
+ghost use Rattle.marks.specs.Packed.{marksOf};
 ghost use Rattle.marking.specs.Tests.{tested, ready};
 
 // What the tests answer: the number of points, or the number of the first refusal.
@@ -17,9 +19,9 @@ pub enum Tested {
     Refused(u8),
 }
 
-// Tests 1, 2, 5 and 6: the number of points, the table's size and its entries, the marks' size and their bytes.
+// Tests 1, 2, 5 and 6: the number of points, the table's size and its entries, the packed set of marks.
 pub fn test_instance(n: u32, table: &[u8], marks: &[u8]) -> Tested
-    ensures { λ r. ⌜ r ≡ tested n (whole32 (now (table .entry))) (now (marks .entry)) ⌝ }
+    ensures { λ r. ⌜ r ≡ tested n (whole32 (now (table .entry))) (marksOf n (now (marks .entry))) ⌝ }
 {
     let Admission::Admitted(instance) = Instance::admit(n) else {
         return Tested::Refused(refusal::POINTS);
@@ -32,10 +34,7 @@ pub fn test_instance(n: u32, table: &[u8], marks: &[u8]) -> Tested
     if !all_at_most(table, Instance::MOST_LENGTH) {
         return Tested::Refused(refusal::LENGTH);
     }
-    if marks.len() != edges {
-        return Tested::Refused(refusal::MARKS);
-    }
-    if !marks_within(marks, mark::PENDING) {
+    if !well_packed(points, marks) {
         return Tested::Refused(refusal::MARKS);
     }
     Tested::Points(points)
@@ -43,7 +42,7 @@ pub fn test_instance(n: u32, table: &[u8], marks: &[u8]) -> Tested
 
 // Tests 1, 2, 5, 6 and 20: nothing is pending.
 pub fn test_ready(n: u32, table: &[u8], marks: &[u8]) -> Tested
-    ensures { λ r. ⌜ r ≡ ready n (whole32 (now (table .entry))) (now (marks .entry)) ⌝ }
+    ensures { λ r. ⌜ r ≡ ready n (whole32 (now (table .entry))) (marksOf n (now (marks .entry))) ⌝ }
 {
     let tested = test_instance(n, table, marks);
     let points = match tested {

@@ -16,6 +16,7 @@ ghost use Rattle.lengths.specs.Instance.{mostPoints};
 ghost use Rattle.lengths.specs.Table.{lengthOf};
 ghost use Rattle.sets.specs.EdgeSet.{closedEdges};
 ghost use Rattle.marks.specs.Mark.{unstruckIn};
+ghost use Rattle.marks.specs.Packed.{marksOf};
 ghost use Rattle.rules.specs.PairTest.{every};
 ghost use Rattle.tours.specs.Tour.{tourLength};
 ghost use Rattle.marking.specs.Tour.{isTour, CheckedAs};
@@ -73,8 +74,8 @@ fn length_of(n: u16, table: &[u8], tour: &[u8]) -> u64
 
 // Is every edge of the tour open, last to first included? A pending edge counts as open.
 fn all_open(n: u16, marks: &[u8], tour: &[u8]) -> bool
-    requires { ⌜ TourAsked n (now marks) (whole16 (now tour)) ⌝ }
-    ensures { λ r. ⌜ r ≡ every (unstruckIn n (now (marks .entry))) (closedEdges (whole16 (now (tour .entry)))) ⌝ }
+    requires { ⌜ TourAsked n (marksOf n (now marks)) (whole16 (now tour)) ⌝ }
+    ensures { λ r. ⌜ r ≡ every (unstruckIn n (marksOf n (now (marks .entry)))) (closedEdges (whole16 (now (tour .entry)))) ⌝ }
 {
     let count = n as usize;
     let first = number16(tour, 0);
@@ -93,7 +94,7 @@ fn all_open(n: u16, marks: &[u8], tour: &[u8]) -> bool
 
 // Checks that the numbers are a tour of the n points, and answers its length and whether all its edges are open.
 pub fn check_tour(n: u32, table: &[u8], marks: &[u8], tour: &[u8]) -> Checked
-    ensures { λ r. ⌜ CheckedAs n (whole32 (now (table .entry))) (now (marks .entry)) (whole16 (now (tour .entry))) r ⌝ }
+    ensures { λ r. ⌜ CheckedAs n (whole32 (now (table .entry))) (marksOf n (now (marks .entry))) (whole16 (now (tour .entry))) r ⌝ }
 {
     let tested = test_instance(n, table, marks);
     let points = match tested {

@@ -1,12 +1,11 @@
--- Fresh marks: `freshAnswer` at each way out of `fresh_marks`, and what is left: a 1 for each edge, all open. Assumes nothing.
-use Prim.Native.Nat.{ℕ, _+_, _≤_, _<_}
-use mathlib.Core.Path.{_≡_, refl, sym, _∙_, ap}
+-- Fresh marks: the bytes that `open_all` writes, `freshSetAnswer` at each way out of `fresh_marks`, and what is left: a 1 for each edge, all open. Assumes nothing.
+use Prim.Native.Nat.{ℕ, zero, suc, _+_, _-_, _*_, _/_, _^_, _≤_, _<_}
+use mathlib.Core.Path.{_≡_, refl, sym, _∙_, ap, ap₂}
 use mathlib.Core.Bool.{true}
-use mathlib.Core.List.{List, _++_, append-nil}
+use mathlib.Core.List.{List}
 use native.Mathlib.Omega.{arith}
-use lib.ListN.{length, drop, set, length-set, replicate, getD-replicate, length-replicate}
-use lib.Seq.{drop-length}
-use borrow.Author.Fill.{fill-none, fill-more}
+use native.Mathlib.Decide.{decLt}
+use lib.ListN.{length, replicate, getD-replicate, length-replicate, List·getD-eq-default}
 use borrow.Author.Tests.{eq-eqb, ne-eqb}
 use Rattle.lengths.specs.Edge.{edgeCount, place, IsEdge}
 use Rattle.lengths.specs.Instance.{admission, inRange}
@@ -15,52 +14,70 @@ use Rattle.lengths.specs.declared.instance.Instance.{Instance}
 use Rattle.lengths.proofs.Edges.{place-below}
 use Rattle.lengths.proofs.Instances.{Admits, out-of-range}
 use Rattle.marks.specs.Mark.{markAt, openMark, opens, openUpTo, openIn}
-use Rattle.marks.specs.Fresh.{freshAnswer, freshLeft, freshMarks, FreshAs}
+use Rattle.marks.specs.Packed.{packedBytes, packedSize, byteOf, packed}
+use Rattle.marks.specs.Fresh.{freshAnswer, freshSetAnswer, freshLeft, freshMarks, FreshAs}
+use Rattle.marks.specs.asks.Converting.{fourth, byteAt}
+use Rattle.marks.specs.asks.Fresh.{openOf, openByte}
 use Rattle.marks.specs.declared.fresh.Fresh.the-variants.{Done, Refused}
 
--- the loop: the first i marks are 1, the others as they were
-pub record Opening (marks₀ marks : List ℕ) (i : ℕ) : Type 0 where
-  pub within : i ≤ length marks₀
-  pub kept : length marks ≡ length marks₀
-  pub opened : marks ≡ replicate i 1 ++ drop i marks₀
+-- a byte of open edges, by how many edges are left
 
-pub none-opened : (marks : List ℕ) → Opening marks marks 0
-none-opened marks = record { within = omega arith; kept = refl; opened = fill-none marks 1 }
+pub four-open : (left : ℕ) → 4 ≤ left → 85 ≡ openByte left
+unfolding openByte byteOf
+four-open left h =
+    let at : (j : ℕ) → j < 4 → openOf left j ≡ 1 = λ j g. getD-replicate left j 1 0 (omega arith) in
+    omega (arith, at 0 (omega arith), at 1 (omega arith), at 2 (omega arith), at 3 (omega arith))
 
-module _ {marks₀ marks : List ℕ} {i : ℕ} (o : Opening marks₀ marks i) where
-  pub one-opened : i < length marks → Opening marks₀ (set marks i 1) (i + 1)
-  one-opened h = record {
-    within = omega (arith, o .kept);
-    kept = length-set marks i 1 ∙ o .kept;
-    opened = ap (λ (xs : List ℕ). set xs i 1) (o .opened) ∙ fill-more i 1 marks₀ (omega (arith, o .kept));
-  }
+pub few-open : (left : ℕ) → 0 < left → left < 4 → 85 / 2 ^ (2 * (4 - left)) ≡ openByte left
+unfolding openByte byteOf
+few-open zero h g = absurd (omega arith)
+few-open (suc zero) h g = refl
+few-open (suc (suc zero)) h g = refl
+few-open (suc (suc (suc zero))) h g = refl
+few-open (suc (suc (suc (suc left)))) h g = absurd (omega arith)
 
-  pub all-opened : length marks ≤ i → marks ≡ replicate (length marks₀) 1
-  all-opened h =
-      let all : i ≡ length marks₀ = omega (arith, o .kept, o .within) in
-      let split : marks ≡ replicate (length marks₀) 1 ++ drop (length marks₀) marks₀ = rw all at (o .opened) in
-      split ∙ ap (λ (xs : List ℕ). replicate (length marks₀) 1 ++ xs) (drop-length marks₀) ∙ append-nil (replicate (length marks₀) 1)
+-- the edges from place 4 i on, open
+pub opened-byte : (edges i : ℕ) → 4 * i ≤ edges → openByte (edges - 4 * i) ≡ byteAt (replicate edges openMark) i
+unfolding openByte
+opened-byte edges i h = ap₂ (λ (a b : ℕ). byteOf a b (openOf (edges - 4 * i) 2) (openOf (edges - 4 * i) 3)) (at 0) (at 1) ∙ ap₂ (λ (c d : ℕ). byteOf (fourth (replicate edges openMark) i 0) (fourth (replicate edges openMark) i 1) c d) (at 2) (at 3)
+  where
+    at : (j : ℕ) → openOf (edges - 4 * i) j ≡ fourth (replicate edges openMark) i j
+    at j = elim (decLt j (edges - 4 * i)) [
+      | yes g ↦ getD-replicate (edges - 4 * i) j 1 0 g ∙ sym (getD-replicate edges (4 * i + j) 1 0 (omega arith))
+      | no g ↦
+          List·getD-eq-default (replicate (edges - 4 * i) openMark) 0 {n = j} (omega (arith, length-replicate {A = ℕ} (edges - 4 * i) 1))
+          ∙ sym (List·getD-eq-default (replicate edges openMark) 0 {n = 4 * i + j} (omega (arith, length-replicate {A = ℕ} edges 1)))
+    ]
 
-module _ {n : ℕ} {marks : List ℕ} where
-  refused : {k : ℕ} → freshAnswer n (length marks) ≡ Refused k 0 → FreshAs n marks (Refused k 0) marks
-  refused h = record { answered = sym h; marks-left = rw h }
+-- some edge is left for each byte
+pub some-left : (edges : ℕ) {size i : ℕ} → size ≡ packedBytes edges → i < size → 4 * i < edges
+unfolding packedBytes
+some-left edges room h = omega (arith, room)
 
-  pub refused-fresh-points : admission n ≡ OutOfRange → FreshAs n marks (Refused 1 0) marks
-  unfolding freshAnswer
-  refused-fresh-points h = refused (rw (freshAnswer, out-of-range n h))
+-- and there is room for all of them
+pub open-room : (edges : ℕ) {size : ℕ} → size ≡ packedBytes edges → size ≡ packedBytes (length (replicate edges openMark))
+open-room edges room = room ∙ ap packedBytes (sym (length-replicate {A = ℕ} edges openMark))
+
+-- the ways out of `fresh_marks`
+module _ {n : ℕ} {s : List ℕ} where
+  refused : {k : ℕ} → freshSetAnswer n (length s) ≡ Refused k 0 → FreshAs n s (Refused k 0) s
+  refused h = record { answered = sym h; set-left = rw h }
+
+  pub refused-fresh-points : admission n ≡ OutOfRange → FreshAs n s (Refused 1 0) s
+  unfolding freshSetAnswer
+  refused-fresh-points h = refused (rw (freshSetAnswer, out-of-range n h))
 
   module _ {i : Instance} (a : Admits n i) where
-    pub refused-fresh-size : (length marks ≡ edgeCount (i .points) → ⊥) → FreshAs n marks (Refused 6 0) marks
-    unfolding freshAnswer
+    pub refused-fresh-size : (length s ≡ packedSize (i .points) → ⊥) → FreshAs n s (Refused 6 0) s
+    unfolding freshSetAnswer
     refused-fresh-size h = refused
-        (rw (freshAnswer, a .range, ne-eqb (length marks) (edgeCount n) (λ e. h (e ∙ ap edgeCount (sym (a .points))))))
+        (rw (freshSetAnswer, a .range, ne-eqb (length s) (packedSize n) (λ e. h (e ∙ ap packedSize (sym (a .points))))))
 
-    pub made-fresh : {left : List ℕ} → length marks ≡ edgeCount (i .points) → left ≡ replicate (length marks) 1 → FreshAs n marks Done left
-    unfolding freshAnswer freshMarks
+    pub made-fresh : {left : List ℕ} → length s ≡ packedSize (i .points) → left ≡ packed (replicate (edgeCount (i .points)) openMark) → FreshAs n s Done left
+    unfolding freshSetAnswer freshMarks
     made-fresh {left} h l =
-        let size : length marks ≡ edgeCount n = h ∙ ap edgeCount (a .points) in
-        let answer : freshAnswer n (length marks) ≡ Done = rw (freshAnswer, a .range, eq-eqb (length marks) (edgeCount n) size) in
-        record { answered = sym answer; marks-left = rw (answer, freshMarks) (l ∙ ap (λ (k : ℕ). replicate k 1) size) }
+        let answer : freshSetAnswer n (length s) ≡ Done = rw (freshSetAnswer, a .range, eq-eqb (length s) (packedSize n) (h ∙ ap packedSize (a .points))) in
+        record { answered = sym answer; set-left = rw (answer, freshMarks) (l ∙ ap (λ (m : ℕ). packed (replicate (edgeCount m) openMark)) (a .points)) }
 
 -- what *fresh marks* leaves in a buffer of the right size
 pub fresh-left : (n : ℕ) (marks : List ℕ) → inRange n ≡ true → length marks ≡ edgeCount n → freshLeft (freshAnswer n (length marks)) n marks ≡ freshMarks n

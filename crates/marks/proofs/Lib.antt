@@ -2,4 +2,11 @@ pub mod Degrees
 pub mod FreshMarks
 pub mod Marks
 pub mod OpenCounts
+pub mod PackedBytes
+pub mod PackedExamples
+pub mod PackedMarks
+pub mod PackedSets
+pub mod PackedTests
+pub mod Packing
 pub mod PendingMarks
+pub mod Settling

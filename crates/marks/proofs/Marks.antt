@@ -7,17 +7,22 @@ use mathlib.Core.Logic.{_↔_}
 use mathlib.Core.List.{List, [], _∷_}
 use native.Mathlib.Omega.{arith}
 use lib.Dec.{eqb, leb}
-use lib.ListN.{length, getD, length-set}
+use lib.ListN.{length, getD, set, length-set}
 use lib.Seq.{getD-set-same, getD-set-other}
 use borrow.Author.Tests.{le-leb, lt-leb, leb-true, eqb-true, ne-eqb}
 use Rattle.lists.specs.Test.{allAtMost}
 use Rattle.lists.proofs.Bools.{and-left, and-right, and-both, and-no}
+use Rattle.lengths.specs.Edge.{place}
 use Rattle.lengths.proofs.Limits.{limit-each}
-use Rattle.marks.specs.Mark.{markAt, setMark, struckMark, openMark, pendingMark, areMarks, nonePending, opens, openAt}
+use Rattle.marks.specs.Mark.{markAt, setMark, struckMark, openMark, pendingMark, areMarks, nonePending, opens, openAt, markIn}
 
 pub mark-size : (marks : List ℕ) (i mark : ℕ) → length (setMark marks i mark) ≡ length marks
 unfolding setMark
 mark-size marks i mark = length-set marks i mark
+
+pub length-marked : (mark n : ℕ) (marks : List ℕ) (a b : ℕ) → length (markIn mark n marks a b) ≡ length marks
+unfolding markIn
+length-marked mark n marks a b = mark-size marks (place n a b) mark
 
 pub mark-same : (marks : List ℕ) (i mark : ℕ) → i < length marks → markAt (setMark marks i mark) i ≡ mark
 unfolding markAt setMark
@@ -26,6 +31,14 @@ mark-same marks i mark h = getD-set-same marks i mark 0 h
 pub mark-other : (marks : List ℕ) (i j mark : ℕ) → (i ≡ j → ⊥) → markAt (setMark marks i mark) j ≡ markAt marks j
 unfolding markAt setMark
 mark-other marks i j mark h = getD-set-other marks i j mark 0 (λ e. h (sym e))
+
+-- marks with another mark written are marks
+pub marks-set : (marks : List ℕ) (i mark : ℕ) → mark ≤ pendingMark → areMarks marks ≡ true → areMarks (setMark marks i mark) ≡ true
+unfolding setMark allAtMost
+marks-set [] i mark l h = h
+marks-set (m ∷ marks) zero mark l h = and-both (leb mark pendingMark) (areMarks marks) (le-leb mark pendingMark l) (and-right (leb m pendingMark) (areMarks marks) h)
+marks-set (m ∷ marks) (suc i) mark l h =
+    and-both (leb m pendingMark) (areMarks (set marks i mark)) (and-left (leb m pendingMark) (areMarks marks) h) (marks-set marks i mark l (and-right (leb m pendingMark) (areMarks marks) h))
 
 -- a sheet counts mark 1 as open, and no other
 pub open-one : (m : ℕ) → opens openMark m ≡ eqb m openMark

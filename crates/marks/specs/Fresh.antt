@@ -1,4 +1,4 @@
--- The operation "fresh marks": 1, then 6, the marks have not n(n - 1)/2 bytes. Fresh marks are all 1.
+-- The operation "fresh marks": 1, then 6, the set has not the size of n points' marks. Fresh marks are all 1.
 use Prim.Native.Nat.{ℕ}
 use mathlib.Core.Path.{_≡_}
 use mathlib.Core.List.{List}
@@ -8,12 +8,21 @@ use Rattle.lengths.specs.Edge.{edgeCount}
 use Rattle.lengths.specs.Instance.{inRange}
 use Rattle.lists.specs.Test.{unless}
 use Rattle.marks.specs.Mark.{openMark}
+use Rattle.marks.specs.Packed.{packedSize, packed}
 use Rattle.marks.specs.declared.fresh.Fresh.{Fresh}
 use Rattle.marks.specs.declared.fresh.Fresh.the-variants.{Done, Refused}
 
 -- a refusal names record 0: no record is at fault
+abbrev pub freshSized : ℕ → (size right : ℕ) → Fresh
+freshSized n size right = unless (inRange n) (Refused 1 0) (unless (eqb size right) (Refused 6 0) Done)
+
+-- of a byte set
 unfoldable pub freshAnswer : ℕ → ℕ → Fresh
-freshAnswer n size = unless (inRange n) (Refused 1 0) (unless (eqb size (edgeCount n)) (Refused 6 0) Done)
+freshAnswer n size = freshSized n size (edgeCount n)
+
+-- of a packed set: "for fresh marks, only the size"
+unfoldable pub freshSetAnswer : ℕ → ℕ → Fresh
+freshSetAnswer n size = freshSized n size (packedSize n)
 
 -- "Fresh marks are all 1": an open edge for each edge of n points
 unfoldable pub freshMarks : ℕ → List ℕ
@@ -23,7 +32,11 @@ abbrev pub freshLeft : Fresh → ℕ → List ℕ → List ℕ
 freshLeft Done n marks = freshMarks n
 freshLeft (Refused number rec) n marks = marks
 
--- what `fresh_marks` ensures: its answer, and the marks that it leaves
-pub record FreshAs (n : ℕ) (marks : List ℕ) (answer : Fresh) (left : List ℕ) : Type 0 where
-  pub answered : answer ≡ freshAnswer n (length marks)
-  pub marks-left : left ≡ freshLeft (freshAnswer n (length marks)) n marks
+abbrev pub freshSetLeft : Fresh → ℕ → List ℕ → List ℕ
+freshSetLeft Done n set = packed (freshMarks n)
+freshSetLeft (Refused number rec) n set = set
+
+-- what `fresh_marks` ensures: its answer, and the packed set that it leaves
+pub record FreshAs (n : ℕ) (set : List ℕ) (answer : Fresh) (left : List ℕ) : Type 0 where
+  pub answered : answer ≡ freshSetAnswer n (length set)
+  pub set-left : left ≡ freshSetLeft (freshSetAnswer n (length set)) n set

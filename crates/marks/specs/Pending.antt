@@ -9,6 +9,7 @@ use Rattle.lengths.specs.Edge.{edgeCount}
 use Rattle.lengths.specs.Instance.{inRange}
 use Rattle.lists.specs.Test.{unless}
 use Rattle.marks.specs.Mark.{pendingMark, areMarks, nonePending}
+use Rattle.marks.specs.Packed.{marksOf, repacked}
 use Rattle.marks.specs.declared.pending.Settled.{Settled}
 use Rattle.marks.specs.declared.pending.Settled.the-variants.{Done, Refused}
 
@@ -33,7 +34,14 @@ abbrev pub settledLeft : Settled → (mark : ℕ) → List ℕ → List ℕ
 settledLeft Done mark marks = settledMarks mark marks
 settledLeft (Refused number rec) mark marks = marks
 
--- what `confirm` (with struck) and `withdraw` (with open) ensure: the answer, and the marks that are left
-pub record SettledAs (n mark : ℕ) (marks : List ℕ) (answer : Settled) (left : List ℕ) : Type 0 where
-  pub answered : answer ≡ settledAnswer n marks
-  pub marks-left : left ≡ settledLeft (settledAnswer n marks) mark marks
+-- over a packed set: the answer, and the set that is left
+abbrev pub settledSetAnswer : ℕ → List ℕ → Settled
+settledSetAnswer n set = settledAnswer n (marksOf n set)
+
+abbrev pub settledSet : (mark : ℕ) → ℕ → List ℕ → List ℕ
+settledSet mark n set = repacked n set (settledLeft (settledSetAnswer n set) mark (marksOf n set))
+
+-- what `confirm` (with struck) and `withdraw` (with open) ensure: the answer, and the packed set that is left
+pub record SettledAs (n mark : ℕ) (set : List ℕ) (answer : Settled) (left : List ℕ) : Type 0 where
+  pub answered : answer ≡ settledSetAnswer n set
+  pub set-left : left ≡ settledSet mark n set

@@ -1,11 +1,14 @@
-// What a mark is: its values, the one reader and the one writer of an edge's mark, and the test of a set.
+// What a mark is: its values, and the one reader and the one writer of an edge's mark.
+use crate::packed::PER_BYTE;
+use crate::packed::put_quarter;
+use crate::packed::quarter;
 use lengths::edge;
-ghost use Prim.Native.Nat.{_<_};
+ghost use Prim.Native.Nat.{_*_, _<_};
 ghost use mathlib.Core.Path.{_≡_};
 ghost use lib.ListN.{length};
-ghost use Rattle.lists.specs.Test.{allAtMost};
-ghost use Rattle.marks.specs.Mark.{openAt, openUpTo, markIn};
-ghost use Rattle.marks.specs.asks.Mark.{MarkAsked};
+ghost use Rattle.marks.specs.Mark.{opens, openAt, openUpTo, markIn};
+ghost use Rattle.marks.specs.Packed.{quarters, marksOf};
+ghost use Rattle.marks.specs.asks.Mark.{MarkAsked, SetAsked};
 
 // An edge that is struck.
 pub const STRUCK: u8 = 0;
@@ -16,46 +19,35 @@ pub const OPEN: u8 = 1;
 // An edge that an asked sheet strikes, until it is confirmed or withdrawn: the highest mark.
 pub const PENDING: u8 = 2;
 
-// Is the edge at this place open, where marks up to `most` count as open?
-pub fn open_at(marks: &[u8], at: usize, most: u8) -> bool
-    requires { ⌜ at < length (now marks) ⌝ }
-    ensures { λ r. ⌜ r ≡ openAt most (now (marks .entry)) at ⌝ }
+// Does this mark count as open, where marks up to `most` do? One comparison: 0 becomes the highest of all.
+pub fn opens(mark: u8, most: u8) -> bool
+    ensures { λ r. ⌜ r ≡ opens most mark ⌝ }
 {
-    let mark = marks[at];
-    if mark == STRUCK {
-        return false;
-    }
-    mark <= most
+    (mark as u16 + 255) % 256 < most as u16
+}
+
+// Is the edge at this place of a packed set open, where marks up to `most` count as open?
+pub fn open_at(set: &[u8], at: usize, most: u8) -> bool
+    requires { ⌜ at < 4 * length (now set) ⌝ }
+    ensures { λ r. ⌜ r ≡ openAt most (quarters (now (set .entry))) at ⌝ }
+{
+    opens(quarter(set[at / PER_BYTE], at % PER_BYTE), most)
 }
 
 // Is the edge ab open, where marks up to `most` count as open?
-pub fn is_open(n: u16, marks: &[u8], a: u16, b: u16, most: u8) -> bool
-    requires { ⌜ MarkAsked n (now marks) a b ⌝ }
-    ensures { λ r. ⌜ r ≡ openUpTo most n (now (marks .entry)) a b ⌝ }
+pub fn is_open(n: u16, set: &[u8], a: u16, b: u16, most: u8) -> bool
+    requires { ⌜ MarkAsked n (marksOf n (now set)) a b ⌝ }
+    ensures { λ r. ⌜ r ≡ openUpTo most n (marksOf n (now (set .entry))) a b ⌝ }
 {
-    open_at(marks, edge::place(n, a, b), most)
+    open_at(set, edge::place(n, a, b), most)
 }
 
 // Writes the mark of the edge ab. A sheet writes marks by it, and nothing else.
-pub fn set_mark(n: u16, marks: &mut [u8], a: u16, b: u16, mark: u8)
-    requires { ⌜ MarkAsked n (now marks) a b ⌝ }
-    ensures { λ _. ⌜ now (marks .exit) ≡ markIn mark n (now (marks .entry)) a b ⌝ }
+pub fn set_mark(n: u16, set: &mut [u8], a: u16, b: u16, mark: u8)
+    requires { ⌜ SetAsked n (marksOf n (now set)) a b mark ⌝ }
+    ensures { λ _. ⌜ marksOf n (now (set .exit)) ≡ markIn mark n (marksOf n (now (set .entry))) a b ⌝ }
 {
     let at = edge::place(n, a, b);
-    marks[at] = mark;
-}
-
-// Is no mark above this one?
-pub fn marks_within(marks: &[u8], most: u8) -> bool
-    ensures { λ r. ⌜ r ≡ allAtMost most (now (marks .entry)) ⌝ }
-{
-    let mut within = true;
-    let mut i = 0;
-    while i < marks.len() {
-        if most < marks[i] {
-            within = false;
-        }
-        i += 1;
-    }
-    within
+    let byte = at / PER_BYTE;
+    set[byte] = put_quarter(set[byte], at % PER_BYTE, mark);
 }

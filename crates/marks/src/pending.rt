@@ -1,13 +1,19 @@
 // The operations "confirm" and "withdraw": what is pending becomes struck, or open again.
 use crate::mark;
-use crate::mark::marks_within;
-use lengths::edge;
+use crate::packed::byte_of;
+use crate::packed::marks_within;
+use crate::packed::quarter;
+use crate::packed::well_packed;
 use lengths::instance::Admission;
 use lengths::instance::Instance;
 use lengths::refusal;
+ghost use Prim.Native.Nat.{_≤_};
 ghost use mathlib.Core.Path.{_≡_};
+ghost use mathlib.Core.List.{map};
 ghost use Rattle.marks.specs.Mark.{openMark, struckMark};
-ghost use Rattle.marks.specs.Pending.{settledMark, settledMarks, SettledAs};
+ghost use Rattle.marks.specs.Pending.{SettledAs};
+ghost use Rattle.marks.specs.asks.Packed.{PutAsked};
+ghost use Rattle.marks.specs.asks.Pending.{settledByte, SettledQuarter};
 
 // The answer of "confirm" and "withdraw": nothing is pending any more, or the number of the refusal and its record, always 0.
 pub enum Settled {
@@ -15,30 +21,46 @@ pub enum Settled {
     Refused { refusal: u8, record: u16 },
 }
 
-// The mark with `to` in the place of pending.
-fn settle_mark(mark: u8, to: u8) -> u8
-    ensures { λ r. ⌜ r ≡ settledMark to mark ⌝ }
+// The mark in quarter j of a byte, with `to` in the place of pending.
+fn settle_quarter(byte: u8, j: usize, to: u8) -> u8
+    requires { ⌜ PutAsked j to ⌝ }
+    ensures { λ r. ⌜ SettledQuarter to byte j r ⌝ }
 {
+    let mark = quarter(byte, j);
     if mark == mark::PENDING {
         return to;
     }
     mark
 }
 
+// The byte with `to` in the place of each pending mark.
+fn settle_byte(byte: u8, to: u8) -> u8
+    requires { ⌜ to ≤ 3 ⌝ }
+    ensures { λ r. ⌜ r ≡ settledByte to byte ⌝ }
+{
+    let a = settle_quarter(byte, 0, to);
+    let b = settle_quarter(byte, 1, to);
+    let c = settle_quarter(byte, 2, to);
+    let d = settle_quarter(byte, 3, to);
+    byte_of(a, b, c, d)
+}
+
 // Turns every pending mark into this one.
-fn settle_all(marks: &mut [u8], to: u8)
-    ensures { λ _. ⌜ now (marks .exit) ≡ settledMarks to (now (marks .entry)) ⌝ }
+fn settle_all(set: &mut [u8], to: u8)
+    requires { ⌜ to ≤ 3 ⌝ }
+    ensures { λ _. ⌜ now (set .exit) ≡ map (settledByte to) (now (set .entry)) ⌝ }
 {
     let mut i = 0;
-    while i < marks.len() {
-        marks[i] = settle_mark(marks[i], to);
+    while i < set.len() {
+        set[i] = settle_byte(set[i], to);
         i += 1;
     }
 }
 
 // Tests 1, 6 and 21, and then turns every pending mark into this one.
-fn settle(n: u32, marks: &mut [u8], to: u8) -> Settled
-    ensures { λ r. ⌜ SettledAs n to (now (marks .entry)) r (now (marks .exit)) ⌝ }
+fn settle(n: u32, set: &mut [u8], to: u8) -> Settled
+    requires { ⌜ to ≤ openMark ⌝ }
+    ensures { λ r. ⌜ SettledAs n to (now (set .entry)) r (now (set .exit)) ⌝ }
 {
     let Admission::Admitted(instance) = Instance::admit(n) else {
         return Settled::Refused {
@@ -46,38 +68,32 @@ fn settle(n: u32, marks: &mut [u8], to: u8) -> Settled
             record: refusal::NO_RECORD,
         };
     };
-    if marks.len() != edge::count(instance.points) {
+    if !well_packed(instance.points, set) {
         return Settled::Refused {
             refusal: refusal::MARKS,
             record: refusal::NO_RECORD,
         };
     }
-    if !marks_within(marks, mark::PENDING) {
-        return Settled::Refused {
-            refusal: refusal::MARKS,
-            record: refusal::NO_RECORD,
-        };
-    }
-    if marks_within(marks, mark::OPEN) {
+    if marks_within(set, mark::OPEN) {
         return Settled::Refused {
             refusal: refusal::NOTHING_PENDING,
             record: refusal::NO_RECORD,
         };
     }
-    settle_all(marks, to);
+    settle_all(set, to);
     Settled::Done
 }
 
 // Strikes every pending edge of n points.
-pub fn confirm(n: u32, marks: &mut [u8]) -> Settled
-    ensures { λ r. ⌜ SettledAs n struckMark (now (marks .entry)) r (now (marks .exit)) ⌝ }
+pub fn confirm(n: u32, set: &mut [u8]) -> Settled
+    ensures { λ r. ⌜ SettledAs n struckMark (now (set .entry)) r (now (set .exit)) ⌝ }
 {
-    settle(n, marks, mark::STRUCK)
+    settle(n, set, mark::STRUCK)
 }
 
 // Opens every pending edge of n points again.
-pub fn withdraw(n: u32, marks: &mut [u8]) -> Settled
-    ensures { λ r. ⌜ SettledAs n openMark (now (marks .entry)) r (now (marks .exit)) ⌝ }
+pub fn withdraw(n: u32, set: &mut [u8]) -> Settled
+    ensures { λ r. ⌜ SettledAs n openMark (now (set .entry)) r (now (set .exit)) ⌝ }
 {
-    settle(n, marks, mark::OPEN)
+    settle(n, set, mark::OPEN)
 }

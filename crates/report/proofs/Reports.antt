@@ -1,5 +1,5 @@
 -- What the functions of `report` ask of each other, and the whole text from a header's. Assumes nothing.
-use Prim.Native.Nat.{ℕ, _*_, _≤_}
+use Prim.Native.Nat.{ℕ, _+_, _*_, _/_, _≤_}
 use mathlib.Core.Path.{_≡_, sym, _∙_, ap, ap₂}
 use mathlib.Core.List.{List, _++_}
 use native.Mathlib.Omega.{arith}
@@ -8,6 +8,7 @@ use lib.Seq.{length-take-le}
 use Rattle.lengths.specs.Edge.{edgeCount}
 use Rattle.lengths.proofs.Instances.{in-range}
 use Rattle.lengths.specs.Instance.{mostEdges}
+use Rattle.marks.specs.Packed.{packedBytes, packedSize}
 use Rattle.endian.proofs.Reading.{whole-count32}
 use Rattle.sheets.specs.Verdict.{resultOf}
 use Rattle.sheets.specs.declared.verdict.Verdict.{Verdict}
@@ -33,11 +34,11 @@ unfolding markedText
 wrote-refusal n marks e w = rw e w
 
 -- what the lines ask of an instance whose records were marked
-pub lines-asked : {n : ℕ} {marks left out : List ℕ} → MarkingAsked n marks out → length left ≡ length marks → LinesAsked n left out
+pub lines-asked : {n : ℕ} {set marks out : List ℕ} → MarkingAsked n set out → length marks ≡ edgeCount n → LinesAsked n marks out
 lines-asked {n} p h = record {
   some = omega (arith, in-range n (p .range));
   few = in-range n (p .range) .1;
-  marked = h ∙ p .marked;
+  marked = h;
   large = p .large;
 }
 
@@ -52,16 +53,24 @@ count-few {n} p h = omega (arith, edges-few n (in-range n (p .range) .1))
 pub table-few : {n e : ℕ} {file out : List ℕ} → InstanceAsked n file out → e ≡ edgeCount n → 4 * e ≤ 4 * mostEdges
 table-few p h = omega (arith, count-few p h)
 
+-- the bytes of the packed set of most points
+abbrev pub mostSet : ℕ
+mostSet = (mostEdges + 3) / 4
+
+pub set-few : {n k : ℕ} {file out : List ℕ} → InstanceAsked n file out → k ≡ packedSize n → k ≤ mostSet
+unfolding packedBytes
+set-few {n} p h = omega (arith, edges-few n (in-range n (p .range) .1))
+
 pub part-length : (k : ℕ) (l : List ℕ) → k ≤ length l → k ≡ length (take k l)
 part-length k l h = sym (length-take-le k l h)
 
-pub places : {n e : ℕ} {file out : List ℕ} (table marks : List ℕ) → InstanceAsked n file out → e ≡ edgeCount n → length table ≡ 4 * mostEdges → length marks ≡ mostEdges
-    → Places n (take (4 * e) table) (take e marks)
-places {n} {e} table marks p h b c = record {
+pub places : {n e k : ℕ} {file out : List ℕ} (table marks : List ℕ) → InstanceAsked n file out → e ≡ edgeCount n → k ≡ packedSize n → length table ≡ 4 * mostEdges → length marks ≡ mostSet
+    → Places n (take (4 * e) table) (take k marks)
+places {n} {e} {k} table marks p h g b c = record {
   measured =
       let size : length (take (4 * e) table) ≡ 4 * e = length-take-le (4 * e) table (omega (arith, count-few p h)) in
       omega (arith, size, whole-count32 (take (4 * e) table) (omega (arith, size)), h);
-  marked = length-take-le e marks (omega (arith, count-few p h)) ∙ h;
+  marked = length-take-le k marks (omega (arith, set-few p g)) ∙ g;
 }
 
 -- the whole text

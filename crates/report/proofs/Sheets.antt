@@ -1,6 +1,6 @@
 -- The parts of a file: its coordinates, and the text of its records once they are marked from fresh marks on. Assumes nothing.
 use Prim.Native.Nat.{ℕ, _+_, _-_, _*_, _≤_}
-use mathlib.Core.Path.{_≡_, _∙_, ap, subst}
+use mathlib.Core.Path.{_≡_, refl, _∙_, ap, subst}
 use mathlib.Core.List.{List}
 use native.Mathlib.Omega.{arith}
 use lib.ListN.{length, take, drop, length-drop}
@@ -8,10 +8,15 @@ use lib.Seq.{length-take-le}
 use Rattle.argument.specs.Sheet.{Result}
 use Rattle.sheets.specs.Verdict.{resultOf}
 use Rattle.sheets.specs.declared.verdict.Verdict.{Verdict}
+use Rattle.sheets.specs.declared.verdict.Verdict.the-variants.{Accepted, Refused}
 use Rattle.endian.specs.Bytes.{whole32}
 use Rattle.endian.proofs.Reading.{whole-count32}
+use Rattle.lengths.specs.Edge.{edgeCount}
 use Rattle.marks.specs.Fresh.{freshMarks}
-use Rattle.marking.specs.Mark.{markSheet}
+use Rattle.marks.specs.Mark.{struckMark}
+use Rattle.marks.specs.Packed.{packed, marksOf}
+use Rattle.marking.specs.Mark.{markSheet, markPacked}
+use Rattle.marking.proofs.PackedSheets.{fresh-byte-set, mark-byte-set, mark-held}
 use Rattle.text.specs.Words.{Wrote}
 use Rattle.report.specs.Header.{coordinatesIn, headerBytes, pointBytes}
 use Rattle.report.specs.Report.{markedText}
@@ -31,8 +36,17 @@ module _ (n : ℕ) (file : List ℕ) where
       let size : length bytes ≡ pointBytes * n = length-take-le (pointBytes * n) (drop headerBytes file) (omega (arith, length-drop headerBytes file)) in
       omega (arith, size, whole-count32 bytes (omega (arith, size)))
 
--- the text of the marked records
-pub marked-wrote : (n : ℕ) (table records : List ℕ) (v : Verdict) (left : List ℕ) {r : ℕ} {marks out done : List ℕ} → resultOf v left ≡ markSheet n table marks records → marks ≡ freshMarks n
-    → Wrote out 0 (markedText n (resultOf v left)) r done → Wrote out 0 (markedText n (markSheet n table (freshMarks n) records)) r done
-marked-wrote n table records v left {r} {marks} {out} {done} is fresh w =
-    subst (λ (x : Result (List ℕ)). Wrote out 0 (markedText n x) r done) (is ∙ ap (λ (l : List ℕ). markSheet n table l records) fresh) w
+-- fresh marks, packed and marked: what is left holds a mark for each edge, and the text of the records is that of its marks
+module _ (n : ℕ) (table records : List ℕ) (v : Verdict) (left : List ℕ) {set : List ℕ} (is : resultOf v left ≡ markPacked n table set records) (fresh : set ≡ packed (freshMarks n)) where
+  marked-held : resultOf v (marksOf n left) ≡ markSheet n table (freshMarks n) records
+  marked-held = mark-held struckMark table records (fresh-byte-set n) v left (omega arith) (is ∙ ap (λ (l : List ℕ). markPacked n table l records) fresh)
+
+  pub marked-size : length (marksOf n left) ≡ edgeCount n
+  marked-size = result-size v ∙ ap (λ (r : Result (List ℕ)). length (r .marks)) marked-held ∙ mark-byte-set struckMark n table records (omega arith) (fresh-byte-set n) .size
+    where
+      result-size : (v : Verdict) → length (marksOf n left) ≡ length (resultOf v (marksOf n left) .marks)
+      result-size (Accepted lines) = refl
+      result-size (Refused number rec lines) = refl
+
+  pub marked-wrote : {r : ℕ} {out done : List ℕ} → Wrote out 0 (markedText n (resultOf v (marksOf n left))) r done → Wrote out 0 (markedText n (markSheet n table (freshMarks n) records)) r done
+  marked-wrote {r} {out} {done} w = subst (λ (x : Result (List ℕ)). Wrote out 0 (markedText n x) r done) marked-held w

@@ -8,7 +8,7 @@ use native.Mathlib.Numerals.{add-one}
 use native.Mathlib.Omega.{arith}
 use lib.ListN.{length, take, drop, getD, length-append, drop-of-length-le}
 use lib.Seq.{drop-cons, length-take-le}
-use Rattle.lengths.specs.Edge.{Edge, edge, edges, placeUp}
+use Rattle.lengths.specs.Edge.{Edge, edge, edges, edgeCount, placeUp}
 use Rattle.lengths.specs.asks.Edge.{Cursor, Follows, IsEdgeUp}
 use Rattle.lengths.proofs.Edges.{cursor-start, length-edges, edges-at}
 use Rattle.marks.specs.Mark.{openMark, openAt}
@@ -60,13 +60,13 @@ lengths-together {n} {at} {marks} {out₀} {out} {i = i} {next = next} p s = ome
 )
 
 module _ {n at : ℕ} {marks out₀ out : List ℕ} {a b i next : ℕ} (p : StrikesAsked n marks out₀ at) (s : Striking n marks out₀ at out a b i next)
-    (h : i < length marks) where
+    (h : i < edgeCount n) where
   pub at-edge : IsEdgeUp n a b × (placeUp n a b ≡ i)
-  at-edge = s .cursor .here (omega (arith, p .marked))
+  at-edge = s .cursor .here h
 
   edges-here : drop i (edges n) ≡ edge a b ∷ drop (i + 1) (edges n)
   edges-here =
-      drop-cons (edges n) i (edge 0 0) (omega (arith, p .marked, length-edges n (omega (arith, p .some))))
+      drop-cons (edges n) i (edge 0 0) (omega (arith, length-edges n (omega (arith, p .some))))
       ∙ ap (λ (e : Edge). e ∷ drop (suc i) (edges n)) (ap (λ (j : ℕ). getD (edges n) j (edge 0 0)) (sym (at-edge .1)) ∙ edges-at (at-edge .0))
       ∙ ap (λ (j : ℕ). edge a b ∷ drop j (edges n)) (sym (add-one i))
 
@@ -114,11 +114,11 @@ module _ {n at : ℕ} {marks out₀ out : List ℕ} {a b i next : ℕ} (p : Stri
   striking-on {r = r} {left = left} e w = struck-on (subst (λ (o : Bool). Wrote out next (markLine o a b) r left) e w)
 
 pub all-struck : {n at : ℕ} {marks out₀ out : List ℕ} {a b i next : ℕ} → StrikesAsked n marks out₀ at → Striking n marks out₀ at out a b i next
-    → length marks ≤ i → Wrote out₀ at (struckLines n marks) next out
+    → edgeCount n ≤ i → Wrote out₀ at (struckLines n marks) next out
 unfolding markLines
 all-struck {n} {at} {marks} {out₀} {out} {i = i} {next = next} p s h =
     let over : markLines (drop i (edges n)) marks i ≡ [] =
-    ap (λ (es : List Edge). markLines es marks i) (drop-of-length-le (edges n) {i = i} (omega (arith, p .marked, length-edges n (omega (arith, p .some))))) in
+    ap (λ (es : List Edge). markLines es marks i) (drop-of-length-le (edges n) {i = i} (omega (arith, length-edges n (omega (arith, p .some))))) in
     record {
       next = omega (arith, lengths-together p s, ap length over);
       front = sym (append-nil (take next out)) ∙ ap (λ (l : List ℕ). take next out ++ l) (sym over) ∙ s .whole;

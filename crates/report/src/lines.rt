@@ -8,6 +8,7 @@ use text::decimal::put_field;
 use text::words::put_word;
 ghost use Prim.Native.Nat.{_≤_};
 ghost use Rattle.lengths.specs.Instance.{mostPoints};
+ghost use Rattle.marks.specs.Packed.{marksOf};
 ghost use Rattle.text.specs.Words.{Room, Wrote};
 ghost use Rattle.report.specs.Lines.{pointsLine, struckLine, markLine, struckLines, verdictLine, lastLine, allLines};
 ghost use Rattle.report.specs.asks.Lines.{Large, StrikesAsked, LinesAsked};
@@ -46,15 +47,16 @@ fn put_mark(opened: bool, a: u32, b: u32, out: &mut [u8], at: usize) -> usize
 
 // The lines of the strikes, in edge order.
 fn put_strikes(n: u16, marks: &[u8], out: &mut [u8], at: usize) -> usize
-    requires { ⌜ StrikesAsked n (now marks) (now out) at ⌝ }
-    ensures { λ r. ⌜ Wrote (now (out .entry)) at (struckLines n (now (marks .entry))) r (now (out .exit)) ⌝ }
+    requires { ⌜ StrikesAsked n (marksOf n (now marks)) (now out) at ⌝ }
+    ensures { λ r. ⌜ Wrote (now (out .entry)) at (struckLines n (marksOf n (now (marks .entry)))) r (now (out .exit)) ⌝ }
 {
     let points = n as usize;
+    let edges = edge::count(n);
     let mut a: usize = 1;
     let mut b: usize = 2;
     let mut i = 0;
     let mut next = at;
-    while i < marks.len() {
+    while i < edges {
         next = put_mark(open_at(marks, i, mark::OPEN), a as u32, b as u32, out, next);
         let following = edge::following(points, a, b);
         a = following.low;
@@ -85,10 +87,10 @@ pub fn put_refusal(number: u8, out: &mut [u8]) -> usize
 
 // All lines.
 pub fn put_all(n: u16, number: u8, rec: u16, marks: &[u8], out: &mut [u8]) -> usize
-    requires { ⌜ LinesAsked n (now marks) (now out) ⌝ }
-    ensures { λ r. ⌜ Wrote (now (out .entry)) 0 (allLines n number rec (now (marks .entry))) r (now (out .exit)) ⌝ }
+    requires { ⌜ LinesAsked n (marksOf n (now marks)) (now out) ⌝ }
+    ensures { λ r. ⌜ Wrote (now (out .entry)) 0 (allLines n number rec (marksOf n (now (marks .entry)))) r (now (out .exit)) ⌝ }
 {
-    let opens = open_edges(marks);
+    let opens = open_edges(n, marks);
     let mut next = put_points(n, out, 0);
     next = put_strikes(n, marks, out, next);
     put_verdict(number, rec, opens, out, next)

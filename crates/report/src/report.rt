@@ -9,10 +9,13 @@ use lengths::measure::measure;
 use lengths::refusal;
 use marking::mark::mark_sheet;
 use marks::fresh::fresh_marks;
+use marks::packed;
+use marks::packed::PER_BYTE;
 use sheets::verdict::Verdict;
 ghost use Rattle.sheets.specs.Verdict.{resultOf};
 ghost use Rattle.endian.specs.Bytes.{whole16, whole32};
 ghost use Rattle.marks.specs.Fresh.{freshMarks};
+ghost use Rattle.marks.specs.Packed.{marksOf};
 ghost use Rattle.marking.specs.Mark.{markSheet};
 ghost use Rattle.text.specs.Words.{Wrote};
 ghost use Rattle.report.specs.Header.{coordinatesIn, recordsIn};
@@ -23,10 +26,13 @@ ghost use Rattle.report.specs.asks.Report.{MarkingAsked, InstanceAsked, 
 // Room for every text: MOST_EDGES lines of at most 15 bytes, and two more.
 pub const TEXT: usize = 262_144;
 
+// The bytes of the packed set of most points.
+const MOST_SET: usize = (Instance::MOST_EDGES + 3) / PER_BYTE;
+
 // All lines for a verdict: its number and record, or 0 and 0.
 fn put_marked(n: u16, verdict: Verdict, marks: &[u8], out: &mut [u8]) -> usize
-    requires { ⌜ LinesAsked n (now marks) (now out) ⌝ }
-    ensures { λ r. ⌜ Wrote (now (out .entry)) 0 (markedText n (resultOf verdict (now (marks .entry)))) r (now (out .exit)) ⌝ }
+    requires { ⌜ LinesAsked n (marksOf n (now marks)) (now out) ⌝ }
+    ensures { λ r. ⌜ Wrote (now (out .entry)) 0 (markedText n (resultOf verdict (marksOf n (now (marks .entry))))) r (now (out .exit)) ⌝ }
 {
     match verdict {
         Verdict::Accepted { lines: _ } => put_all(n, 0, refusal::NO_RECORD, marks, out),
@@ -74,10 +80,10 @@ fn report_instance(rule: u32, n: u16, file: &[u8], out: &mut [u8]) -> usize
     ensures { λ r. ⌜ Wrote (now (out .entry)) 0 (measuredText rule n (coordinatesIn n (now (file .entry))) (recordsIn n (now (file .entry)))) r (now (out .exit)) ⌝ }
 {
     let mut table = [0u8; 4 * Instance::MOST_EDGES];
-    let mut marks = [0u8; Instance::MOST_EDGES];
-    let edges = edge::count(n);
-    let bytes = 4 * edges;
-    measure_file(rule, n, file, &mut table[..bytes], &mut marks[..edges], out)
+    let mut marks = [0u8; MOST_SET];
+    let bytes = 4 * edge::count(n);
+    let size = packed::size(n);
+    measure_file(rule, n, file, &mut table[..bytes], &mut marks[..size], out)
 }
 
 // Writes the text for the bytes of an input, and answers how long it is.

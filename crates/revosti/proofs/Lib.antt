@@ -1,3 +1,4 @@
+pub mod ConvertAnswers
 pub mod FreshAnswers
 pub mod ListAnswers
 pub mod MarkAnswers

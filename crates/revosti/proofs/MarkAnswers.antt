@@ -7,7 +7,7 @@ use Rattle.sheets.specs.Verdict.{resultOf}
 use Rattle.sheets.specs.declared.verdict.Verdict.{Verdict}
 use Rattle.sheets.specs.declared.verdict.Verdict.the-variants as verdict
 use Rattle.endian.specs.Bytes.{whole16, whole32}
-use Rattle.marking.specs.Mark.{markBy}
+use Rattle.marking.specs.Mark.{markPackedBy}
 use Rattle.revosti.specs.Mark.{resultNumber, MarkedInC}
 use Rattle.revosti.specs.asks.Mark.{MarkNumber}
 
@@ -27,7 +27,7 @@ marks-of (verdict.Accepted lines) left = refl
 marks-of (verdict.Refused number rec lines) left = refl
 
 -- what the function for C returns, from what its callees ensure
-pub marked-in-c : (by n : ℕ) (table marks s : List ℕ) {v : Verdict} {r : ℕ} {left : List ℕ} → resultOf v left ≡ markBy by n (whole32 table) marks (whole16 s)
-    → MarkNumber v r → MarkedInC by n table marks s r left
-marked-in-c by n table marks s {v} {r} {left} h k =
-    record { answered = k .number left ∙ ap resultNumber h; marks-left = sym (marks-of v left) ∙ ap (λ (x : Result (List ℕ)). x .marks) h }
+pub marked-in-c : (by n : ℕ) (table set s : List ℕ) {v : Verdict} {r : ℕ} {left : List ℕ} → resultOf v left ≡ markPackedBy by n (whole32 table) set (whole16 s)
+    → MarkNumber v r → MarkedInC by n table set s r left
+marked-in-c by n table set s {v} {r} {left} h k =
+    record { answered = k .number left ∙ ap resultNumber h; set-left = sym (marks-of v left) ∙ ap (λ (x : Result (List ℕ)). x .marks) h }

@@ -1,11 +1,11 @@
--- "Mark a sheet" and "ask a sheet" for C: bytes in, one 64-bit number out, and the marks that are left.
+-- "Mark a sheet" and "ask a sheet" for C: bytes in, one 64-bit number out, and the packed set that is left.
 use Prim.Native.Nat.{ℕ, _+_, _*_}
 use mathlib.Core.Path.{_≡_}
 use mathlib.Core.List.{List}
 use Rattle.argument.specs.Verdict.{Verdict, accepted, refused}
 use Rattle.argument.specs.Sheet.{Result}
 use Rattle.endian.specs.Bytes.{whole16, whole32}
-use Rattle.marking.specs.Mark.{markBy}
+use Rattle.marking.specs.Mark.{markPackedBy}
 
 -- the refusal number or 0, plus 256 times the record
 abbrev pub verdictNumber : Verdict (Unit {0}) → ℕ
@@ -18,9 +18,9 @@ resultNumber r = verdictNumber (r .verdict) + 16777216 * r .lines
 
 -- what marking and asking answer and leave over bytes, where an accepted line writes the mark `by`
 abbrev pub markInC : (by : ℕ) → ℕ → List ℕ → List ℕ → List ℕ → Result (List ℕ)
-markInC by n table marks s = markBy by n (whole32 table) marks (whole16 s)
+markInC by n table set s = markPackedBy by n (whole32 table) set (whole16 s)
 
--- what `revosti_mark_sheet` (with struck) and `revosti_ask_sheet` (with pending) ensure: the answer, and the marks that are left
-pub record MarkedInC (by n : ℕ) (table marks s : List ℕ) (r : ℕ) (left : List ℕ) : Type 0 where
-  pub answered : r ≡ resultNumber (markInC by n table marks s)
-  pub marks-left : left ≡ markInC by n table marks s .marks
+-- what `revosti_mark_sheet` (with struck) and `revosti_ask_sheet` (with pending) ensure: the answer, and the packed set that is left
+pub record MarkedInC (by n : ℕ) (table set s : List ℕ) (r : ℕ) (left : List ℕ) : Type 0 where
+  pub answered : r ≡ resultNumber (markInC by n table set s)
+  pub set-left : left ≡ markInC by n table set s .marks

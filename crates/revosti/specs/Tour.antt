@@ -3,6 +3,7 @@ use Prim.Native.Nat.{ℕ, _+_, _*_}
 use mathlib.Core.Bool.{Bool, true, false}
 use mathlib.Core.List.{List}
 use Rattle.endian.specs.Bytes.{whole16, whole32}
+use Rattle.marks.specs.Packed.{marksOf}
 use Rattle.marking.specs.Tour.{tourChecked}
 use Rattle.marking.specs.declared.tour.Checked.{Checked}
 use Rattle.marking.specs.declared.tour.Checked.the-variants as checked
@@ -17,4 +18,4 @@ checkedNumber (checked.Refused number rec) = number
 checkedNumber (checked.Tour sum all-open) = 65536 * sum + openNumber all-open
 
 unfoldable pub tourInC : ℕ → List ℕ → List ℕ → List ℕ → ℕ
-tourInC n table marks t = checkedNumber (tourChecked n (whole32 table) marks (whole16 t))
+tourInC n table set t = checkedNumber (tourChecked n (whole32 table) (marksOf n set) (whole16 t))

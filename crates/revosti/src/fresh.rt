@@ -1,4 +1,4 @@
-// "Fresh marks" for C: the marks cross as bytes, the answer as one number.
+// "Fresh marks" for C: the answer as one number.
 use marks::fresh::Fresh;
 use marks::fresh::fresh_marks;
 ghost use Rattle.revosti.specs.Fresh.{FreshInC};

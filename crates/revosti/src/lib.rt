@@ -1,4 +1,5 @@
 // The functions for C, one to a file: each is its operation over the same bytes, with the answer as one 64-bit number.
+pub mod converting;
 pub mod fresh;
 pub mod listing;
 pub mod mark;

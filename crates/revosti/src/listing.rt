@@ -2,6 +2,7 @@
 use marking::listing::Listed;
 use marking::listing::list_pairs;
 ghost use Rattle.endian.specs.Bytes.{whole32};
+ghost use Rattle.marks.specs.Packed.{marksOf};
 ghost use Rattle.revosti.specs.Listing.{ListedInC};
 
 // Lists the feasible pairs of K = {ab} at the split point c, 16 bits a point: the refusal number, or 65,536 times the number of pairs. The
@@ -16,7 +17,7 @@ pub extern "C" fn revosti_list_pairs(
     c: u16,
     list: &mut [u8],
 ) -> u64
-    ensures { λ r. ⌜ ListedInC n (whole32 (now (table .entry))) (now (marks .entry)) a b c (now (list .entry)) r (now (list .exit)) ⌝ }
+    ensures { λ r. ⌜ ListedInC n (whole32 (now (table .entry))) (marksOf n (now (marks .entry))) a b c (now (list .entry)) r (now (list .exit)) ⌝ }
 {
     match list_pairs(n, table, marks, a, b, c, list) {
         Listed::Pairs(count) => 65_536 * (count as u64),

@@ -1,4 +1,4 @@
-// "Confirm" and "withdraw" for C: the marks cross as bytes, the answer as one number.
+// "Confirm" and "withdraw" for C: the answer as one number.
 use marks::pending::Settled;
 use marks::pending::confirm;
 use marks::pending::withdraw;

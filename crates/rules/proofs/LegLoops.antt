@@ -1,18 +1,20 @@
 -- The loops over an array of legs: the legs where K is empty, and an edge taken into all legs. Assumes nothing.
-use Prim.Native.Nat.{ℕ, _+_, _-_, _^_, _≤_, _<_}
-use mathlib.Core.Path.{_≡_, refl, sym, _∙_, ap, subst}
+use Prim.Native.Nat.{ℕ, _+_, _-_, _/_, _%_, _^_, _≤_, _<_}
+use mathlib.Core.Path.{_≡_, refl, sym, _∙_, ap, ap₂, subst}
 use mathlib.Core.Bool.{Bool, true, false, cond}
 use mathlib.Core.List.{List, []}
 use native.Mathlib.Omega.{arith}
 use native.Mathlib.Decide.{decLt, ℕ-discrete}
 use lib.ListN.{length, getD, set, replicate, length-set, length-replicate, getD-replicate, List·getD-eq-default}
 use lib.Seq.{getD-set-same, getD-set-other}
-use Rattle.lengths.specs.Edge.{Point, tri, place, placeUp}
+use Rattle.lengths.specs.Edge.{Point, edgeCount, tri, place, placeUp}
 use Rattle.lengths.specs.asks.Edge.{IsEdgeUp, Placed}
 use Rattle.lengths.proofs.Edges.{tri-row, placeUp-sum, placeUp-below, edgeCount-tri, edges-fit, place-up, place-down, place-along}
 use Rattle.lengths.specs.Instance.{mostLength, mostPoints, pointPlaces}
-use Rattle.rules.specs.asks.Legs.{legOf, narrowedBy, LegList, rowOf, OpenAsked, OpenFrom, OpenBelow, OpenLegs, NarrowAsked, Narrowed, far}
-use Rattle.marks.specs.Mark.{openAt, openUpTo}
+use Rattle.rules.specs.asks.Legs.{legOf, narrowedBy, LegList, rowOf, OpenAsked, OpenFrom, OpenBelow, OpenAbove, fourLegs, ToByte, OpenLegs, NarrowAsked, Narrowed, far}
+use Rattle.marks.specs.Mark.{opens, openAt, openUpTo}
+use Rattle.marks.specs.Packed.{quarter, marksOf}
+use Rattle.marks.proofs.PackedMarks.{byte-open}
 use Rattle.rules.proofs.LegsAndBound.{legOf-self, legOf-open, legOf-shut, narrowed-at-most-far}
 
 -- lists of legs
@@ -101,20 +103,21 @@ open-on {most} {n} {marks} {rows} {c} {at} {legs} {x} {spot} {m} {b} a s p away 
     at-most-far : m ≤ far
     at-most-far = rw is (choice b (a .row .small x p))
 
--- the points below c: `next` is one more than the place of the edge xc
-pub record OpeningBelow (most n : ℕ) (marks rows : List ℕ) (c at : ℕ) (legs : List ℕ) (next x : ℕ) : Type 0 where
+-- the points below c: `next` is one more than the place of the edge xc, and `step` is n - x
+pub record OpeningBelow (most n : ℕ) (marks rows : List ℕ) (c at : ℕ) (legs : List ℕ) (next step x : ℕ) : Type 0 where
   pub asked : OpenAsked n marks rows c at
   pub below : OpenBelow most n marks rows c at legs x
   pub low : 1 ≤ x
   pub high : x ≤ c
   pub here : next + tri (n + 1 - x) ≡ tri n + (c - x)
+  pub left : step + x ≡ n
 
-pub below-start : {most n : ℕ} {marks rows : List ℕ} {c at : ℕ} {legs : List ℕ} → OpenFrom most n marks rows c at legs 1 → OpeningBelow most n marks rows c at legs (c - 1) 1
+pub below-start : {most n : ℕ} {marks rows : List ℕ} {c at : ℕ} {legs : List ℕ} → OpenFrom most n marks rows c at legs 1 → OpeningBelow most n marks rows c at legs (c - 1) (n - 1) 1
 below-start {n = n} f =
     let e : n + 1 - 1 ≡ n = omega arith in
-    record { asked = f .asked; below = f .below; low = omega arith; high = f .asked .centre .low; here = omega (arith, ap tri e) }
+    record { asked = f .asked; below = f .below; low = omega arith; high = f .asked .centre .low; here = omega (arith, ap tri e); left = omega (arith, f .asked .centre) }
 
-module _ {most n : ℕ} {marks rows : List ℕ} {c at : ℕ} {legs : List ℕ} {next x : ℕ} (s : OpeningBelow most n marks rows c at legs next x) (h : x < c) where
+module _ {most n : ℕ} {marks rows : List ℕ} {c at : ℕ} {legs : List ℕ} {next step x : ℕ} (s : OpeningBelow most n marks rows c at legs next step x) (h : x < c) where
   below-edge : IsEdgeUp n x c
   below-edge = record { low = s .low; up = h; high = s .asked .centre .high }
 
@@ -131,7 +134,7 @@ module _ {most n : ℕ} {marks rows : List ℕ} {c at : ℕ} {legs : List ℕ} {
   below-small = omega (arith, below-place, placeUp-below below-edge, edges-fit {n = n} (omega (arith, s .asked .few)))
 
   pub below-on : {b : Bool} {m : ℕ} → b ≡ openAt most marks (next - 1) → m ≡ cond b (getD rows (at + x) 0) far
-      → OpeningBelow most n marks rows c at (set legs x m) (next + (n - x - 1)) (x + 1)
+      → OpeningBelow most n marks rows c at (set legs x m) (next + (step - 1)) (step - 1) (x + 1)
   below-on o is =
       let t : n + 1 - (x + 1) ≡ n - x = omega arith in
       let e : next - 1 ≡ placeUp n x c = omega (arith, below-place) in
@@ -140,32 +143,26 @@ module _ {most n : ℕ} {marks rows : List ℕ} {c at : ℕ} {legs : List ℕ} {
         below = open-on (s .asked) (s .below) (record { low = s .low; high = omega (arith, s .asked .centre .high) }) (λ g. omega arith) (e ∙ sym (place-down n c x (omega arith))) o is;
         low = omega arith;
         high = omega arith;
-        here = omega (arith, s .here, ap tri t, tri-row n x (omega (arith, s .asked .centre)), s .asked .centre);
+        here = omega (arith, s .here, s .left, ap tri t, tri-row n x (omega (arith, s .asked .centre)), s .asked .centre);
+        left = omega (arith, s .left, s .asked .centre);
       }
 
-pub below-end : {most n : ℕ} {marks rows : List ℕ} {c at : ℕ} {legs : List ℕ} {next x : ℕ} → OpeningBelow most n marks rows c at legs next x → c ≤ x → OpenBelow most n marks rows c at legs c
-below-end {most} {n} {marks} {rows} {c} {at} {legs} {next} {x} s h = let e : x ≡ c = omega (arith, s .high) in rw e at (s .below)
+pub below-end : {most n : ℕ} {marks rows : List ℕ} {c at : ℕ} {legs : List ℕ} {next step x : ℕ} → OpeningBelow most n marks rows c at legs next step x → c ≤ x → OpenBelow most n marks rows c at legs c
+below-end {most} {n} {marks} {rows} {c} {at} {legs} {next} {step} {x} s h = let e : x ≡ c = omega (arith, s .high) in rw e at (s .below)
 
--- the points above c: the edge to c + 1 stands at `first`, the others behind it
-pub record OpeningAbove (most n : ℕ) (marks rows : List ℕ) (c at : ℕ) (legs : List ℕ) (first i : ℕ) : Type 0 where
-  pub asked : OpenAsked n marks rows c at
-  pub below : OpenBelow most n marks rows c at legs (c + 1 + i)
-  pub placed : Placed n c (c + 1) first
-  pub some : c < n
-  pub high : c + i ≤ n
-
+-- the points above c
 pub above-none : {most n : ℕ} {marks rows : List ℕ} {c at : ℕ} {legs : List ℕ} → OpenFrom most n marks rows c at legs (c + 1) → n ≤ c → OpenBelow most n marks rows c at legs (n + 1)
 above-none {most} {n} {marks} {rows} {c} {at} {legs} f h =
     let e : c + 1 ≡ n + 1 = omega (arith, f .asked .centre) in
     subst (λ (x : ℕ). OpenBelow most n marks rows c at legs x) e (f .below)
 
 pub above-start : {most n : ℕ} {marks rows : List ℕ} {c at : ℕ} {legs : List ℕ} {first : ℕ} → OpenFrom most n marks rows c at legs (c + 1) → c < n → Placed n c (c + 1) first
-    → OpeningAbove most n marks rows c at legs first 0
+    → OpenAbove most n marks rows c at legs first 0
 above-start {most} {n} {marks} {rows} {c} {at} {legs} f h p =
     let e : c + 1 ≡ c + 1 + 0 = omega arith in
     record { asked = f .asked; below = subst (λ (x : ℕ). OpenBelow most n marks rows c at legs x) e (f .below); placed = p; some = h; high = omega arith }
 
-module _ {most n : ℕ} {marks rows : List ℕ} {c at : ℕ} {legs : List ℕ} {first i : ℕ} (s : OpeningAbove most n marks rows c at legs first i) (h : i < n - c) where
+module _ {most n : ℕ} {marks rows : List ℕ} {c at : ℕ} {legs : List ℕ} {first i : ℕ} (s : OpenAbove most n marks rows c at legs first i) (h : i < n - c) where
   above-here : IsEdgeUp n c (c + 1 + i)
   above-here = record { low = s .asked .centre .low; up = omega arith; high = omega arith }
 
@@ -176,7 +173,7 @@ module _ {most n : ℕ} {marks rows : List ℕ} {c at : ℕ} {legs : List ℕ} {
   above-inside = omega (arith, above-place, placeUp-below above-here, s .asked .marked, edgeCount-tri n)
 
   pub above-on : {b : Bool} {m : ℕ} → b ≡ openAt most marks (first + i) → m ≡ cond b (getD rows (at + (c + 1 + i)) 0) far
-      → OpeningAbove most n marks rows c at (set legs (c + 1 + i) m) first (i + 1)
+      → OpenAbove most n marks rows c at (set legs (c + 1 + i) m) first (i + 1)
   above-on {m = m} o is =
       let t : c + 1 + i + 1 ≡ c + 1 + (i + 1) = omega arith in
       record {
@@ -191,7 +188,53 @@ module _ {most n : ℕ} {marks rows : List ℕ} {c at : ℕ} {legs : List ℕ} {
         high = omega arith;
       }
 
-pub above-end : {most n : ℕ} {marks rows : List ℕ} {c at : ℕ} {legs : List ℕ} {first i : ℕ} → OpeningAbove most n marks rows c at legs first i → n - c ≤ i → OpenBelow most n marks rows c at legs (n + 1)
+  -- the same, with the places as the code writes them
+  pub above-at : (x y p : ℕ) {b : Bool} {m : ℕ} → x ≡ c + 1 + i → y ≡ at + (c + 1 + i) → p ≡ first + i → b ≡ openAt most marks p → m ≡ cond b (getD rows y 0) far
+      → OpenAbove most n marks rows c at (set legs x m) first (i + 1)
+  above-at x y p {b} {m} ex ey ep o is =
+      subst (λ (z : ℕ). OpenAbove most n marks rows c at (set legs z m) first (i + 1)) (sym ex)
+      (above-on (o ∙ ap (openAt most marks) ep) (is ∙ ap (λ (z : ℕ). cond b (getD rows z 0) far) ey))
+
+pub singly-end : {most n : ℕ} {marks rows : List ℕ} {c at : ℕ} {legs : List ℕ} {first i : ℕ} (to : ℕ) → OpenAbove most n marks rows c at legs first i → i ≡ to → OpenAbove most n marks rows c at legs first to
+singly-end {most} {n} {marks} {rows} {c} {at} {legs} {first} to o e = subst (λ (z : ℕ). OpenAbove most n marks rows c at legs first z) e o
+
+-- four legs that are stored
+pub four-set : (legs : List ℕ) (w x y z : ℕ) {a b c d e f g h : ℕ} → a ≡ e → b ≡ f → c ≡ g → d ≡ h → set (set (set (set legs w a) x b) y c) z d ≡ set (set (set (set legs w e) x f) y g) z h
+four-set legs w x y z {a} {b} {c} {d} {e} {f} {g} {h} p q r s =
+    ap₂ (λ (i j : ℕ). set (set (set (set legs w i) x j) y c) z d) p q ∙ ap₂ (λ (i j : ℕ). set (set (set (set legs w e) x f) y i) z j) r s
+
+-- four legs at a time: a byte holds the marks of their edges
+pub above-four : (byte : ℕ) {most n : ℕ} {marks rows : List ℕ} {c at : ℕ} {legs : List ℕ} {first i : ℕ} → OpenAbove most n marks rows c at legs first i → i + 4 ≤ n - c
+    → ((j : ℕ) → j < 4 → opens most (quarter byte j) ≡ openAt most marks (first + i + j))
+    → OpenAbove most n marks rows c at (fourLegs most byte rows (at + (c + 1 + i)) legs (c + 1 + i)) first (i + 4)
+unfolding fourLegs
+above-four byte {most} {n} {marks} {rows} {c} {at} {legs} {first} {i} o h held =
+    let x : ℕ = c + 1 + i in
+    let p : ℕ = first + i in
+    let one = above-at o (omega arith) x (at + x) (p + 0) refl refl (omega arith) (held 0 (omega arith)) refl in
+    let two = above-at one (omega arith) (x + 1) (at + x + 1) (p + 1) (omega arith) (omega arith) (omega arith) (held 1 (omega arith)) refl in
+    let three = above-at two (omega arith) (x + 2) (at + x + 2) (p + 2) (omega arith) (omega arith) (omega arith) (held 2 (omega arith)) refl in
+    let four = above-at three (omega arith) (x + 3) (at + x + 3) (p + 3) (omega arith) (omega arith) (omega arith) (held 3 (omega arith)) refl in
+    let e : i + 1 + 1 + 1 + 1 ≡ i + 4 = omega arith in
+    subst (λ (z : ℕ). OpenAbove most n marks rows c at (fourLegs most byte rows (at + x) legs x) first z) e four
+
+-- the marks of the four edges stand among those of n points
+pub four-inside : {most n : ℕ} {marks rows : List ℕ} {c at : ℕ} {legs : List ℕ} {first i : ℕ} → OpenAbove most n marks rows c at legs first i → i + 4 ≤ n - c → first + i + 3 < edgeCount n
+four-inside {n = n} {c = c} {first = first} {i = i} o h =
+    let here : IsEdgeUp n c (c + 1 + (i + 3)) = record { low = o .asked .centre .low; up = omega arith; high = omega arith } in
+    omega (arith, place-along (i + 3) (o .placed), placeUp-below here, edgeCount-tri n)
+
+pub bytes-on : (s : List ℕ) {most n : ℕ} {rows : List ℕ} {c at : ℕ} {legs left : List ℕ} {first i : ℕ} (to : ℕ) → OpenAbove most n (marksOf n s) rows c at legs first i → i + 4 ≤ n - c → (first + i) % 4 ≡ 0
+    → left ≡ fourLegs most (getD s ((first + i) / 4) 0) rows (at + (c + 1 + i)) legs (c + 1 + i) → i + 4 ≡ to → OpenAbove most n (marksOf n s) rows c at left first to
+bytes-on s {most} {n} {rows} {c} {at} {legs} {left} {first} {i} to o h begins is e =
+    let held : (j : ℕ) → j < 4 → opens most (quarter (getD s ((first + i) / 4) 0) j) ≡ openAt most (marksOf n s) (first + i + j) = λ j l. byte-open n s most (first + i) j (o .asked .marked) begins l (omega (arith, four-inside o h)) in
+    singly-end to (subst (λ (z : List ℕ). OpenAbove most n (marksOf n s) rows c at z first (i + 4)) (sym is) (above-four (getD s ((first + i) / 4) 0) o h held)) e
+
+-- the parts of the points above c: some to the first byte, whole bytes, and what is left
+pub bytes-begin : {first left head bytes : ℕ} → ToByte first left head → bytes ≡ (left - head) / 4 → 0 < bytes → (first + head) % 4 ≡ 0
+bytes-begin t e h = t .begins (omega arith)
+
+pub above-end : {most n : ℕ} {marks rows : List ℕ} {c at : ℕ} {legs : List ℕ} {first i : ℕ} → OpenAbove most n marks rows c at legs first i → n - c ≤ i → OpenBelow most n marks rows c at legs (n + 1)
 above-end {most} {n} {marks} {rows} {c} {at} {legs} {first} {i} s h =
     let e : c + 1 + i ≡ n + 1 = omega (arith, s .high) in
     subst (λ (x : ℕ). OpenBelow most n marks rows c at legs x) e (s .below)

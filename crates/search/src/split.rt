@@ -22,6 +22,7 @@ ghost use Rattle.lengths.specs.Edge.{edge};
 ghost use Rattle.lengths.specs.Instance.{pointPlaces};
 ghost use Rattle.lengths.specs.Table.{lengthOf};
 ghost use Rattle.marks.specs.Mark.{openMark, pendingMark};
+ghost use Rattle.marks.specs.Packed.{marksOf};
 
 // legs[x] is the length from the split point c to x where cx is open and compatible with every edge of K, else FAR.
 // A pair x, y meets conditions 1, 4 and 5 exactly when legs[x] + legs[y] + MOST_LENGTH is at most l(xy) + bound.
@@ -110,9 +111,9 @@ pub fn prepare(
     c: u16,
     legs: &mut [u32; Instance::PLACES],
 ) -> u32
-    requires { ⌜ SplitAsked n (whole32 (now table)) (now rows) (now marks) k c ⌝ }
+    requires { ⌜ SplitAsked n (whole32 (now table)) (now rows) (marksOf n (now marks)) k c ⌝ }
     requires { ⌜ now legs ≡ replicate pointPlaces far ⌝ }
-    ensures { λ r. ⌜ SplitOf openMark n (whole32 (now (table .entry))) (now (marks .entry)) k c (now (legs .exit)) r ⌝ }
+    ensures { λ r. ⌜ SplitOf openMark n (whole32 (now (table .entry))) (marksOf n (now (marks .entry))) k c (now (legs .exit)) r ⌝ }
 {
     let from = k.from;
     let to = k.to;
@@ -164,8 +165,8 @@ fn legs_for_edge(
     b: u16,
     c: u16,
 ) -> [u32; Instance::PLACES]
-    requires { ⌜ EdgeLegsAsked n (whole32 (now table)) (now marks) a b c ⌝ }
-    ensures { λ r. ⌜ EdgeLegs n (whole32 (now (table .entry))) (now (marks .entry)) a b c r ⌝ }
+    requires { ⌜ EdgeLegsAsked n (whole32 (now table)) (marksOf n (now marks)) a b c ⌝ }
+    ensures { λ r. ⌜ EdgeLegs n (whole32 (now (table .entry))) (marksOf n (now (marks .entry))) a b c r ⌝ }
 {
     let mut rows = [0u32; 3 * Instance::PLACES];
     fill_edge_rows(n, table, a, b, c, &mut rows);
@@ -187,8 +188,8 @@ fn bound_for_edge(n: u16, table: &[u8], a: u16, b: u16, c: u16) -> u32
 
 // What the search looks up for a set k of one edge at c in the pair list, which counts a pending edge as open, by three rows alone.
 pub fn prepare_single(n: u16, table: &[u8], marks: &[u8], k: EdgeSet, c: u16) -> Split
-    requires { ⌜ SingleAsked n (whole32 (now table)) (now marks) k c ⌝ }
-    ensures { λ r. ⌜ SplitOf pendingMark n (whole32 (now (table .entry))) (now (marks .entry)) k c (r .legs) (r .bound) ⌝ }
+    requires { ⌜ SingleAsked n (whole32 (now table)) (marksOf n (now marks)) k c ⌝ }
+    ensures { λ r. ⌜ SplitOf pendingMark n (whole32 (now (table .entry))) (marksOf n (now (marks .entry))) k c (r .legs) (r .bound) ⌝ }
 {
     let from = k.from;
     let to = k.to;

@@ -16,17 +16,17 @@ use answers::tally::text;
 fn square(
     t: Tally,
     asks: bool,
-    lent: [u8; 10],
+    lent: [u8; 3],
     sheet: [u8; 112],
     size: u32,
     number: u64,
     record: u64,
     lines: u64,
-    left: [u8; 10],
+    left: [u8; 3],
 ) -> Tally {
     operation(asks);
-    text(b" square, marks ");
-    let m = some_bytes(6, &lent);
+    text(b" square, marks");
+    let m = some_bytes(2, &lent);
     marks(&lent[..m]);
     text(b",");
     hand_in_part(
@@ -36,7 +36,7 @@ fn square(
         data::square(10),
         6,
         lent,
-        6,
+        2,
         sheet,
         size,
         number,
@@ -47,7 +47,7 @@ fn square(
 }
 
 // The same, where the call is refused: the marks stay.
-fn refused(t: Tally, asks: bool, lent: [u8; 10], record: [u16; 8], number: u64) -> Tally {
+fn refused(t: Tally, asks: bool, lent: [u8; 3], record: [u16; 8], number: u64) -> Tally {
     square(t, asks, lent, begin(record), 8, number, 0, 0, lent)
 }
 
@@ -75,28 +75,30 @@ fn examples_of_01(t: Tally) -> Tally {
 fn lines(t: Tally) -> Tally {
     subject(b"ask a sheet: a pending edge of an earlier line stays, gets 12 and is in no pair");
     let two = put(begin([1, 1, 3, 0, 0, 2, 0, 2]), 1, [1, 3, 1, 0, 0, 4, 0, 0]);
-    let left = [1, 2, 1, 1, 1, 1, 1, 1, 1, 1];
+    let left = [89, 5, 85];
     let t = square(t, true, fixtures::FRESH, two, 16, 12, 2, 1, left);
-    let lent = [0, 1, 1, 1, 1, 1, 1, 1, 1, 1];
+    let lent = [84, 5, 85];
     let alone = begin([1, 1, 4, 0, 0, 1, 0, 0]);
     let t = square(t, true, lent, alone, 8, 14, 1, 0, lent);
     let two = put(begin([1, 1, 3, 0, 0, 2, 0, 2]), 1, [1, 1, 4, 0, 0, 1, 0, 0]);
-    let left = [0, 2, 2, 1, 1, 1, 1, 1, 1, 1];
+    let left = [104, 5, 85];
     square(t, true, lent, two, 16, 0, 0, 2, left)
 }
 
 // Each test of the call, with all later ones broken too.
 fn order(t: Tally, asks: bool) -> Tally {
-    let t = broken(t, asks, 3, 5, 2_000_001, 5, 2, 1);
-    let t = broken(t, asks, 4, 5, 2_000_001, 5, 2, 2);
-    let t = broken(t, asks, 4, 6, 2_000_001, 5, 2, 5);
-    let t = broken(t, asks, 4, 6, 10, 5, 2, 6);
-    let t = broken(t, asks, 4, 6, 10, 6, 2, 20);
-    let t = broken(t, asks, 4, 6, 10, 6, 1, 7);
-    // A byte of 3 behind a pending one; the last mark pending.
-    let above = [2, 3, 1, 1, 1, 1, 1, 1, 1, 1];
+    let t = broken(t, asks, 3, 5, 2_000_001, 3, 86, 1);
+    let t = broken(t, asks, 4, 5, 2_000_001, 3, 86, 2);
+    let t = broken(t, asks, 4, 6, 2_000_001, 3, 86, 5);
+    let t = broken(t, asks, 4, 6, 10, 3, 86, 6);
+    let t = broken(t, asks, 4, 6, 10, 2, 86, 20);
+    let t = broken(t, asks, 4, 6, 10, 2, 85, 7);
+    // 1-2 pending, and 1-3 a mark of 3; 1-2 pending, and an unused bit set; the last mark pending.
+    let above = [94, 5, 85];
     let t = refused(t, asks, above, fixtures::GOOD, 6);
-    let last = [1, 1, 1, 1, 1, 2, 1, 1, 1, 1];
+    let unused = [86, 21, 85];
+    let t = refused(t, asks, unused, fixtures::GOOD, 6);
+    let last = [85, 9, 85];
     refused(t, asks, last, fixtures::KIND_0, 20)
 }
 

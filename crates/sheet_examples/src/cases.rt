@@ -39,7 +39,7 @@ fn flat_5(t: Tally, sheet: [u8; 112], size: u32, number: u64, record: u64) -> Ta
         number,
         record,
         0,
-        fixtures::FRESH,
+        fixtures::FRESH_5,
     )
 }
 
@@ -131,7 +131,7 @@ fn a_three_opt(t: Tally) -> Tally {
         0,
         0,
         1,
-        [0, 1, 1, 1, 1, 1, 1, 1, 1, 1],
+        [84, 85, 5],
     )
 }
 

@@ -24,26 +24,26 @@ fn sheet_text(sheet: &[u8]) {
     numbers(sheet);
 }
 
-// Writes an answer with the first so many marks that are left.
-fn answer(number: u64, record: u64, lines: u64, left: [u8; 10], size: usize) {
+// Writes an answer with the first so many bytes of the marks that are left.
+fn answer(number: u64, record: u64, lines: u64, left: [u8; 3], size: usize) {
     figure(b" ", number);
     figure(b" record ", record);
     figure(b" lines ", lines);
-    text(b" marks ");
+    text(b" marks");
     let m = some_bytes(size, &left);
     marks(&left[..m]);
 }
 
-// Holds an answer and the marks that are left, of which so many were lent, to what they should be.
+// Holds an answer and the marks that are left, of which so many bytes were lent, to what they should be.
 fn hold(
     t: Tally,
     got: u64,
-    found: [u8; 10],
+    found: [u8; 3],
     size: usize,
     number: u64,
     record: u64,
     lines: u64,
-    left: [u8; 10],
+    left: [u8; 3],
 ) -> Tally {
     let refusal = got % 256;
     let at = got / 256 % 65_536;
@@ -73,20 +73,20 @@ fn ask_or_mark(asks: bool, n: u32, table: &[u8], marks: &mut [u8], sheet: &[u8])
     revosti_mark_sheet(n, table, marks, sheet)
 }
 
-// Asks a sheet, or marks it, with the first so many of the lengths and marks.
+// Asks a sheet, or marks it, with the first so many of the lengths and of the bytes of the marks.
 pub fn hand_in(
     t: Tally,
     asks: bool,
     n: u32,
     table: [u8; 40],
     entries: u32,
-    fresh: [u8; 10],
+    fresh: [u8; 3],
     bytes: usize,
     sheet: &[u8],
     number: u64,
     record: u64,
     lines: u64,
-    left: [u8; 10],
+    left: [u8; 3],
 ) -> Tally {
     sheet_text(sheet);
     let mut found = fresh;
@@ -103,14 +103,14 @@ pub fn hand_in_part(
     n: u32,
     table: [u8; 40],
     entries: u32,
-    fresh: [u8; 10],
+    fresh: [u8; 3],
     bytes: usize,
     sheet: [u8; 112],
     size: u32,
     number: u64,
     record: u64,
     lines: u64,
-    left: [u8; 10],
+    left: [u8; 3],
 ) -> Tally {
     let p = some_bytes(2 * size as usize, &sheet);
     hand_in(
@@ -138,7 +138,7 @@ pub fn four(
     number: u64,
     record: u64,
     lines: u64,
-    left: [u8; 10],
+    left: [u8; 3],
 ) -> Tally {
     hand_in_part(
         t,
@@ -147,7 +147,7 @@ pub fn four(
         table,
         6,
         fixtures::FRESH,
-        6,
+        2,
         sheet,
         size,
         number,
@@ -166,7 +166,7 @@ pub fn five(
     number: u64,
     record: u64,
     lines: u64,
-    left: [u8; 10],
+    left: [u8; 3],
 ) -> Tally {
     hand_in_part(
         t,
@@ -174,8 +174,8 @@ pub fn five(
         5,
         table,
         10,
-        fixtures::FRESH,
-        10,
+        fixtures::FRESH_5,
+        3,
         sheet,
         size,
         number,
@@ -226,8 +226,8 @@ pub fn under(t: Tally, record: [u16; 8], number: u64) -> Tally {
     refused(t, sheet, 16, number, 2)
 }
 
-// The square with n stated, the first so many entries of its table and so many marks, the first of each changed, and the first so many numbers
-// of a sheet. The marks stay.
+// The square with n stated, the first so many entries of its table and so many bytes of its marks, the first of each changed, and the first so
+// many numbers of a sheet. The marks stay.
 pub fn given(
     t: Tally,
     asks: bool,
@@ -235,15 +235,15 @@ pub fn given(
     entries: u32,
     first: u32,
     bytes: usize,
-    mark_1: u8,
+    byte_1: u8,
     sheet: [u8; 112],
     size: u32,
     number: u64,
     record: u64,
 ) -> Tally {
     operation(asks);
-    given_text(n, entries, first, bytes, mark_1);
-    let fresh = [mark_1, 1, 1, 1, 1, 1, 1, 1, 1, 1];
+    given_text(n, entries, first, bytes, byte_1);
+    let fresh = [byte_1, 5, 85];
     hand_in_part(
         t,
         asks,
@@ -269,7 +269,7 @@ pub fn broken(
     entries: u32,
     first: u32,
     bytes: usize,
-    mark_1: u8,
+    byte_1: u8,
     number: u64,
 ) -> Tally {
     given(
@@ -279,7 +279,7 @@ pub fn broken(
         entries,
         first,
         bytes,
-        mark_1,
+        byte_1,
         begin(fixtures::GOOD),
         7,
         number,

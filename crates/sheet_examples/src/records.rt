@@ -127,7 +127,7 @@ fn three_opt_ends(t: Tally) -> Tally {
 
 // A sheet of one record on the square with 1-2 lent struck.
 fn lent_struck(t: Tally, record: [u16; 8], number: u64) -> Tally {
-    given(t, false, 4, 6, 10, 6, 0, begin(record), 8, number, 1)
+    given(t, false, 4, 6, 10, 2, 84, begin(record), 8, number, 1)
 }
 
 // 12: an edge that was lent struck, in either order, and one that the sheet struck.
@@ -160,7 +160,7 @@ fn struck_order(t: Tally) -> Tally {
     let t = lent_struck(t, [1, 1, 2, 0, 0, 3, 1, 0], 12);
     let t = lent_struck(t, [1, 1, 2, 0, 0, 3, 0, 0], 12);
     let sheet = put(begin([1, 1, 2, 0, 0, 3, 2, 0]), 1, [1, 1, 4, 0, 0, 2, 0, 0]);
-    let t = given(t, false, 4, 6, 10, 6, 0, sheet, 16, 12, 1);
+    let t = given(t, false, 4, 6, 10, 2, 84, sheet, 16, 12, 1);
     let t = one(t, [1, 1, 2, 0, 0, 3, 0, 2], 14);
     one(t, [1, 1, 2, 0, 0, 3, 0, 1], 14)
 }

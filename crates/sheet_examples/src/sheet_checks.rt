@@ -24,7 +24,7 @@ fn zeros(t: Tally, sheet: &[u8], number: u64, record: u64) -> Tally {
         data::square(10),
         6,
         fixtures::FRESH,
-        6,
+        2,
         sheet,
         number,
         record,
@@ -40,7 +40,7 @@ fn good(
     entries: u32,
     first: u32,
     bytes: usize,
-    mark_1: u8,
+    byte_1: u8,
     number: u64,
 ) -> Tally {
     given(
@@ -50,7 +50,7 @@ fn good(
         entries,
         first,
         bytes,
-        mark_1,
+        byte_1,
         begin(fixtures::GOOD),
         8,
         number,
@@ -65,7 +65,7 @@ fn kind_0(
     entries: u32,
     first: u32,
     bytes: usize,
-    mark_1: u8,
+    byte_1: u8,
     number: u64,
 ) -> Tally {
     given(
@@ -75,7 +75,7 @@ fn kind_0(
         entries,
         first,
         bytes,
-        mark_1,
+        byte_1,
         begin(fixtures::KIND_0),
         8,
         number,
@@ -88,31 +88,22 @@ fn examples_of_01(t: Tally) -> Tally {
     subject(b"mark a sheet: 01's examples");
     let t = one(t, [1, 1, 2, 0, 0, 3, 0, 0], 14);
     let t = struck(t, begin([1, 1, 3, 0, 0, 2, 0, 1]), 8, 9, 1);
-    let t = good(t, 3, 3, 10, 3, 1, 1);
-    let t = good(t, 181, 6, 10, 6, 1, 1);
+    let t = good(t, 3, 3, 10, 1, 21, 1);
+    let t = good(t, 181, 6, 10, 2, 85, 1);
     let two = put(begin([1, 1, 3, 0, 0, 2, 0, 2]), 1, [1, 2, 4, 0, 0, 1, 0, 0]);
     text(b"mark, square,");
-    four(
-        t,
-        data::square(10),
-        two,
-        16,
-        0,
-        0,
-        2,
-        [1, 0, 1, 1, 0, 1, 1, 1, 1, 1],
-    )
+    four(t, data::square(10), two, 16, 0, 0, 2, [81, 4, 85])
 }
 
-// 2, 5 and 6: one entry or mark too few or too many, and one that is too large.
+// 2, 5 and 6: one entry or byte of marks too few or too many, and one that is too large.
 fn sizes(t: Tally) -> Tally {
     subject(b"mark a sheet: 2, 5, 6");
-    let t = good(t, 4, 5, 10, 6, 1, 2);
-    let t = good(t, 4, 7, 10, 6, 1, 2);
-    let t = good(t, 4, 6, 2_000_001, 6, 1, 5);
-    let t = good(t, 4, 6, 10, 5, 1, 6);
-    let t = good(t, 4, 6, 10, 7, 1, 6);
-    let t = good(t, 4, 6, 10, 6, 3, 6);
+    let t = good(t, 4, 5, 10, 2, 85, 2);
+    let t = good(t, 4, 7, 10, 2, 85, 2);
+    let t = good(t, 4, 6, 2_000_001, 2, 85, 5);
+    let t = good(t, 4, 6, 10, 1, 85, 6);
+    let t = good(t, 4, 6, 10, 3, 85, 6);
+    let t = good(t, 4, 6, 10, 2, 87, 6);
     // 2,000,000 is a length: now (3,4) stands at 2.
     given(
         t,
@@ -120,8 +111,8 @@ fn sizes(t: Tally) -> Tally {
         4,
         6,
         2_000_000,
-        6,
-        1,
+        2,
+        85,
         begin(fixtures::GOOD),
         8,
         14,
@@ -144,32 +135,32 @@ fn sheet_sizes(t: Tally) -> Tally {
 // 1 comes before 2, 5, 6, 7 and 10.
 fn points_first(t: Tally) -> Tally {
     subject(b"mark a sheet: 1 before 2, 5, 6, 7, 10");
-    let t = good(t, 3, 6, 10, 3, 1, 1);
-    let t = good(t, 3, 3, 2_000_001, 3, 1, 1);
-    let t = good(t, 3, 3, 10, 3, 3, 1);
-    let t = broken(t, false, 3, 3, 10, 3, 1, 1);
-    kind_0(t, 3, 3, 10, 3, 1, 1)
+    let t = good(t, 3, 6, 10, 1, 21, 1);
+    let t = good(t, 3, 3, 2_000_001, 1, 21, 1);
+    let t = good(t, 3, 3, 10, 1, 23, 1);
+    let t = broken(t, false, 3, 3, 10, 1, 21, 1);
+    kind_0(t, 3, 3, 10, 1, 21, 1)
 }
 
 // 2 comes before 5, 6, 7 and 10.
 fn table_size_first(t: Tally) -> Tally {
     subject(b"mark a sheet: 2 before 5, 6, 7, 10");
-    let t = good(t, 4, 5, 2_000_001, 6, 1, 2);
-    let t = good(t, 4, 5, 10, 5, 1, 2);
-    let t = broken(t, false, 4, 5, 10, 6, 1, 2);
-    kind_0(t, 4, 5, 10, 6, 1, 2)
+    let t = good(t, 4, 5, 2_000_001, 2, 85, 2);
+    let t = good(t, 4, 5, 10, 1, 85, 2);
+    let t = broken(t, false, 4, 5, 10, 2, 85, 2);
+    kind_0(t, 4, 5, 10, 2, 85, 2)
 }
 
 // 5 comes before 6, 7 and 10; 6 before 7 and 10; 7 before 10.
 fn entries_first(t: Tally) -> Tally {
     subject(b"mark a sheet: 5 before 6, 7, 10; 6 before 7, 10; 7 before 10");
-    let t = good(t, 4, 6, 2_000_001, 5, 1, 5);
-    let t = good(t, 4, 6, 2_000_001, 6, 3, 5);
-    let t = broken(t, false, 4, 6, 2_000_001, 6, 1, 5);
-    let t = kind_0(t, 4, 6, 2_000_001, 6, 1, 5);
-    let t = broken(t, false, 4, 6, 10, 5, 1, 6);
-    let t = broken(t, false, 4, 6, 10, 6, 3, 6);
-    let t = kind_0(t, 4, 6, 10, 6, 3, 6);
+    let t = good(t, 4, 6, 2_000_001, 1, 85, 5);
+    let t = good(t, 4, 6, 2_000_001, 2, 87, 5);
+    let t = broken(t, false, 4, 6, 2_000_001, 2, 85, 5);
+    let t = kind_0(t, 4, 6, 2_000_001, 2, 85, 5);
+    let t = broken(t, false, 4, 6, 10, 1, 85, 6);
+    let t = broken(t, false, 4, 6, 10, 2, 87, 6);
+    let t = kind_0(t, 4, 6, 10, 2, 87, 6);
     let nine = put(begin(fixtures::KIND_0), 1, [1, 0, 0, 0, 0, 0, 0, 0]);
     refused(t, nine, 9, 7, 0)
 }

@@ -9,7 +9,8 @@ use native.Mathlib.Omega.{arith}
 use lib.ListN.{length}
 use Rattle.lengths.specs.Edge.{Edge, edge}
 use Rattle.marks.specs.Mark.{openIn, markIn}
-use Rattle.marks.specs.asks.Mark.{MarkAsked}
+use Rattle.marks.specs.asks.Mark.{MarkAsked, SetAsked}
+use Rattle.marks.proofs.Marks.{length-marked}
 use Rattle.sets.specs.asks.Stored.{edgeList, Single}
 use Rattle.sets.specs.declared.edge_set.EdgeSet.{EdgeSet}
 use Rattle.argument.specs.Argument.{splitLimit}
@@ -24,7 +25,7 @@ use Rattle.argument.proofs.Verdicts.{pass-guard, fail-guard}
 use Rattle.argument.proofs.Tests.{fits-means}
 use Rattle.argument.proofs.Equations.{close-splits, judged}
 use Rattle.argument.proofs.Sheet.{turn-over, turn-8, turn-9, turn-stops, turn-strikes, turn-rises, lines-over, lines-stop, lines-go-on}
-use Rattle.sheet_lines.specs.asks.Line.{LineAsked, TurnedAs, judgedOf, placeOf, turnedOf, marksAfter}
+use Rattle.sheet_lines.specs.asks.Line.{LineAsked, MarkingAsked, TurnedAs, judgedOf, placeOf, turnedOf, marksAfter}
 use Rattle.sheets.specs.Verdict.{resultOf}
 use Rattle.sheets.specs.Rules.{rulesOf, markingBy}
 use Rattle.sheets.specs.Sheet.{mostRecords}
@@ -105,50 +106,49 @@ module _ (by n : ℕ) (table marks s : List ℕ) (last index high : ℕ) where
   abbrev at : ℕ → Place (List ℕ)
   at lines = placeOf marks lines last index high
 
-  turned-as : (r : Turned) (left : List ℕ) → ((lines : ℕ) → turn (markingBy by n table) s (at lines) ≡ turnedOf (at lines) r left) → ((lines : ℕ) → left ≡ marksAfter (at lines) (turnedOf (at lines) r left)) → TurnedAs by n table marks s last index high r left
-  turned-as r left t m = record { answered = λ lines. sym (t lines); marks-left = λ lines. m lines ∙ ap (marksAfter (at lines)) (sym (t lines)) }
+  turned-as : (r : Turned) (left : List ℕ) → length left ≡ length marks → ((lines : ℕ) → turn (markingBy by n table) s (at lines) ≡ turnedOf (at lines) r left) → ((lines : ℕ) → left ≡ marksAfter (at lines) (turnedOf (at lines) r left)) → TurnedAs by n table marks s last index high r left
+  turned-as r left k t m = record { answered = λ lines. sym (t lines); size = k; marks-left = λ lines. m lines ∙ ap (marksAfter (at lines)) (sym (t lines)) }
 
   pub mark-over : index ≡ 0 → TurnedAs by n table marks s last index high turned.Over marks
-  mark-over e = turned-as turned.Over marks (λ lines. turn-over (markingBy by n table) s (at lines) e) (λ lines. refl)
+  mark-over e = turned-as turned.Over marks refl (λ lines. turn-over (markingBy by n table) s (at lines) e) (λ lines. refl)
 
   pub mark-above : records s < index → TurnedAs by n table marks s last index high (turned.Refused 8 last) marks
-  mark-above h = turned-as (turned.Refused 8 last) marks (λ lines. turn-8 (markingBy by n table) s (at lines) h) (λ lines. refl)
+  mark-above h = turned-as (turned.Refused 8 last) marks refl (λ lines. turn-8 (markingBy by n table) s (at lines) h) (λ lines. refl)
 
   pub mark-low : (index ≡ 0 → ⊥) → index ≤ records s → index ≤ high → TurnedAs by n table marks s last index high (turned.Refused 9 last) marks
-  mark-low z h l = turned-as (turned.Refused 9 last) marks (λ lines. turn-9 (markingBy by n table) s (at lines) z h l) (λ lines. refl)
+  mark-low z h l = turned-as (turned.Refused 9 last) marks refl (λ lines. turn-9 (markingBy by n table) s (at lines) z h l) (λ lines. refl)
 
   module _ (h : Enters s high index) {v : Judged} (z : judgedOf v ≡ judge (rulesOf n table marks) (openIn n marks) s index) where
     judges : {v′ : Judged} → v ≡ v′ → judge (rulesOf n table marks) (openIn n marks) s index ≡ judgedOf v′
     judges g = sym z ∙ ap judgedOf g
 
     pub mark-stops : {m r : ℕ} → v ≡ judging.Refused m r → TurnedAs by n table marks s last index high (turned.Refused m r) marks
-    mark-stops {m} {r} g = turned-as (turned.Refused m r) marks (λ lines. turn-stops (markingBy by n table) s (at lines) h m r (judges g)) (λ lines. refl)
+    mark-stops {m} {r} g = turned-as (turned.Refused m r) marks refl (λ lines. turn-stops (markingBy by n table) s (at lines) h m r (judges g)) (λ lines. refl)
 
     pub mark-strikes : {a b next reached : ℕ} {left : List ℕ} → v ≡ judging.Strikes a b next reached → left ≡ markIn by n marks a b → TurnedAs by n table marks s last index high (turned.Struck next reached) left
     unfolding struck
     mark-strikes {a} {b} {next} {reached} {left} g e =
-        turned-as (turned.Struck next reached) left (λ lines.
+        turned-as (turned.Struck next reached) left (ap length e ∙ length-marked by n marks a b) (λ lines.
         turn-strikes (markingBy by n table) s (at lines) h (strikes a b next reached) (judges g) ∙ ap (λ (m : List ℕ). accepted (onward (placeOf m (suc lines) index next reached))) (sym e))
         (λ lines. refl)
 
 -- an accepted line strikes an edge
-pub mark-marked : {n : ℕ} {table rows marks s : List ℕ} {count : ℕ} → Tried n table rows marks s count → (index : ℕ) {v : Judged} {a b next reached : ℕ} → judgedOf v ≡ judge (rulesOf n table marks) (openIn n marks) s index → v ≡ judging.Strikes a b next reached → MarkAsked n marks a b
-mark-marked {n} {table} {rows} {marks} {s} {count} t index {v} {a} {b} {next} {reached} z g =
+pub mark-marked : {by n : ℕ} {table rows marks s : List ℕ} {count : ℕ} → MarkingAsked by n table rows marks s count → (index : ℕ) {v : Judged} {a b next reached : ℕ} → judgedOf v ≡ judge (rulesOf n table marks) (openIn n marks) s index → v ≡ judging.Strikes a b next reached → SetAsked n marks a b by
+mark-marked {by} {n} {table} {rows} {marks} {s} {count} t index {v} {a} {b} {next} {reached} z g =
     let l = judged (rulesOf n table marks) (openIn n marks) s index a b next reached (sym z ∙ ap judgedOf g) .at-line in
-    record { is-edge = record { first = l .point-a; second = l .point-b; apart = l .apart }; whole = t .admitted .marked }
+    record { asked = record { is-edge = record { first = l .point-a; second = l .point-b; apart = l .apart }; whole = t .tried .admitted .marked }; is-mark = t .is-mark }
 
 -- the lines of a sheet
 
 -- the loop's invariant: the lines from here are the lines of the sheet
 pub record Proceeding (by n : ℕ) (table rows marks₀ s : List ℕ) (count : ℕ) (marks : List ℕ) (lines last index high : ℕ) : Type 0 where
   pub tried : Tried n table rows marks s count
-  pub kept : length marks ≡ length marks₀
   pub counted : lines ≤ high
   pub goes : linesFrom (markingBy by n table) s (placeOf marks lines last index high) ≡ sheet (markingBy by n table) s marks₀
 
 pub lines-start : {by n : ℕ} {table rows marks s : List ℕ} {count : ℕ} → Tried n table rows marks s count → Proceeding by n table rows marks s count marks 0 0 1 0
 unfolding sheet start
-lines-start t = record { tried = t; kept = refl; counted = omega arith; goes = refl }
+lines-start t = record { tried = t; counted = omega arith; goes = refl }
 
 module _ {by n : ℕ} {table rows marks₀ s : List ℕ} {count : ℕ} {marks : List ℕ} {lines last index high : ℕ} (p : Proceeding by n table rows marks₀ s count marks lines last index high) {r : Turned} {left : List ℕ} (t : TurnedAs by n table marks s last index high r left) where
   abbrev here : Place (List ℕ)
@@ -184,11 +184,10 @@ module _ {by n : ℕ} {table rows marks₀ s : List ℕ} {count : ℕ} {marks : 
     pub lines-fall : records s - reached < records s - high
     lines-fall = omega (arith, risen .0, risen .1)
 
-    pub lines-on : length left ≡ length marks → Proceeding by n table rows marks₀ s count left (lines + 1) index next reached
-    lines-on e =
+    pub lines-on : Proceeding by n table rows marks₀ s count left (lines + 1) index next reached
+    lines-on =
         record {
-          tried = let a = p .tried .admitted in record { admitted = record { least = a .least; lengths = a .lengths; marked = e ∙ a .marked; whole = a .whole; few = a .few }; in-rows = p .tried .in-rows };
-          kept = e ∙ p .kept;
+          tried = let a = p .tried .admitted in record { admitted = record { least = a .least; lengths = a .lengths; marked = t .size ∙ a .marked; whole = a .whole; few = a .few }; in-rows = p .tried .in-rows };
           counted = omega (arith, risen .0, risen .1, p .counted);
           goes = ap (λ (m : ℕ). linesFrom (markingBy by n table) s (placeOf left m index next reached)) (add-one lines) ∙ sym (lines-go-on (markingBy by n table) s here (placeOf left (suc lines) index next reached) (turns g)) ∙ p .goes;
         }

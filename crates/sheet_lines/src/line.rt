@@ -15,14 +15,14 @@ use sheets::walk::points_fit;
 ghost use mathlib.Core.Path.{_≡_};
 ghost use Rattle.endian.specs.Bytes.{whole16, whole32};
 ghost use Rattle.marks.specs.Mark.{openIn};
+ghost use Rattle.marks.specs.Packed.{marksOf};
 ghost use Rattle.argument.specs.Line.{judgeRecord};
 ghost use Rattle.argument.specs.Line as judging;
 ghost use Rattle.argument.specs.Sheet as lines;
-ghost use Rattle.sheet_lines.specs.asks.Line.{LineAsked, TurnedAs, judgedOf};
+ghost use Rattle.sheet_lines.specs.asks.Line.{MarkingAsked, LineAsked, TurnedAs, judgedOf};
 ghost use Rattle.sheets.specs.Verdict.{resultOf};
 ghost use Rattle.sheets.specs.Rules.{rulesOf, markingBy};
 ghost use Rattle.sheets.specs.asks.Sheet.{recordOf};
-ghost use Rattle.sheets.specs.asks.Walk.{Tried};
 
 // What a line that was entered comes to: it strikes its edge, with the next index and the highest record entered, or it is refused.
 pub enum Judged {
@@ -53,8 +53,8 @@ fn judge_line(
     i: u16,
     line: Line,
 ) -> Judged
-    requires { ⌜ LineAsked n (whole32 (now table)) (now rows) (now marks) (whole16 (now sheet)) count i ⌝ }
-    ensures { λ r. ⌜ judgedOf r ≡ judgeRecord (rulesOf n (whole32 (now (table .entry))) (now (marks .entry))) (openIn n (now (marks .entry))) (whole16 (now (sheet .entry))) i (recordOf (Record.Line line)) ⌝ }
+    requires { ⌜ LineAsked n (whole32 (now table)) (now rows) (marksOf n (now marks)) (whole16 (now sheet)) count i ⌝ }
+    ensures { λ r. ⌜ judgedOf r ≡ judgeRecord (rulesOf n (whole32 (now (table .entry))) (marksOf n (now (marks .entry)))) (openIn n (marksOf n (now (marks .entry)))) (whole16 (now (sheet .entry))) i (recordOf (Record.Line line)) ⌝ }
 {
     let closing = Closing::Split {
         point: line.point,
@@ -100,8 +100,8 @@ pub fn judge(
     count: u16,
     i: u16,
 ) -> Judged
-    requires { ⌜ LineAsked n (whole32 (now table)) (now rows) (now marks) (whole16 (now sheet)) count i ⌝ }
-    ensures { λ r. ⌜ judgedOf r ≡ judging.judge (rulesOf n (whole32 (now (table .entry))) (now (marks .entry))) (openIn n (now (marks .entry))) (whole16 (now (sheet .entry))) i ⌝ }
+    requires { ⌜ LineAsked n (whole32 (now table)) (now rows) (marksOf n (now marks)) (whole16 (now sheet)) count i ⌝ }
+    ensures { λ r. ⌜ judgedOf r ≡ judging.judge (rulesOf n (whole32 (now (table .entry))) (marksOf n (now (marks .entry)))) (openIn n (marksOf n (now (marks .entry)))) (whole16 (now (sheet .entry))) i ⌝ }
 {
     match Sheet::record(sheet, i) {
         Record::Line(line) => judge_line(n, table, rows, marks, sheet, count, i, line),
@@ -123,8 +123,8 @@ pub fn mark_line(
     index: u16,
     high: u16,
 ) -> Turned
-    requires { ⌜ Tried n (whole32 (now table)) (now rows) (now marks) (whole16 (now sheet)) count ⌝ }
-    ensures { λ r. ⌜ TurnedAs by n (whole32 (now (table .entry))) (now (marks .entry)) (whole16 (now (sheet .entry))) last index high r (now (marks .exit)) ⌝ }
+    requires { ⌜ MarkingAsked by n (whole32 (now table)) (now rows) (marksOf n (now marks)) (whole16 (now sheet)) count ⌝ }
+    ensures { λ r. ⌜ TurnedAs by n (whole32 (now (table .entry))) (marksOf n (now (marks .entry))) (whole16 (now (sheet .entry))) last index high r (marksOf n (now (marks .exit))) ⌝ }
 {
     if index == 0 {
         return Turned::Over;
@@ -157,8 +157,8 @@ pub fn mark_lines(
     sheet: &[u8],
     count: u16,
 ) -> Verdict
-    requires { ⌜ Tried n (whole32 (now table)) (now rows) (now marks) (whole16 (now sheet)) count ⌝ }
-    ensures { λ r. ⌜ resultOf r (now (marks .exit)) ≡ lines.sheet (markingBy by n (whole32 (now (table .entry)))) (whole16 (now (sheet .entry))) (now (marks .entry)) ⌝ }
+    requires { ⌜ MarkingAsked by n (whole32 (now table)) (now rows) (marksOf n (now marks)) (whole16 (now sheet)) count ⌝ }
+    ensures { λ r. ⌜ resultOf r (marksOf n (now (marks .exit))) ≡ lines.sheet (markingBy by n (whole32 (now (table .entry)))) (whole16 (now (sheet .entry))) (marksOf n (now (marks .entry))) ⌝ }
 {
     let mut lines: u16 = 0;
     let mut last: u16 = 0;

@@ -19,6 +19,7 @@ use sets::neighbours::neighbours_of;
 ghost use mathlib.Core.Path.{_≡_};
 ghost use Prim.Native.Nat.{suc};
 ghost use Rattle.endian.specs.Bytes.{whole16, whole32};
+ghost use Rattle.marks.specs.Packed.{marksOf};
 ghost use Rattle.sets.specs.asks.Stored.{edgeList};
 ghost use Rattle.argument.specs.Record.{howFits, fits};
 ghost use Rattle.argument.specs.Walk.{readCase, opening, close, walk};
@@ -144,9 +145,9 @@ pub fn chain(
     c: u16,
     first: u16,
 ) -> Walked
-    requires { ⌜ ChainAsked n (whole32 (now table)) (now rows) (now marks) (whole16 (now sheet)) count k left c ⌝ }
-    ensures { λ r. ⌜ walkedOf r ≡ walk (rulesOf n (whole32 (now (table .entry))) (now (marks .entry))) (whole16 (now (sheet .entry)))
-        (opening (rulesOf n (whole32 (now (table .entry))) (now (marks .entry))) (suc left) (edgeList k) i c first) ⌝ }
+    requires { ⌜ ChainAsked n (whole32 (now table)) (now rows) (marksOf n (now marks)) (whole16 (now sheet)) count k left c ⌝ }
+    ensures { λ r. ⌜ walkedOf r ≡ walk (rulesOf n (whole32 (now (table .entry))) (marksOf n (now (marks .entry)))) (whole16 (now (sheet .entry)))
+        (opening (rulesOf n (whole32 (now (table .entry))) (marksOf n (now (marks .entry)))) (suc left) (edgeList k) i c first) ⌝ }
 {
     let mut legs = [legs::FAR; Instance::PLACES];
     let bound = prepare(n, table, rows, marks, k, c, &mut legs);
@@ -216,9 +217,9 @@ fn close_case(
     i: u16,
     closing: Closing,
 ) -> Walked
-    requires { ⌜ CaseAsked n (whole32 (now table)) (now rows) (now marks) (whole16 (now sheet)) count k left closing ⌝ }
-    ensures { λ r. ⌜ walkedOf r ≡ close (rulesOf n (whole32 (now (table .entry))) (now (marks .entry)))
-        (walk (rulesOf n (whole32 (now (table .entry))) (now (marks .entry))) (whole16 (now (sheet .entry)))) left (edgeList k) i (howOf closing) ⌝ }
+    requires { ⌜ CaseAsked n (whole32 (now table)) (now rows) (marksOf n (now marks)) (whole16 (now sheet)) count k left closing ⌝ }
+    ensures { λ r. ⌜ walkedOf r ≡ close (rulesOf n (whole32 (now (table .entry))) (marksOf n (now (marks .entry))))
+        (walk (rulesOf n (whole32 (now (table .entry))) (marksOf n (now (marks .entry)))) (whole16 (now (sheet .entry)))) left (edgeList k) i (howOf closing) ⌝ }
 {
     match closing {
         Closing::Split { point, first } => {

@@ -1,14 +1,16 @@
 -- The length of each leg at a split point. A leg that conditions 1 and 4 rule out is `far`: more than any pair may cost.
-use Prim.Native.Nat.{ℕ, _+_, _*_, _≤_, _<_, max}
+use Prim.Native.Nat.{ℕ, _+_, _*_, _%_, _≤_, _<_, max}
 use mathlib.Core.Path.{_≡_}
 use mathlib.Core.Bool.{Bool, cond}
 use mathlib.Core.List.{List, []}
 use lib.Dec.{leb}
-use lib.ListN.{length, getD}
+use lib.ListN.{length, getD, set}
 use Rattle.lengths.specs.Edge.{Edge, Point, edgeCount}
+use Rattle.lengths.specs.asks.Edge.{Placed}
 use Rattle.lengths.specs.Instance.{mostLength, mostPoints, pointPlaces}
 use Rattle.rules.specs.PairTest.{leg?}
-use Rattle.marks.specs.Mark.{openUpTo}
+use Rattle.marks.specs.Mark.{opens, openUpTo}
+use Rattle.marks.specs.Packed.{quarter}
 use Rattle.rules.specs.asks.Bound.{Short}
 
 -- more than any pair may cost
@@ -62,6 +64,51 @@ pub record OpenBelow (most n : ℕ) (marks rows : List ℕ) (c at : ℕ) (legs :
 pub record OpenFrom (most n : ℕ) (marks rows : List ℕ) (c at : ℕ) (legs : List ℕ) (x : ℕ) : Type 0 where
   pub asked : OpenAsked n marks rows c at
   pub below : OpenBelow most n marks rows c at legs x
+
+-- and those of the i points above c are too, whose edges to c stand from place `first` on
+pub record OpenAbove (most n : ℕ) (marks rows : List ℕ) (c at : ℕ) (legs : List ℕ) (first i : ℕ) : Type 0 where
+  pub asked : OpenAsked n marks rows c at
+  pub below : OpenBelow most n marks rows c at legs (c + 1 + i)
+  pub placed : Placed n c (c + 1) first
+  pub some : c < n
+  pub high : c + i ≤ n
+
+-- what filling them in one after the other is asked about
+pub record SinglyAsked (most n : ℕ) (marks rows : List ℕ) (c at : ℕ) (legs : List ℕ) (first from to : ℕ) : Type 0 where
+  pub above : OpenAbove most n marks rows c at legs first from
+  pub order : from ≤ to
+  pub room : c + to ≤ n
+
+-- places for four legs, and their lengths in a row
+pub record FourAsked (rows : List ℕ) (from x : ℕ) : Type 0 where
+  pub in-rows : from + 3 < length rows
+  pub in-legs : x + 3 < pointPlaces
+
+-- the leg of a point by the mark in quarter j of a byte
+abbrev pub quarterLeg : (most byte j length : ℕ) → ℕ
+quarterLeg most byte j length = cond (opens most (quarter byte j)) length far
+
+-- four legs written, by a byte of marks
+unfoldable pub fourLegs : (most byte : ℕ) (rows : List ℕ) (from : ℕ) (legs : List ℕ) (x : ℕ) → List ℕ
+fourLegs most byte rows from legs x =
+    set
+    (set
+    (set (set legs x (quarterLeg most byte 0 (getD rows from 0))) (x + 1) (quarterLeg most byte 1 (getD rows (from + 1) 0)))
+    (x + 2)
+    (quarterLeg most byte 2 (getD rows (from + 2) 0)))
+    (x + 3)
+    (quarterLeg most byte 3 (getD rows (from + 3) 0))
+
+-- what filling them in byte by byte is asked about: a byte begins with the first of them
+pub record BytesAsked (most n : ℕ) (marks rows : List ℕ) (c at : ℕ) (legs : List ℕ) (first from bytes : ℕ) : Type 0 where
+  pub above : OpenAbove most n marks rows c at legs first from
+  pub begins : 0 < bytes → (first + from) % 4 ≡ 0
+  pub room : c + (from + 4 * bytes) ≤ n
+
+-- r places on a byte begins, or there are no more
+pub record ToByte (first left r : ℕ) : Type 0 where
+  pub few : r ≤ left
+  pub begins : r < left → (first + r) % 4 ≡ 0
 
 -- what `open_legs` answers: the legs where K is empty
 pub record OpenLegs (most n : ℕ) (marks rows : List ℕ) (c at : ℕ) (legs : List ℕ) : Type 0 where

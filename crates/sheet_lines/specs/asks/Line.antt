@@ -6,6 +6,7 @@ use lib.ListN.{length}
 use Rattle.argument.specs.Verdict.{Verdict, accepted, refused}
 use Rattle.argument.specs.Line.{Struck, strikes}
 use Rattle.argument.specs.Sheet.{Place, Turn, over, onward, turn}
+use Rattle.marks.specs.Mark.{pendingMark}
 use Rattle.sheets.specs.Rules.{markingBy}
 use Rattle.sheets.specs.Sheet.{Readable}
 use Rattle.sheets.specs.asks.Walk.{Admitted, Tried}
@@ -22,6 +23,11 @@ judgedOf (judged.Refused number rec) = refused number rec
 pub record LineAsked (n : ℕ) (table rows marks sheet : List ℕ) (count i : ℕ) : Type 0 where
   pub tried : Tried n table rows marks sheet count
   pub readable : Readable sheet i
+
+-- what is asked of the lines of a sheet, which write the mark `by`
+pub record MarkingAsked (by n : ℕ) (table rows marks sheet : List ℕ) (count : ℕ) : Type 0 where
+  pub tried : Tried n table rows marks sheet count
+  pub is-mark : by ≤ pendingMark
 
 -- where the lines stand: the marks, the lines accepted, the record that has the index, the index, the highest record entered
 abbrev pub placeOf : List ℕ → (lines last index high : ℕ) → Place (List ℕ)
@@ -42,9 +48,11 @@ marksAfter p (refused number rec) = p .marks
 -- what `mark_line` ensures, which writes the mark `by`, however many lines were accepted before
 pub record TurnedAs (by n : ℕ) (table marks sheet : List ℕ) (last index high : ℕ) (r : Turned) (left : List ℕ) : Type 0 where
   pub answered : (lines : ℕ) → turnedOf (placeOf marks lines last index high) r left ≡ turn (markingBy by n table) sheet (placeOf marks lines last index high)
+  pub size : length left ≡ length marks
   pub marks-left : (lines : ℕ) → left ≡ marksAfter (placeOf marks lines last index high) (turn (markingBy by n table) sheet (placeOf marks lines last index high))
 
 -- what marking by rows that are still to be written is asked about: there is room for them
-pub record RowsAsked (n : ℕ) (table rows marks sheet : List ℕ) (count : ℕ) : Type 0 where
+pub record RowsAsked (by n : ℕ) (table rows marks sheet : List ℕ) (count : ℕ) : Type 0 where
+  pub is-mark : by ≤ pendingMark
   pub admitted : Admitted n table marks sheet count
   pub room : (n + 1) * (n + 1) ≤ length rows

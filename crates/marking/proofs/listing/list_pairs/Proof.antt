@@ -5,15 +5,16 @@ use Prim.Native.Nat.{ℕ, _*_}
 use lib.ListN.{length-replicate}
 use Rattle.endian.specs.Bytes.{whole32}
 use Rattle.lengths.specs.Instance.{fewEdges, mostEdges}
-use Rattle.marking.proofs.ListingAnswers.{Listable, tests-passed, findable-small, findable-large, refused-tests, listed-as}
+use Rattle.marks.specs.Packed.{marksOf}
+use Rattle.marking.proofs.ListingAnswers.{Listable, listable-set, findable-small, findable-large, refused-tests, listed-set}
 use borrow.Author.Needs.{needs}
 use Rattle.marking.proofs.listing.list_pairs.Statement.{statement}
 use Rattle.marking.proofs.listing.list_pairs.Tie as tie
 
 -- the tests are passed
 listable : (c : tie.After-known-told) → let s = c .before .before .before .before .before .before .before in
-    Listable (s .args .n) (whole32 (now (s .args .table))) (now (s .args .marks)) (c .before .tested .given .0 .0) (s .args .a) (s .args .b) (s .args .c)
-listable c = tests-passed _ _ _ _ _ _ (sym (c .before .before .before .test-listing .ensures) ∙ c .before .tested .given .1)
+    Listable (s .args .n) (whole32 (now (s .args .table))) (marksOf (c .before .tested .given .0 .0) (now (s .args .marks))) (c .before .tested .given .0 .0) (s .args .a) (s .args .b) (s .args .c)
+listable c = listable-set _ _ _ _ _ _ (sym (c .before .before .before .test-listing .ensures) ∙ c .before .tested .given .1)
 
 test-listing-requires : tie.Need-test-listing-requires
 test-listing-requires c κs = search needs
@@ -37,7 +38,7 @@ same-length : tie.Need-same-length
 same-length c = search needs
 
 returns-2 : tie.Need-returns-2
-returns-2 c = listed-as (listable (c .before .before .before .before .before .before .before)) (c .before .before .before .list-into .ensures)
+returns-2 c = listed-set _ _ _ _ _ _ (listable (c .before .before .before .before .before .before .before)) (c .before .before .before .list-into .ensures)
 
 slice-aggregate-list-into-2 : tie.Need-slice-aggregate-list-into-2
 slice-aggregate-list-into-2 c = search needs
@@ -49,7 +50,7 @@ same-length-2 : tie.Need-same-length-2
 same-length-2 c = search needs
 
 returns-3 : tie.Need-returns-3
-returns-3 c = listed-as (listable (c .before .before .before .before .before .before .before)) (c .before .before .before .list-into2 .ensures)
+returns-3 c = listed-set _ _ _ _ _ _ (listable (c .before .before .before .before .before .before .before)) (c .before .before .before .list-into2 .ensures)
 
 pub list-pairs-spec : {M : Type 1} → statement M
 list-pairs-spec =

@@ -46,13 +46,13 @@ enum-known-admitted : tie.Need-enum-known-admitted
 enum-known-admitted c = search needs
 
 mark-admitted-requires : tie.Need-mark-admitted-requires
-mark-admitted-requires c κs = sheet-admits _ (c .before .before .before .before .before .before .before .before .before .test-ready .ensures) (c .before .before .before .before .before .before .before .points .given .1) (c .before .before .before .before .admit .ensures ∙ ap sheetAdmission (c .before .before .before .before .before .count16 .ensures)) (c .before .before .admitted .given .1)
+mark-admitted-requires c κs = sheet-admits _ (c .before .before .before .before .before .before .before .before .before .before .before .before .before .before .args .marks .now) (c .before .before .before .before .before .before .before .before .before .before .before .before .before .before .pre) (c .before .before .before .before .before .before .before .before .before .test-ready .ensures) (c .before .before .before .before .before .before .before .points .given .1) (c .before .before .before .before .admit .ensures ∙ ap sheetAdmission (c .before .before .before .before .before .count16 .ensures)) (c .before .before .admitted .given .1)
 
 same-length-3 : tie.Need-same-length-3
 same-length-3 c = search needs
 
 returns-3 : tie.Need-returns-3
-returns-3 c = sheet-marked _ _ _ _ _ (c .before .before .before .before .before .before .before .before .before .before .before .before .test-ready .ensures) (c .before .before .before .before .before .before .before .before .before .before .points .given .1) (c .before .before .before .before .before .before .before .admit .ensures ∙ ap sheetAdmission (c .before .before .before .before .before .before .before .before .count16 .ensures)) (c .before .before .before .before .before .admitted .given .1) (c .before .before .mark-admitted .ensures)
+returns-3 c = sheet-marked _ _ _ _ _ (c .before .before .before .before .before .before .before .before .before .before .before .before .test-ready .ensures) (c .before .before .before .before .before .before .before .before .before .before .points .given .1) (c .before .before .before .before .before .before .before .admit .ensures ∙ ap sheetAdmission (c .before .before .before .before .before .before .before .before .count16 .ensures)) (c .before .before .before .before .before .admitted .given .1) (c .before .before .mark-admitted .result) (c .before .before .mark-admitted .last .1 .1 .1 .0) (c .before .before .before .before .before .before .before .before .before .before .before .before .before .before .before .before .before .pre) (c .before .before .mark-admitted .ensures)
 
 pub mark-with-spec : {M : Type 1} → statement M
 mark-with-spec =

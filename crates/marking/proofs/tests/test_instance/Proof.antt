@@ -9,7 +9,8 @@ use Rattle.lengths.specs.Edge.{edgeCount}
 use Rattle.lists.specs.Test.{allAtMost}
 use Rattle.lengths.proofs.Instances.{Admits, admitted}
 use Rattle.lengths.specs.Instance.{mostLength}
-use Rattle.marking.proofs.TestWays.{refused-points, refused-size, refused-length, refused-marks, refused-mark, passed-tests}
+use Rattle.marks.proofs.PackedSets.{marks-are, points-edges}
+use Rattle.marking.proofs.TestWays.{refused-points, refused-size, refused-length, refused-marks, passed-tests, holds-none, holds-all}
 use borrow.Author.Needs.{needs}
 use Rattle.marking.proofs.tests.test_instance.Statement.{statement}
 use Rattle.marking.proofs.tests.test_instance.Tie as tie
@@ -26,11 +27,6 @@ whole c = sym (c .before .count32 .ensures) ∙ c .if1 .left ∙ c .before .befo
 -- and no length is above the limit
 small : (c : tie.Else2) → allAtMost mostLength (whole32 (now (c .before .before .before .before .before .before .before .before .before .before .before .args .table))) ≡ true
 small c = sym (c .before .all-at-most .ensures) ∙ not-false _ (c .if2 .left)
-
--- and there are as many marks
-marked : (c : tie.Else3) → let i = c .before .before .before .before .before .before .before in
-    length (now (i .before .before .before .before .before .args .marks)) ≡ edgeCount (i .instance .given .0 .0 .points)
-marked c = c .if3 .left ∙ c .before .before .before .before .before .count .ensures
 
 admit-requires : tie.Need-admit-requires
 admit-requires c κs = search needs
@@ -61,25 +57,18 @@ returns-3 c =
     let t = c .before .before in
     refused-length _ _ _ (admits (t .before .before .before)) (whole t) (sym (c .before .all-at-most .ensures) ∙ not-true _ (c .if2 .taken))
 
+well-packed-requires : tie.Need-well-packed-requires
+well-packed-requires c κs = points-edges (admits (c .before .before .before .before .before))
+
 returns-4 : tie.Need-returns-4
 returns-4 c =
-    let t = c .before .before .before in
-    refused-marks _ _ _ (admits (t .before .before .before)) (whole t) (small (c .before)) (λ e. c .if3 .taken (e ∙ sym (t .before .before .count .ensures)))
-
-marks-within-requires : tie.Need-marks-within-requires
-marks-within-requires c κs = search needs
+    let t = c .before .before .before .before in
+    refused-marks _ _ _ (admits (t .before .before .before)) (whole t) (small (c .before .before)) (holds-none _ (admits (t .before .before .before)) (c .before .well-packed .ensures) (not-true _ (c .if3 .taken)))
 
 returns-5 : tie.Need-returns-5
 returns-5 c =
-    let m = c .before .before in
-    let t = m .before .before .before in
-    refused-mark _ _ _ (admits (t .before .before .before)) (whole t) (small (m .before)) (marked m) (sym (c .before .marks-within .ensures) ∙ not-true _ (c .if4 .taken))
-
-returns-6 : tie.Need-returns-6
-returns-6 c =
-    let m = c .before .before in
-    let t = m .before .before .before in
-    passed-tests _ _ _ (admits (t .before .before .before)) (whole t) (small (m .before)) (marked m) (sym (c .before .marks-within .ensures) ∙ not-false _ (c .if4 .left))
+    let t = c .before .before .before .before in
+    passed-tests _ _ _ (admits (t .before .before .before)) (whole t) (small (c .before .before)) (holds-all _ (admits (t .before .before .before)) (c .before .well-packed .ensures) (not-false _ (c .if3 .left))) (marks-are _ _)
 
 pub test-instance-spec : {M : Type 1} → statement M
 test-instance-spec =
@@ -94,7 +83,6 @@ test-instance-spec =
     returns-2
     all-at-most-requires
     returns-3
+    well-packed-requires
     returns-4
-    marks-within-requires
-    returns-5
-    returns-6)
+    returns-5)

@@ -1,5 +1,4 @@
 -- `marking::tests::test_ready` meets its contract: each way out has its lemma in `TestWays`. Assumes nothing.
-use mathlib.Core.Path.{sym, _∙_}
 use borrow.Author.Tests.{not-true, not-false}
 use Rattle.marking.proofs.TestWays.{ready-refused, ready-pending, ready-passed}
 use borrow.Author.Needs.{needs}
@@ -22,10 +21,10 @@ marks-within-requires : tie.Need-marks-within-requires
 marks-within-requires c κs = search needs
 
 returns-2 : tie.Need-returns-2
-returns-2 c = let k = c .before .before in ready-pending _ _ _ (k .before .before .before .test-instance .ensures) (k .before .tested .given .1) (sym (c .before .marks-within .ensures) ∙ not-true _ (c .if1 .taken))
+returns-2 c = let k = c .before .before in ready-pending _ _ _ (k .before .before .before .test-instance .ensures) (k .before .tested .given .1) (c .before .marks-within .ensures) (not-true _ (c .if1 .taken))
 
 returns-3 : tie.Need-returns-3
-returns-3 c = let k = c .before .before in ready-passed _ _ _ (k .before .before .before .test-instance .ensures) (k .before .tested .given .1) (sym (c .before .marks-within .ensures) ∙ not-false _ (c .if1 .left))
+returns-3 c = let k = c .before .before in ready-passed _ _ _ (k .before .before .before .test-instance .ensures) (k .before .tested .given .1) (c .before .marks-within .ensures) (not-false _ (c .if1 .left))
 
 pub test-ready-spec : {M : Type 1} → statement M
 test-ready-spec =

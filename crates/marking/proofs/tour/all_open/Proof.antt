@@ -4,12 +4,13 @@ use native.Mathlib.Omega.{arith}
 use borrow.Author.Tests.{not-true, not-false}
 use borrow.Author.Needs.{needs}
 use Rattle.endian.specs.Bytes.{whole16}
+use Rattle.marks.specs.Packed.{marksOf}
 use Rattle.marking.proofs.TourLoops.{first-there, tour-size, marked-on, marked-end, CheckingOpen, checking-start, struck-on, checking-on, all-opened}
 use Rattle.marking.proofs.tour.all_open.Statement.{statement}
 use Rattle.marking.proofs.tour.all_open.Tie as tie
 
 abbrev Inv-loop : tie.InvT-loop
-Inv-loop n marks tour count first from₀ i₀ from i = CheckingOpen n marks (whole16 tour) from i
+Inv-loop n marks tour count first from₀ i₀ from i = CheckingOpen n (marksOf n marks) (whole16 tour) from i
 
 abbrev μ-loop : tie.MeasureT-loop
 μ-loop n marks tour count first from₀ i₀ from i = count - i

@@ -1,6 +1,10 @@
 -- `marks::fresh::fresh_marks` meets its contract: each way out has its lemma in `FreshMarks`. Assumes nothing.
-use mathlib.Core.Path.{sym, _∙_}
+use Prim.Native.Nat.{ℕ}
+use mathlib.Core.Path.{sym, _∙_, ap}
+use lib.ListN.{replicate}
 use Rattle.lengths.proofs.Instances.{Admits, admitted}
+use Rattle.marks.specs.Mark.{openMark}
+use Rattle.marks.specs.Packed.{packed, packedBytes}
 use Rattle.marks.proofs.FreshMarks.{refused-fresh-points, refused-fresh-size, made-fresh}
 use borrow.Author.Needs.{needs}
 use Rattle.marks.proofs.fresh.fresh_marks.Statement.{statement}
@@ -22,22 +26,23 @@ enum-told c = search needs
 returns : tie.Need-returns
 returns c = refused-fresh-points (sym (c .before .before .admit .ensures) ∙ c .enum-told .given .1)
 
+size-requires : tie.Need-size-requires
+size-requires c κs = search needs
+
+returns-2 : tie.Need-returns-2
+returns-2 c = refused-fresh-size (admits (c .before .before)) (λ e. c .if1 .taken (e ∙ sym (c .before .size .ensures)))
+
 count-requires : tie.Need-count-requires
 count-requires c κs = search needs
 
-returns-2 : tie.Need-returns-2
-returns-2 c = refused-fresh-size (admits (c .before .before)) (λ e. c .if1 .taken (e ∙ sym (c .before .count .ensures)))
-
 open-all-requires : tie.Need-open-all-requires
-open-all-requires c κs = search needs
+open-all-requires c κs = let k = c .before .before in k .if1 .left ∙ k .before .size .ensures ∙ ap packedBytes (sym (c .before .count .ensures))
 
 same-length : tie.Need-same-length
 same-length c = search needs
 
 returns-3 : tie.Need-returns-3
-returns-3 c =
-    let k = c .before .before .before .before in
-    made-fresh (admits (k .before .before)) (k .if1 .left ∙ k .before .count .ensures) (c .before .before .open-all .ensures)
+returns-3 c = let d = c .before .before .before .before in let k = d .before in made-fresh (admits (k .before .before)) (k .if1 .left ∙ k .before .size .ensures) (c .before .before .open-all .ensures ∙ ap (λ (e : ℕ). packed (replicate e openMark)) (d .count .ensures))
 
 pub fresh-marks-spec : {M : Type 1} → statement M
 fresh-marks-spec =
@@ -47,8 +52,9 @@ fresh-marks-spec =
     enum-known-instance
     enum-told
     returns
-    count-requires
+    size-requires
     returns-2
+    count-requires
     open-all-requires
     same-length
     returns-3)

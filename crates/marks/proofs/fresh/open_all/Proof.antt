@@ -1,22 +1,39 @@
--- `marks::fresh::open_all` meets its contract: at the loop's head the first i marks are 1, the others as they were. Assumes nothing.
-use Prim.Native.Nat.{_-_}
+-- `marks::fresh::open_all` meets its contract: at the loop's head the first i bytes are those of open edges. Assumes nothing.
+use Prim.Native.Nat.{_-_, _*_, _<_}
+use native.Mathlib.Omega.{arith}
+use mathlib.Core.Path.{_∙_}
+use lib.ListN.{length, replicate}
+use Rattle.marks.specs.Mark.{openMark}
+use Rattle.marks.proofs.Packing.{Packing, none-packed, one-packed, all-packed}
 use borrow.Author.Needs.{needs}
-use lib.ListN.{length}
-use Rattle.marks.proofs.FreshMarks.{Opening, none-opened, one-opened, all-opened}
+use Rattle.marks.proofs.FreshMarks.{some-left, open-room, opened-byte}
 use Rattle.marks.proofs.fresh.open_all.Statement.{statement}
 use Rattle.marks.proofs.fresh.open_all.Tie as tie
 
 abbrev Inv-loop : tie.InvT-loop
-Inv-loop marks₀ i₀ marks i = Opening marks₀ marks i
+Inv-loop edges set₀ i₀ set i = Packing (replicate edges openMark) set₀ set i
 
 abbrev μ-loop : tie.MeasureT-loop
-μ-loop marks₀ i₀ marks i = length marks₀ - i
+μ-loop edges set₀ i₀ set i = length set₀ - i
+
+-- some edge is left for this byte
+left : (c : tie.In-loop Inv-loop μ-loop) → 4 * (c .before .loop .i) < c .before .before .before .args .edges
+left c = some-left _ (c .before .loop .inv .kept ∙ c .before .before .before .pre) (c .loop-test .taken)
 
 loop-holds : tie.Need-loop-holds Inv-loop μ-loop
-loop-holds c = none-opened _
+loop-holds c = none-packed _ _
 
-slice-write-marks : tie.Need-slice-write-marks Inv-loop μ-loop
-slice-write-marks c = search needs
+mul-open-byte : tie.Need-mul-open-byte Inv-loop μ-loop
+mul-open-byte c = record { fits = omega (arith, left c, c .before .before .before .fits .edges) }
+
+sub-open-byte : tie.Need-sub-open-byte Inv-loop μ-loop
+sub-open-byte c = omega (arith, left c)
+
+open-byte-requires : tie.Need-open-byte-requires Inv-loop μ-loop
+open-byte-requires c κs = omega (arith, left c)
+
+slice-write-set : tie.Need-slice-write-set Inv-loop μ-loop
+slice-write-set c = search needs
 
 add-i : tie.Need-add-i Inv-loop μ-loop
 add-i c = search needs
@@ -25,13 +42,13 @@ loop-less : tie.Need-loop-less Inv-loop μ-loop
 loop-less c = search needs
 
 loop-again : tie.Need-loop-again Inv-loop μ-loop
-loop-again c = one-opened (c .before .loop .inv) (c .loop-test .taken)
+loop-again c = one-packed (c .before .before .loop .inv) (c .before .loop-test .taken) (c .open-byte .ensures ∙ opened-byte _ _ (omega (arith, left (c .before))))
 
 same-length : tie.Need-same-length Inv-loop μ-loop
 same-length c = search needs
 
 returns : tie.Need-returns Inv-loop μ-loop
-returns c = all-opened (c .before .loop .inv) (c .loop-test .left)
+returns c = all-packed (c .before .loop .inv) (open-room _ (c .before .before .before .pre)) (c .loop-test .left)
 
 pub open-all-spec : {M : Type 1} → statement M
 open-all-spec =
@@ -40,7 +57,10 @@ open-all-spec =
     Inv-loop
     μ-loop
     loop-holds
-    slice-write-marks
+    mul-open-byte
+    sub-open-byte
+    open-byte-requires
+    slice-write-set
     add-i
     loop-less
     loop-again

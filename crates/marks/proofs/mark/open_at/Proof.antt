@@ -1,20 +1,25 @@
--- `marks::mark::open_at` meets its contract. Assumes nothing.
-use borrow.Author.Tests.{ne-eqb}
-use Rattle.marks.specs.Mark.{markAt}
+-- `marks::mark::open_at` meets its contract: the mark stands in its two bits. Assumes nothing.
+use mathlib.Core.Path.{sym, _∙_, ap}
+use native.Mathlib.Omega.{arith}
+use Rattle.marks.specs.Mark.{markAt, opens}
+use Rattle.marks.proofs.PackedSets.{quarters-at}
 use borrow.Author.Needs.{needs}
 use Rattle.marks.proofs.mark.open_at.Statement.{statement}
 use Rattle.marks.proofs.mark.open_at.Tie as tie
 
-shared-slice-read-mark : tie.Need-shared-slice-read-mark
-shared-slice-read-mark c = search needs
+shared-slice-read-quarter : tie.Need-shared-slice-read-quarter
+shared-slice-read-quarter c = omega (arith, c .before .before .pre)
+
+quarter-requires : tie.Need-quarter-requires
+quarter-requires c κs = search needs
+
+opens-requires : tie.Need-opens-requires
+opens-requires c κs = search needs
 
 returns : tie.Need-returns
 unfolding markAt
-returns c = rw (c .if1 .taken)
-
-returns-2 : tie.Need-returns-2
-unfolding markAt
-returns-2 c = rw (ne-eqb _ _ (c .if1 .left))
+returns c = c .opens .ensures ∙ ap (opens _) (c .before .quarter .ensures ∙ sym (quarters-at _ _))
 
 pub open-at-spec : {M : Type 1} → statement M
-open-at-spec = tie.close (tie.spec shared-slice-read-mark returns returns-2)
+open-at-spec =
+    tie.close (tie.spec shared-slice-read-quarter quarter-requires opens-requires returns)

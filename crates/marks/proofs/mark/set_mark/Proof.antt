@@ -1,24 +1,35 @@
 -- `marks::mark::set_mark` meets its contract: one byte is set, at the place of the edge. Assumes nothing.
-use Prim.Native.Nat.{ℕ}
-use mathlib.Core.Path.{ap}
-use lib.ListN.{set}
-use Rattle.marks.specs.Mark.{setMark, markIn}
+use native.Mathlib.Omega.{arith}
+use Rattle.marks.proofs.PackedMarks.{edge-inside, edge-marked}
 use borrow.Author.Needs.{needs}
 use Rattle.marks.proofs.mark.set_mark.Statement.{statement}
 use Rattle.marks.proofs.mark.set_mark.Tie as tie
 
 place-requires : tie.Need-place-requires
-place-requires c κs = search needs
+place-requires c κs = c .before .pre .asked .is-edge
 
-slice-write-marks : tie.Need-slice-write-marks
-slice-write-marks c = search needs
+slice-read-put-quarter : tie.Need-slice-read-put-quarter
+slice-read-put-quarter c = omega (arith, edge-inside _ _ (c .before .before .before .pre .asked) (c .before .place .ensures .at))
+
+put-quarter-requires : tie.Need-put-quarter-requires
+put-quarter-requires c κs = record { place = omega arith; two-bits = omega (arith, c .before .before .before .pre .is-mark) }
+
+slice-write-set : tie.Need-slice-write-set
+slice-write-set c = omega (arith, edge-inside _ _ (c .before .before .before .before .pre .asked) (c .before .before .place .ensures .at))
 
 same-length : tie.Need-same-length
 same-length c = search needs
 
 returns : tie.Need-returns
-unfolding markIn setMark
-returns c = ap (λ (i : ℕ). set (c .before .before .args .marks .now) i (c .before .before .args .mark)) (c .place .ensures .at)
+returns c = edge-marked _ _ (c .before .before .before .before .pre .asked) (c .before .before .place .ensures .at) (c .before .before .before .before .pre .is-mark) (c .put-quarter .ensures)
 
 pub set-mark-spec : {M : Type 1} → statement M
-set-mark-spec = tie.close (tie.spec place-requires slice-write-marks same-length returns)
+set-mark-spec =
+    tie.close
+    (tie.spec
+    place-requires
+    slice-read-put-quarter
+    put-quarter-requires
+    slice-write-set
+    same-length
+    returns)

@@ -1,8 +1,10 @@
--- `marks::pending::settle` meets its contract: each way out has its lemma in `PendingMarks`. Assumes nothing.
+-- `marks::pending::settle` meets its contract: each way out has its lemma in `Settling`. Assumes nothing.
 use mathlib.Core.Path.{sym, _∙_}
+use native.Mathlib.Omega.{arith}
 use borrow.Author.Tests.{not-true, not-false}
 use Rattle.lengths.proofs.Instances.{Admits, admitted}
-use Rattle.marks.proofs.PendingMarks.{refused-points, refused-size, refused-bytes, refused-nothing, done}
+use Rattle.marks.proofs.PackedSets.{points-edges}
+use Rattle.marks.proofs.Settling.{refused-points, refused-set, refused-nothing, done}
 use borrow.Author.Needs.{needs}
 use Rattle.marks.proofs.pending.settle.Statement.{statement}
 use Rattle.marks.proofs.pending.settle.Tie as tie
@@ -21,40 +23,34 @@ enum-told : tie.Need-enum-told
 enum-told c = search needs
 
 returns : tie.Need-returns
-returns c = refused-points (sym (c .before .before .admit .ensures) ∙ c .enum-told .given .1)
+returns c = refused-points _ (sym (c .before .before .admit .ensures) ∙ c .enum-told .given .1)
 
-count-requires : tie.Need-count-requires
-count-requires c κs = search needs
-
-returns-2 : tie.Need-returns-2
-returns-2 c = refused-size (admits (c .before .before)) (λ e. c .if1 .taken (e ∙ sym (c .before .count .ensures)))
-
-marks-within-requires : tie.Need-marks-within-requires
-marks-within-requires c κs = search needs
+well-packed-requires : tie.Need-well-packed-requires
+well-packed-requires c κs = points-edges (admits (c .before))
 
 same-length : tie.Need-same-length
 same-length c = search needs
 
-returns-3 : tie.Need-returns-3
-returns-3 c = let k = c .before .before .before in refused-bytes (admits (k .before .before)) (k .if1 .left ∙ k .before .count .ensures) (sym (c .before .marks-within .ensures) ∙ not-true _ (c .if2 .taken))
+returns-2 : tie.Need-returns-2
+returns-2 c = refused-set _ (admits (c .before .before .before)) (c .before .well-packed .ensures) (not-true _ (c .if1 .taken))
 
-marks-within-requires-2 : tie.Need-marks-within-requires-2
-marks-within-requires-2 c κs = search needs
+marks-within-requires : tie.Need-marks-within-requires
+marks-within-requires c κs = search needs
 
 same-length-2 : tie.Need-same-length-2
 same-length-2 c = search needs
 
-returns-4 : tie.Need-returns-4
-returns-4 c = let m = c .before .before .before in let k = m .before .before .before in refused-nothing (admits (k .before .before)) (k .if1 .left ∙ k .before .count .ensures) (sym (m .before .marks-within .ensures) ∙ not-false _ (m .if2 .left)) (sym (c .before .marks-within2 .ensures) ∙ c .if3 .taken)
+returns-3 : tie.Need-returns-3
+returns-3 c = let k = c .before .before .before in refused-nothing _ (admits (k .before .before .before)) (k .before .well-packed .ensures) (not-false _ (k .if1 .left)) (c .before .marks-within .ensures) (c .if2 .taken)
 
 settle-all-requires : tie.Need-settle-all-requires
-settle-all-requires c κs = search needs
+settle-all-requires c κs = omega (arith, c .before .before .before .before .before .before .before .before .before .before .before .before .pre)
 
 same-length-3 : tie.Need-same-length-3
 same-length-3 c = search needs
 
-returns-5 : tie.Need-returns-5
-returns-5 c = let d = c .before .before .before .before in let m = d .before .before .before in let k = m .before .before .before in done (admits (k .before .before)) (k .if1 .left ∙ k .before .count .ensures) (sym (m .before .marks-within .ensures) ∙ not-false _ (m .if2 .left)) (sym (d .before .marks-within2 .ensures) ∙ d .if3 .left) (c .before .before .settle-all .ensures)
+returns-4 : tie.Need-returns-4
+returns-4 c = let d = c .before .before .before .before in let k = d .before .before .before in done _ (admits (k .before .before .before)) (k .before .well-packed .ensures) (not-false _ (k .if1 .left)) (omega (arith, k .before .before .before .before .before .before .before .before .pre)) (d .before .marks-within .ensures) (d .if2 .left) (c .before .before .settle-all .ensures)
 
 pub settle-spec : {M : Type 1} → statement M
 settle-spec =
@@ -64,14 +60,12 @@ settle-spec =
     enum-known-instance
     enum-told
     returns
-    count-requires
+    well-packed-requires
+    same-length
     returns-2
     marks-within-requires
-    same-length
-    returns-3
-    marks-within-requires-2
     same-length-2
-    returns-4
+    returns-3
     settle-all-requires
     same-length-3
-    returns-5)
+    returns-4)

@@ -1,28 +1,28 @@
--- `marks::pending::settle_all` meets its contract: at the loop's head the first i marks are settled, the others as they were. Assumes nothing.
+-- `marks::pending::settle_all` meets its contract: at the loop's head the first i bytes are settled, the others as they were. Assumes nothing.
 use Prim.Native.Nat.{_-_}
 use lib.ListN.{length}
-use Rattle.marks.proofs.PendingMarks.{Settling, none-settled, one-settled, all-settled}
 use borrow.Author.Needs.{needs}
+use Rattle.marks.proofs.Settling.{Settling, none-settled, one-settled, all-settled}
 use Rattle.marks.proofs.pending.settle_all.Statement.{statement}
 use Rattle.marks.proofs.pending.settle_all.Tie as tie
 
 abbrev Inv-loop : tie.InvT-loop
-Inv-loop marks₀ to i₀ marks i = Settling to marks₀ marks i
+Inv-loop set₀ to i₀ set i = Settling to set₀ set i
 
 abbrev μ-loop : tie.MeasureT-loop
-μ-loop marks₀ to i₀ marks i = length marks₀ - i
+μ-loop set₀ to i₀ set i = length set₀ - i
 
 loop-holds : tie.Need-loop-holds Inv-loop μ-loop
 loop-holds c = none-settled _ _
 
-slice-read-settle-mark : tie.Need-slice-read-settle-mark Inv-loop μ-loop
-slice-read-settle-mark c = search needs
+slice-read-settle-byte : tie.Need-slice-read-settle-byte Inv-loop μ-loop
+slice-read-settle-byte c = search needs
 
-settle-mark-requires : tie.Need-settle-mark-requires Inv-loop μ-loop
-settle-mark-requires c κs = search needs
+settle-byte-requires : tie.Need-settle-byte-requires Inv-loop μ-loop
+settle-byte-requires c κs = search needs
 
-slice-write-marks : tie.Need-slice-write-marks Inv-loop μ-loop
-slice-write-marks c = search needs
+slice-write-set : tie.Need-slice-write-set Inv-loop μ-loop
+slice-write-set c = search needs
 
 add-i : tie.Need-add-i Inv-loop μ-loop
 add-i c = search needs
@@ -31,7 +31,7 @@ loop-less : tie.Need-loop-less Inv-loop μ-loop
 loop-less c = search needs
 
 loop-again : tie.Need-loop-again Inv-loop μ-loop
-loop-again c = one-settled (c .before .before .before .loop .inv) (c .before .before .loop-test .taken) (c .settle-mark .ensures)
+loop-again c = one-settled (c .before .before .before .loop .inv) (c .before .before .loop-test .taken) (c .settle-byte .ensures)
 
 same-length : tie.Need-same-length Inv-loop μ-loop
 same-length c = search needs
@@ -46,9 +46,9 @@ settle-all-spec =
     Inv-loop
     μ-loop
     loop-holds
-    slice-read-settle-mark
-    settle-mark-requires
-    slice-write-marks
+    slice-read-settle-byte
+    settle-byte-requires
+    slice-write-set
     add-i
     loop-less
     loop-again

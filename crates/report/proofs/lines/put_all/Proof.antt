@@ -1,16 +1,15 @@
 -- `report::lines::put_all` meets its contract: line one, the strikes, the last line. Assumes nothing.
-use native.Mathlib.Omega.{arith}
 use denote.Ref.{now}
 use Rattle.report.specs.Lines.{allLines}
 use Rattle.text.proofs.Writing.{room-1, room-2, room-3, wrote-three}
-use Rattle.lengths.proofs.Edges.{edges-few}
+use Rattle.marks.specs.Packed.{marksOf}
 use Rattle.report.proofs.Bounds.{all-room, strikes-asked, verdict-room, verdict-wrote}
 use borrow.Author.Needs.{needs}
 use Rattle.report.proofs.lines.put_all.Statement.{statement}
 use Rattle.report.proofs.lines.put_all.Tie as tie
 
 open-edges-requires : tie.Need-open-edges-requires
-open-edges-requires c κs = omega (arith, c .before .before .pre .marked, edges-few _ (c .before .before .pre .few))
+open-edges-requires c κs = let p = c .before .before .pre in record { few = p .few; whole = p .marked }
 
 put-points-requires : tie.Need-put-points-requires
 unfolding allLines
@@ -30,7 +29,7 @@ put-verdict-requires c κs =
     let p = t .before .before .before .before in
     let o = p .before .before in
     let s = o .before .before .before in
-    verdict-room _ _ (now (s .args .marks)) (o .open-edges .ensures .counted) (room-3 (all-room (s .pre) (search needs) (search needs)) (p .put-points .ensures) (t .put-strikes .ensures))
+    verdict-room _ _ (marksOf (s .args .n) (now (s .args .marks))) (o .open-edges .ensures .counted) (room-3 (all-room (s .pre) (search needs) (search needs)) (p .put-points .ensures) (t .put-strikes .ensures))
 
 same-length : tie.Need-same-length
 same-length c = search needs
@@ -43,7 +42,7 @@ returns c =
     let p = t .before .before .before .before in
     let o = p .before .before in
     let s = o .before .before .before in
-    wrote-three (p .put-points .ensures) (t .put-strikes .ensures) (verdict-wrote (s .args .number) (s .args .rec) (now (s .args .marks)) (o .open-edges .ensures .counted) (v .put-verdict .ensures))
+    wrote-three (p .put-points .ensures) (t .put-strikes .ensures) (verdict-wrote (s .args .number) (s .args .rec) (marksOf (s .args .n) (now (s .args .marks))) (o .open-edges .ensures .counted) (v .put-verdict .ensures))
 
 pub put-all-spec : {M : Type 1} → statement M
 put-all-spec =

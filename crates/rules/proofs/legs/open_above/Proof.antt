@@ -1,95 +1,60 @@
--- `rules::legs::open_above` meets its contract: the invariant is `OpeningAbove`, that the legs below c + 1 + i are filled in. Assumes nothing.
-use Prim.Native.Nat.{_-_}
-use Rattle.rules.proofs.LegLoops.{OpeningAbove, above-none, above-start, above-inside, above-on, above-end}
+-- `rules::legs::open_above` meets its contract: the points up to the first whole byte, those of whole bytes, and those that are left. Assumes nothing.
+use mathlib.Core.Path.{refl}
+use native.Mathlib.Omega.{arith}
+use Rattle.rules.proofs.LegLoops.{above-none, above-start, bytes-begin, above-end}
 use borrow.Author.Needs.{needs}
 use Rattle.rules.proofs.legs.open_above.Statement.{statement}
 use Rattle.rules.proofs.legs.open_above.Tie as tie
 
-abbrev Inv-loop : tie.InvT-loop
-Inv-loop n marks most c rows at legs₀ first left place i₀ legs i = OpeningAbove most n marks rows c at legs place i
-
-abbrev μ-loop : tie.MeasureT-loop
-μ-loop n marks most c rows at legs₀ first left place i₀ legs i = n - c - i
-
-returns : tie.Need-returns Inv-loop μ-loop
+returns : tie.Need-returns
 returns c = above-none (c .before .before .before .pre) (c .if1 .taken)
 
-add-first : tie.Need-add-first Inv-loop μ-loop
-add-first c = search needs
-
-sub-left : tie.Need-sub-left Inv-loop μ-loop
+sub-left : tie.Need-sub-left
 sub-left c = search needs
 
-add-place : tie.Need-add-place Inv-loop μ-loop
+add-place : tie.Need-add-place
 add-place c = search needs
 
-place-requires : tie.Need-place-requires Inv-loop μ-loop
+place-requires : tie.Need-place-requires
 place-requires c κs = search needs
 
-loop-holds : tie.Need-loop-holds Inv-loop μ-loop
-loop-holds c = above-start (c .before .before .before .before .pre) (c .before .if1 .left) (c .place .ensures)
+to-byte-requires : tie.Need-to-byte-requires
+to-byte-requires c κs = search needs
 
-add-x : tie.Need-add-x Inv-loop μ-loop
-add-x c = search needs
+sub-bytes : tie.Need-sub-bytes
+sub-bytes c = search needs
 
-add-open-at : tie.Need-add-open-at Inv-loop μ-loop
-add-open-at c = search needs
+open-singly-requires : tie.Need-open-singly-requires
+open-singly-requires c κs = let p = c .before .before in let s = p .before .before .before .before .pre in record { above = above-start s (p .before .if1 .left) (p .place .ensures); order = omega arith; room = omega (arith, c .before .to-byte .ensures .few, p .before .if1 .left) }
 
-open-at-requires : tie.Need-open-at-requires Inv-loop μ-loop
-open-at-requires c κs = above-inside (c .before .loop .inv) (c .loop-test .taken)
+open-bytes-requires : tie.Need-open-bytes-requires
+open-bytes-requires c κs = let t = c .before .before .before in record { above = c .before .open-singly .ensures; begins = bytes-begin (t .to-byte .ensures) refl; room = omega (arith, t .to-byte .ensures .few, t .before .before .if1 .left) }
 
-add-open-leg : tie.Need-add-open-leg Inv-loop μ-loop
-add-open-leg c = search needs
+mul-open-singly : tie.Need-mul-open-singly
+mul-open-singly c = search needs
 
-mul-open-leg : tie.Need-mul-open-leg Inv-loop μ-loop
-mul-open-leg c = search needs
+add-open-singly : tie.Need-add-open-singly
+add-open-singly c = search needs
 
-shared-slice-read-open-leg : tie.Need-shared-slice-read-open-leg Inv-loop μ-loop
-shared-slice-read-open-leg c = search needs
+open-singly-requires-2 : tie.Need-open-singly-requires-2
+open-singly-requires-2 c κs = let t = c .before .before .before .before .before in record { above = c .before .open-bytes .ensures; order = omega (arith, t .to-byte .ensures .few); room = omega (arith, t .before .before .if1 .left) }
 
-open-leg-requires : tie.Need-open-leg-requires Inv-loop μ-loop
-open-leg-requires c κs = search needs
-
-mul-legs : tie.Need-mul-legs Inv-loop μ-loop
-mul-legs c = search needs
-
-element-write-legs : tie.Need-element-write-legs Inv-loop μ-loop
-element-write-legs c = search needs
-
-add-i : tie.Need-add-i Inv-loop μ-loop
-add-i c = search needs
-
-loop-less : tie.Need-loop-less Inv-loop μ-loop
-loop-less c = search needs
-
-loop-again : tie.Need-loop-again Inv-loop μ-loop
-loop-again c = above-on (c .before .before .before .before .loop .inv) (c .before .before .before .loop-test .taken) (c .before .before .open-at .ensures) (c .open-leg .ensures)
-
-returns-2 : tie.Need-returns-2 Inv-loop μ-loop
-returns-2 c = above-end (c .before .loop .inv) (c .loop-test .left)
+returns-2 : tie.Need-returns-2
+returns-2 c = above-end (c .open-singly2 .ensures) (omega arith)
 
 pub open-above-spec : {M : Type 1} → statement M
 open-above-spec =
     tie.close
     (tie.spec
-    Inv-loop
-    μ-loop
     returns
-    add-first
     sub-left
     add-place
     place-requires
-    loop-holds
-    add-x
-    add-open-at
-    open-at-requires
-    add-open-leg
-    mul-open-leg
-    shared-slice-read-open-leg
-    open-leg-requires
-    mul-legs
-    element-write-legs
-    add-i
-    loop-less
-    loop-again
+    to-byte-requires
+    sub-bytes
+    open-singly-requires
+    open-bytes-requires
+    mul-open-singly
+    add-open-singly
+    open-singly-requires-2
     returns-2)

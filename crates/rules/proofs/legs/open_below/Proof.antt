@@ -1,19 +1,30 @@
 -- `rules::legs::open_below` meets its contract: the invariant is `OpeningBelow`, that the legs below x are filled in and `next` is one more than the place of xc. Assumes nothing.
-use Prim.Native.Nat.{_-_}
+use Prim.Native.Nat.{_-_, _<_}
+use mathlib.Core.Path.{sym, _∙_}
 use native.Mathlib.Omega.{arith}
+use Rattle.lengths.specs.Edge.{edgeCount}
+use Rattle.marks.specs.Packed.{marksOf}
+use Rattle.marks.proofs.PackedMarks.{held-inside, held-open}
 use Rattle.rules.proofs.LegLoops.{OpeningBelow, below-start, below-some, below-inside, below-small, below-on, below-end}
 use borrow.Author.Needs.{needs}
 use Rattle.rules.proofs.legs.open_below.Statement.{statement}
 use Rattle.rules.proofs.legs.open_below.Tie as tie
 
 abbrev Inv-loop : tie.InvT-loop
-Inv-loop n marks most c rows at legs₀ size last next₀ x₀ legs next x = OpeningBelow most n marks rows c at legs next x
+Inv-loop n marks most c rows at legs₀ size last next₀ step₀ x₀ legs next step x = OpeningBelow most n (marksOf n marks) rows c at legs next step x
 
 abbrev μ-loop : tie.MeasureT-loop
-μ-loop n marks most c rows at legs₀ size last next₀ x₀ legs next x = c - x
+μ-loop n marks most c rows at legs₀ size last next₀ step₀ x₀ legs next step x = c - x
+
+-- the mark of xc stands among those of n points
+place : (c : tie.In-loop Inv-loop μ-loop) → c .before .loop .next - 1 < edgeCount (c .before .before .before .before .args .n)
+place c = rw (sym (c .before .loop .inv .asked .marked)) (below-inside (c .before .loop .inv) (c .loop-test .taken))
 
 sub-next : tie.Need-sub-next Inv-loop μ-loop
 sub-next c = search needs
+
+sub-step : tie.Need-sub-step Inv-loop μ-loop
+sub-step c = search needs
 
 loop-holds : tie.Need-loop-holds Inv-loop μ-loop
 loop-holds c = below-start (c .before .before .pre)
@@ -22,7 +33,7 @@ sub-open-at : tie.Need-sub-open-at Inv-loop μ-loop
 sub-open-at c = omega (arith, below-some (c .before .loop .inv) (c .loop-test .taken))
 
 open-at-requires : tie.Need-open-at-requires Inv-loop μ-loop
-open-at-requires c κs = below-inside (c .before .loop .inv) (c .loop-test .taken)
+open-at-requires c κs = held-inside _ _ (c .before .loop .inv .asked .marked) (place c)
 
 add-open-leg : tie.Need-add-open-leg Inv-loop μ-loop
 add-open-leg c = search needs
@@ -42,11 +53,8 @@ mul-legs c = search needs
 element-write-legs : tie.Need-element-write-legs Inv-loop μ-loop
 element-write-legs c = search needs
 
-sub-next-2 : tie.Need-sub-next-2 Inv-loop μ-loop
-sub-next-2 c = search needs
-
-sub-next-3 : tie.Need-sub-next-3 Inv-loop μ-loop
-sub-next-3 c = search needs
+sub-step-2 : tie.Need-sub-step-2 Inv-loop μ-loop
+sub-step-2 c = search needs
 
 add-next : tie.Need-add-next Inv-loop μ-loop
 add-next c = omega (arith, below-small (c .before .before .before .before .loop .inv) (c .before .before .before .loop-test .taken))
@@ -58,7 +66,7 @@ loop-less : tie.Need-loop-less Inv-loop μ-loop
 loop-less c = search needs
 
 loop-again : tie.Need-loop-again Inv-loop μ-loop
-loop-again c = below-on (c .before .before .before .before .loop .inv) (c .before .before .before .loop-test .taken) (c .before .before .open-at .ensures) (c .open-leg .ensures)
+loop-again c = below-on (c .before .before .before .before .loop .inv) (c .before .before .before .loop-test .taken) (c .before .before .open-at .ensures ∙ held-open _ _ (c .before .before .before .before .loop .inv .asked .marked) (place (c .before .before .before)) _) (c .open-leg .ensures)
 
 returns : tie.Need-returns Inv-loop μ-loop
 returns c = below-end (c .before .loop .inv) (c .loop-test .left)
@@ -70,6 +78,7 @@ open-below-spec =
     Inv-loop
     μ-loop
     sub-next
+    sub-step
     loop-holds
     sub-open-at
     open-at-requires
@@ -79,8 +88,7 @@ open-below-spec =
     open-leg-requires
     mul-legs
     element-write-legs
-    sub-next-2
-    sub-next-3
+    sub-step-2
     add-next
     add-x
     loop-less

@@ -3,6 +3,7 @@
 use Prim.Native.Nat.{_-_}
 use Rattle.endian.specs.Bytes.{whole32}
 use Rattle.rules.proofs.LegLoops.{open-start}
+use Rattle.marks.specs.Packed.{marksOf}
 use Rattle.search.proofs.Preparing.{Taking, take-open, take-start, take-edge, take-on, take-end}
 use borrow.Author.Needs.{needs}
 use Rattle.search.proofs.split.prepare.Statement.{statement}
@@ -10,7 +11,7 @@ use Rattle.search.proofs.split.prepare.Tie as tie
 
 abbrev Inv-loop : tie.InvT-loop
 Inv-loop n table rows marks c legs₀ from to count at bound₀ i₀ legs bound i =
-    Taking n (whole32 table) rows marks (record { from = from; to = to; count = count }) c legs bound i
+    Taking n (whole32 table) rows (marksOf n marks) (record { from = from; to = to; count = count }) c legs bound i
 
 abbrev μ-loop : tie.MeasureT-loop
 μ-loop n table rows marks c legs₀ from to count at bound₀ i₀ legs bound i = count - i

@@ -9,6 +9,7 @@ use borrow.Fn.Kinds.{In}
 use borrow.Fn.PlainCycle.{Measures, is, falls, and}
 use Rattle.endian.specs.Bytes.{whole16, whole32}
 use Rattle.argument.specs.Record.{records}
+use Rattle.marks.specs.Packed.{marksOf}
 use Rattle.sheets.proofs.Walking.{Following, chain-split, follow-start, follow-search, follow-few, follow-ends, follow-stops, follow-case, follow-case-stops, follow-falls, follow-on, close-too-deep, close-chain, close-walks, close-three-opt-asked, close-settled, close-no-moves, close-no-saving}
 use Rattle.sheets.proofs.walk.chain.Reads as chain
 use Rattle.sheets.proofs.walk.chain.Kinds as chain-kinds
@@ -55,7 +56,7 @@ close-case-calls t = (chain-below t, chain.Post, close-by-three-opt-reads.Asked,
 
 abbrev chain-Inv-loop : chain-lts.InvT-loop
 chain-Inv-loop n table rows marks sheet count k left i c first legs bound centre candidates rank x₀ y₀ last₀ index₀ high₀ x y last index high =
-    Following n (whole32 table) rows marks (whole16 sheet) count k left i c first legs candidates rank bound centre x y last index high
+    Following n (whole32 table) rows (marksOf n marks) (whole16 sheet) count k left i c first legs candidates rank bound centre x y last index high
 
 abbrev chain-μ-loop : chain-lts.MeasureT-loop
 chain-μ-loop n table rows marks sheet count k left i c first legs bound centre candidates rank x₀ y₀ last₀ index₀ high₀ x y last index high =

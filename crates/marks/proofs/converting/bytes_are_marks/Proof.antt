@@ -1,18 +1,19 @@
--- `marks::mark::marks_within` meets its contract: what is found so far and the test of what is left are the test of all. Assumes nothing.
+-- `marks::converting::bytes_are_marks` meets its contract: what is found so far and the test of what is left are the test of all. Assumes nothing.
 use Prim.Native.Nat.{_-_}
 use native.Mathlib.Omega.{arith}
 use mathlib.Core.Path.{refl}
-use borrow.Author.Needs.{needs}
 use lib.ListN.{length}
+use borrow.Author.Needs.{needs}
 use Rattle.lengths.proofs.Limits.{Limiting, limiting-start, limiting-on, limiting-done}
-use Rattle.marks.proofs.mark.marks_within.Statement.{statement}
-use Rattle.marks.proofs.mark.marks_within.Tie as tie
+use Rattle.marks.specs.Mark.{pendingMark}
+use Rattle.marks.proofs.converting.bytes_are_marks.Statement.{statement}
+use Rattle.marks.proofs.converting.bytes_are_marks.Tie as tie
 
 abbrev Inv-loop : tie.InvT-loop
-Inv-loop marks most within₀ i₀ within i = Limiting most marks within i
+Inv-loop bytes are₀ i₀ are i = Limiting pendingMark bytes are i
 
 abbrev μ-loop : tie.MeasureT-loop
-μ-loop marks most within₀ i₀ within i = length marks - i
+μ-loop bytes are₀ i₀ are i = length bytes - i
 
 loop-holds : tie.Need-loop-holds Inv-loop μ-loop
 loop-holds c = limiting-start _ _
@@ -32,15 +33,7 @@ loop-again c = limiting-on (c .before .before .before .loop .inv) (c .before .be
 returns : tie.Need-returns Inv-loop μ-loop
 returns c = limiting-done (c .before .loop .inv) (c .loop-test .left)
 
-pub marks-within-spec : {M : Type 1} → statement M
-marks-within-spec =
+pub bytes-are-marks-spec : {M : Type 1} → statement M
+bytes-are-marks-spec =
     tie.close
-    (tie.spec
-    Inv-loop
-    μ-loop
-    loop-holds
-    shared-slice-read-if1
-    add-i
-    loop-less
-    loop-again
-    returns)
+    (tie.spec Inv-loop μ-loop loop-holds shared-slice-read-if1 add-i loop-less loop-again returns)

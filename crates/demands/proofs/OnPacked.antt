@@ -1,0 +1,218 @@
+-- PAPER 4: each operation on the packed set of a byte set answers what it answers on the byte set, and leaves the packed set of what that leaves,
+-- whatever number of points the call states; and converting there and back, and back and there, changes nothing. Assumes nothing.
+use Prim.Native.Nat.{ℕ, suc, _≤_, _<_}
+use mathlib.Core.Path.{_≡_, refl, sym, _∙_, ap, subst}
+use mathlib.Core.Bool.{Bool, true, false}
+use mathlib.Core.Logic.{⊎-elim}
+use mathlib.Core.List.{List, []}
+use native.Mathlib.Omega.{arith}
+use native.Mathlib.Decide.{ℕ-discrete}
+use lib.Dec.{eqb}
+use lib.ListN.{length}
+use borrow.Author.Tests.{eq-eqb, ne-eqb}
+use Rattle.lengths.specs.Edge.{edgeCount}
+use Rattle.lengths.specs.Instance.{leastPoints, inRange, mostLength}
+use Rattle.lengths.proofs.Edges.{edgeCount-tri, tri-suc, tri-mono, three-way}
+use Rattle.lengths.proofs.Instances.{in-range}
+use Rattle.lists.specs.Test.{allAtMost, unless}
+use Rattle.marks.specs.Converting.{isByteSet, packAnswer, packLeft, unpackAnswer, unpackLeft}
+use Rattle.marks.specs.declared.converting.Converted.{Converted}
+use Rattle.marks.specs.declared.converting.Converted.the-variants as converted
+use Rattle.marks.specs.Fresh.{freshAnswer, freshSetAnswer, freshLeft, freshSetLeft}
+use Rattle.marks.specs.declared.fresh.Fresh.{Fresh}
+use Rattle.marks.specs.declared.fresh.Fresh.the-variants as fresh
+use Rattle.marks.specs.Packed.{ByteSet, packedBytes, packedSize, packed, wellPacked, marksOf, repacked}
+use Rattle.marks.specs.Pending.{settledAnswer, settledLeft, settledSetAnswer, settledSet}
+use Rattle.marks.specs.declared.pending.Settled.{Settled}
+use Rattle.marks.specs.declared.pending.Settled.the-variants as settled
+use Rattle.marks.proofs.PackedSets.{packed-length, well-packed, marks-none, marks-size, marks-are, packed-marks, repacked-same, packed-is-well, marks-packed, some-edges}
+use Rattle.marking.proofs.MarkingSheets.{packedResult}
+use Rattle.marking.specs.Listing.{listTested, listed, listLeft}
+use Rattle.marking.specs.Mark.{turnedDown, markTested, markBy, repack, markPackedBy}
+use Rattle.marking.specs.Tests.{tested, untilPending, ready}
+use Rattle.marking.specs.Tour.{checkTested, tourChecked}
+use Rattle.marking.specs.declared.tests.Tested.{Tested}
+use Rattle.marking.specs.declared.tests.Tested.the-variants.{Refused}
+
+-- n points have fewer bytes than more points: four edges are at least one byte more
+packed-size-rises : (m n : ℕ) → leastPoints ≤ m → m < n → packedSize m < packedSize n
+unfolding packedBytes
+packed-size-rises m n h l = omega (arith, edgeCount-tri m, edgeCount-tri n, tri-suc m, tri-mono (suc m) n l)
+
+packed-size-injective : (m n : ℕ) → leastPoints ≤ m → leastPoints ≤ n → packedSize m ≡ packedSize n → m ≡ n
+packed-size-injective m n h g e =
+    ⊎-elim
+    (λ l. absurd (omega (arith, packed-size-rises m n h l)))
+    (⊎-elim (λ l. absurd (omega (arith, packed-size-rises n m g l))) (λ q. q))
+    (three-way m n)
+
+-- how a call that states n meets the packed set of marks: n is out of the limits, or the set's own, or another, for which both sets have a wrong size
+data Meeting (n : ℕ) (bytes : List ℕ) : Type 0 where
+  outside : inRange n ≡ false → Meeting n bytes
+  stated : wellPacked n (packed bytes) ≡ true → marksOf n (packed bytes) ≡ bytes → Meeting n bytes
+  other : inRange n ≡ true → eqb (length (packed bytes)) (packedSize n) ≡ false → eqb (length bytes) (edgeCount n) ≡ false →
+      eqb 0 (edgeCount n) ≡ false → marksOf n (packed bytes) ≡ [] → Meeting n bytes
+
+meet : {p : ℕ} {bytes : List ℕ} → leastPoints ≤ p → ByteSet p bytes → (n : ℕ) → Meeting n bytes
+unfolding wellPacked
+meet {p} {bytes} some b n = by (inRange n) refl (ℕ-discrete n p)
+  where
+    size : length (packed bytes) ≡ packedSize p
+    size = packed-length bytes ∙ ap packedBytes (b .size)
+
+    by : (r : Bool) → inRange n ≡ r → Dec (n ≡ p) → Meeting n bytes
+    by false h d = outside h
+    by true h (yes e) =
+        let own : ByteSet n bytes = subst (λ (k : ℕ). ByteSet k bytes) (sym e) b in
+        stated (packed-is-well own) (marks-packed own)
+    by true h (no d) =
+        let least : leastPoints ≤ n = in-range n h .0 in
+        let wrong : eqb (length (packed bytes)) (packedSize n) ≡ false
+        = ne-eqb (length (packed bytes)) (packedSize n) (λ e. d (packed-size-injective n p least some (sym e ∙ size))) in
+        other h wrong
+        (ne-eqb (length bytes) (edgeCount n) (λ e. d (packed-size-injective n p least some (ap packedBytes (sym e ∙ b .size)))))
+        (ne-eqb 0 (edgeCount n) (λ e. omega (arith, some-edges n least)))
+        (marks-none n (packed bytes) (rw wrong))
+
+-- the shared tests refuse marks of a wrong number alike, whatever they are
+wrong-number : (n : ℕ) (table marks : List ℕ) → eqb (length marks) (edgeCount n) ≡ false
+    → tested n table marks ≡ unless (inRange n) (Refused 1) (unless (eqb (length table) (edgeCount n)) (Refused 2) (unless (allAtMost mostLength table) (Refused 5) (Refused 6)))
+unfolding tested
+wrong-number n table marks h = rw (tested, h)
+
+pub out-of-limits : (n : ℕ) (table marks : List ℕ) → inRange n ≡ false → tested n table marks ≡ Refused 1
+unfolding tested
+out-of-limits n table marks h = rw (tested, h)
+
+-- so both sets are refused alike, or the packed set holds the marks
+data Alike (n : ℕ) (table bytes : List ℕ) : Type 0 where
+  refused : (k : ℕ) → tested n table (marksOf n (packed bytes)) ≡ Refused k → tested n table bytes ≡ Refused k → Alike n table bytes
+  held : wellPacked n (packed bytes) ≡ true → marksOf n (packed bytes) ≡ bytes → Alike n table bytes
+
+alike : (n : ℕ) (table bytes : List ℕ) → Meeting n bytes → Alike n table bytes
+alike n table bytes (outside h) = refused 1 (out-of-limits n table (marksOf n (packed bytes)) h) (out-of-limits n table bytes h)
+alike n table bytes (stated w e) = held w e
+alike n table bytes (other r s q z e) = by (inRange n) (eqb (length table) (edgeCount n)) (allAtMost mostLength table) (ap (tested n table) e ∙ wrong-number n table [] z) (wrong-number n table bytes q)
+  where
+    by : (a t l : Bool) → tested n table (marksOf n (packed bytes)) ≡ unless a (Refused 1) (unless t (Refused 2) (unless l (Refused 5) (Refused 6)))
+        → tested n table bytes ≡ unless a (Refused 1) (unless t (Refused 2) (unless l (Refused 5) (Refused 6))) → Alike n table bytes
+    by false t l f g = refused 1 f g
+    by true false l f g = refused 2 f g
+    by true true false f g = refused 5 f g
+    by true true true f g = refused 6 f g
+
+module _ {p : ℕ} {bytes : List ℕ} (some : leastPoints ≤ p) (b : ByteSet p bytes) (n : ℕ) where
+  -- MARKING AND ASKING
+  pub mark-on-packed : (by : ℕ) (table s : List ℕ) → markPackedBy by n table (packed bytes) s ≡ packedResult (markBy by n table bytes s)
+  unfolding markPackedBy markBy ready repacked
+  mark-on-packed by table s = on (alike n table bytes (meet some b n))
+    where
+      on : Alike n table bytes → markPackedBy by n table (packed bytes) s ≡ packedResult (markBy by n table bytes s)
+      on (refused k f g) =
+          ap (λ (t : Tested). repack n (packed bytes) (markTested by (untilPending t (marksOf n (packed bytes))) table (marksOf n (packed bytes)) s)) f
+          ∙ ap (turnedDown k) (repacked-same n (packed bytes))
+          ∙ sym (ap (λ (t : Tested). packedResult (markTested by (untilPending t bytes) table bytes s)) g)
+      on (held w e) = ap (λ (m : List ℕ). repack n (packed bytes) (markBy by n table m s)) e ∙ rw w
+
+  -- CONFIRMING AND WITHDRAWING
+  pub settle-on-packed-answer : settledSetAnswer n (packed bytes) ≡ settledAnswer n bytes
+  unfolding settledAnswer
+  settle-on-packed-answer = on (meet some b n)
+    where
+      on : Meeting n bytes → settledSetAnswer n (packed bytes) ≡ settledAnswer n bytes
+      on (outside h) = rw h
+      on (stated w e) = ap (settledAnswer n) e
+      on (other r s q z e) = ap (settledAnswer n) e ∙ rw (r, q, z)
+
+  pub settle-on-packed : (mark : ℕ) → settledSet mark n (packed bytes) ≡ packed (settledLeft (settledAnswer n bytes) mark bytes)
+  unfolding settledAnswer repacked
+  settle-on-packed mark = on (meet some b n)
+    where
+      -- a refusal leaves both sets as they are
+      kept : (k : ℕ) → settledAnswer n (marksOf n (packed bytes)) ≡ settled.Refused k 0 → settledAnswer n bytes ≡ settled.Refused k 0
+          → settledSet mark n (packed bytes) ≡ packed (settledLeft (settledAnswer n bytes) mark bytes)
+      kept k f g =
+          ap (λ (r : Settled). repacked n (packed bytes) (settledLeft r mark (marksOf n (packed bytes)))) f
+          ∙ repacked-same n (packed bytes)
+          ∙ sym (ap (λ (r : Settled). packed (settledLeft r mark bytes)) g)
+
+      on : Meeting n bytes → settledSet mark n (packed bytes) ≡ packed (settledLeft (settledAnswer n bytes) mark bytes)
+      on (outside h) = kept 1 (rw h) (rw h)
+      on (stated w e) = ap (λ (m : List ℕ). repacked n (packed bytes) (settledLeft (settledAnswer n m) mark m)) e ∙ rw w
+      on (other r s q z e) = kept 6 (ap (settledAnswer n) e ∙ rw (r, z)) (rw (r, q))
+
+  -- LISTING PAIRS: the answer, and the list's bytes
+  pub list-on-packed : (table : List ℕ) (x y c size : ℕ) → listed n table (marksOf n (packed bytes)) x y c size ≡ listed n table bytes x y c size
+  unfolding listed
+  list-on-packed table x y c size = on (alike n table bytes (meet some b n))
+    where
+      on : Alike n table bytes → listed n table (marksOf n (packed bytes)) x y c size ≡ listed n table bytes x y c size
+      on (refused k f g) =
+          ap (λ (t : Tested). listTested t table (marksOf n (packed bytes)) x y c size) f ∙ sym (ap (λ (t : Tested). listTested t table bytes x y c size) g)
+      on (held w e) = ap (λ (m : List ℕ). listed n table m x y c size) e
+
+  pub list-left-on-packed : (table : List ℕ) (x y c size : ℕ) (list : List ℕ)
+      → listLeft (listed n table (marksOf n (packed bytes)) x y c size) n table (marksOf n (packed bytes)) x y c list ≡ listLeft (listed n table bytes x y c size) n table bytes x y c list
+  unfolding listed
+  list-left-on-packed table x y c size list = on (alike n table bytes (meet some b n))
+    where
+      on : Alike n table bytes
+          → listLeft (listed n table (marksOf n (packed bytes)) x y c size) n table (marksOf n (packed bytes)) x y c list ≡ listLeft (listed n table bytes x y c size) n table bytes x y c list
+      on (refused k f g) =
+          ap (λ (t : Tested). listLeft (listTested t table (marksOf n (packed bytes)) x y c size) n table (marksOf n (packed bytes)) x y c list) f
+          ∙ sym (ap (λ (t : Tested). listLeft (listTested t table bytes x y c size) n table bytes x y c list) g)
+      on (held w e) = ap (λ (m : List ℕ). listLeft (listed n table m x y c size) n table m x y c list) e
+
+  -- CHECKING A TOUR
+  pub tour-on-packed : (table t : List ℕ) → tourChecked n table (marksOf n (packed bytes)) t ≡ tourChecked n table bytes t
+  unfolding tourChecked
+  tour-on-packed table t = on (alike n table bytes (meet some b n))
+    where
+      on : Alike n table bytes → tourChecked n table (marksOf n (packed bytes)) t ≡ tourChecked n table bytes t
+      on (refused k f g) = ap (λ (r : Tested). checkTested r table (marksOf n (packed bytes)) t) f ∙ sym (ap (λ (r : Tested). checkTested r table bytes t) g)
+      on (held w e) = ap (λ (m : List ℕ). tourChecked n table m t) e
+
+  -- FRESH MARKS, which test the size alone
+  pub fresh-on-packed-answer : freshSetAnswer n (length (packed bytes)) ≡ freshAnswer n (length bytes)
+  unfolding freshSetAnswer freshAnswer wellPacked
+  fresh-on-packed-answer = on (meet some b n)
+    where
+      on : Meeting n bytes → freshSetAnswer n (length (packed bytes)) ≡ freshAnswer n (length bytes)
+      on (outside h) = rw h
+      on (stated w e) =
+          ap (λ (t : Bool). unless (inRange n) (fresh.Refused 1 0) (unless t (fresh.Refused 6 0) fresh.Done)) (eq-eqb (length (packed bytes)) (packedSize n) (well-packed n (packed bytes) w .size)
+          ∙ sym (eq-eqb (length bytes) (edgeCount n) (sym (ap length e) ∙ marks-size n (packed bytes) w)))
+      on (other r s q z e) = rw (r, s, q)
+
+  pub fresh-on-packed : freshSetLeft (freshSetAnswer n (length (packed bytes))) n (packed bytes) ≡ packed (freshLeft (freshAnswer n (length bytes)) n bytes)
+  fresh-on-packed = ap (λ (r : Fresh). freshSetLeft r n (packed bytes)) fresh-on-packed-answer ∙ by (freshAnswer n (length bytes))
+    where
+      by : (r : Fresh) → freshSetLeft r n (packed bytes) ≡ packed (freshLeft r n bytes)
+      by fresh.Done = refl
+      by (fresh.Refused k rec) = refl
+
+-- CONVERTING, with n within the limits and buffers of the right sizes: packing a byte set gives its packed set, and unpacking that gives the old bytes
+module _ (n : ℕ) (range : inRange n ≡ true) where
+  pub there-and-back : (bytes set back : List ℕ) → ByteSet n bytes → length set ≡ packedSize n → length back ≡ edgeCount n
+      → unpackLeft (unpackAnswer n (packLeft (packAnswer n bytes (length set)) bytes set) (length back)) n (packLeft (packAnswer n bytes (length set)) bytes set) back ≡ bytes
+  unfolding packAnswer unpackAnswer isByteSet
+  there-and-back bytes set back b r l =
+      let packs : packAnswer n bytes (length set) ≡ converted.Done
+      = rw (range, eq-eqb (length bytes) (edgeCount n) (b .size), b .are, eq-eqb (length set) (packedSize n) r) in
+      let unpacks : unpackAnswer n (packed bytes) (length back) ≡ converted.Done
+      = rw (range, packed-is-well b, eq-eqb (length back) (edgeCount n) l) in
+      ap (λ (c : Converted). unpackLeft (unpackAnswer n (packLeft c bytes set) (length back)) n (packLeft c bytes set) back) packs
+      ∙ ap (λ (c : Converted). unpackLeft c n (packed bytes) back) unpacks
+      ∙ marks-packed b
+
+  -- and unpacking a well packed set and packing the bytes gives the old quarters
+  pub back-and-there : (set bytes again : List ℕ) → wellPacked n set ≡ true → length bytes ≡ edgeCount n → length again ≡ packedSize n
+      → packLeft (packAnswer n (unpackLeft (unpackAnswer n set (length bytes)) n set bytes) (length again)) (unpackLeft (unpackAnswer n set (length bytes)) n set bytes) again ≡ set
+  unfolding packAnswer unpackAnswer isByteSet
+  back-and-there set bytes again w l r =
+      let unpacks : unpackAnswer n set (length bytes) ≡ converted.Done = rw (range, w, eq-eqb (length bytes) (edgeCount n) l) in
+      let packs : packAnswer n (marksOf n set) (length again) ≡ converted.Done
+      = rw (range, eq-eqb (length (marksOf n set)) (edgeCount n) (marks-size n set w), marks-are n set, eq-eqb (length again) (packedSize n) r) in
+      ap (λ (c : Converted). packLeft (packAnswer n (unpackLeft c n set bytes) (length again)) (unpackLeft c n set bytes) again) unpacks
+      ∙ ap (λ (c : Converted). packLeft c (marksOf n set) again) packs
+      ∙ packed-marks n set w

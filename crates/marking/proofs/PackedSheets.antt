@@ -1,0 +1,79 @@
+-- A sheet over the packed set of a byte set: it answers what the sheet over the byte set answers, and leaves the packed set of what that leaves. Fresh
+-- marks are such a byte set. Assumes nothing.
+use Prim.Native.Nat.{ℕ, _≤_}
+use mathlib.Core.Path.{_≡_, refl, _∙_, ap}
+use mathlib.Core.Bool.{Bool, true, false, cond}
+use mathlib.Core.List.{List}
+use native.Mathlib.Omega.{arith}
+use lib.ListN.{length, getD-replicate}
+use borrow.Author.Tests.{eq-eqb}
+use Rattle.lengths.specs.Edge.{edgeCount}
+use Rattle.lengths.specs.Instance.{inRange}
+use Rattle.lists.specs.Test.{unless}
+use Rattle.argument.specs.Sheet.{Result, sheet}
+use Rattle.marks.specs.Fresh.{freshMarks, freshSetAnswer, freshSetLeft}
+use Rattle.marks.specs.Mark.{pendingMark}
+use Rattle.marks.specs.Packed.{ByteSet, packedSize, packed, marksOf, repacked}
+use Rattle.marks.proofs.FreshMarks.{fresh-size}
+use Rattle.marks.proofs.PackedSets.{each-limit, packed-is-well, marks-packed}
+use Rattle.sheets.specs.Rules.{markingBy}
+use Rattle.sheets.specs.Sheet.{wholeSheet}
+use Rattle.sheets.specs.Verdict.{resultOf}
+use Rattle.sheets.specs.declared.verdict.Verdict.{Verdict}
+use Rattle.sheets.specs.declared.verdict.Verdict.the-variants as verdict
+use Rattle.marking.proofs.MarkingSheets.{packedResult, marked-set}
+use Rattle.marking.specs.Mark.{turnedDown, markTested, markBy, repack, markPackedBy}
+use Rattle.marking.specs.Tests.{ready}
+use Rattle.marking.specs.declared.tests.Tested.{Tested}
+use Rattle.marking.specs.declared.tests.Tested.the-variants.{Points, Refused}
+
+-- what *fresh marks* leaves in a packed set of the right size
+pub fresh-set-left : (n : ℕ) (set : List ℕ) → inRange n ≡ true → length set ≡ packedSize n → freshSetLeft (freshSetAnswer n (length set)) n set ≡ packed (freshMarks n)
+unfolding freshSetAnswer
+fresh-set-left n set range size = rw (freshSetAnswer, range, eq-eqb (length set) (packedSize n) size)
+
+-- fresh marks are marks of n points
+pub fresh-byte-set : (n : ℕ) → ByteSet n (freshMarks n)
+unfolding freshMarks
+fresh-byte-set n = record {
+  size = fresh-size n;
+  are = each-limit pendingMark (freshMarks n) (λ i h. omega (arith, getD-replicate {A = ℕ} (edgeCount n) i 1 0 (omega (arith, fresh-size n))));
+}
+
+-- marks of p points that are marked, or turned down, are marks of p points, whatever n a call states
+pub mark-byte-set : (by n : ℕ) {p : ℕ} (table s : List ℕ) {bytes : List ℕ} → by ≤ pendingMark → ByteSet p bytes → ByteSet p (markBy by n table bytes s .marks)
+unfolding markBy
+mark-byte-set by n {p} table s {bytes} l b = tests (ready n table bytes)
+  where
+    whole : (q : ℕ) (t : Bool) → ByteSet p (unless t (turnedDown 7 bytes) (sheet (markingBy by q table) s bytes) .marks)
+    whole q true = marked-set by q table s l b
+    whole q false = b
+
+    tests : (t : Tested) → ByteSet p (markTested by t table bytes s .marks)
+    tests (Refused number) = b
+    tests (Points q) = whole q (wholeSheet (length s))
+
+module _ (by : ℕ) {n : ℕ} (table s : List ℕ) {bytes : List ℕ} (b : ByteSet n bytes) where
+  -- the packed set of marks, marked
+  pub mark-packed : markPackedBy by n table (packed bytes) s ≡ packedResult (markBy by n table bytes s)
+  unfolding markPackedBy repacked
+  mark-packed =
+      let r : Result (List ℕ) = markBy by n table bytes s in
+      ap (λ (m : List ℕ). repack n (packed bytes) (markBy by n table m s)) (marks-packed b)
+      ∙ ap (λ (t : Bool). record { marks = cond t (packed (r .marks)) (packed bytes); lines = r .lines; verdict = r .verdict }) (packed-is-well b)
+
+  -- a result by the marks that its packed set holds
+  abbrev held : Result (List ℕ) → Result (List ℕ)
+  held r = record { marks = marksOf n (r .marks); lines = r .lines; verdict = r .verdict }
+
+  held-result : (v : Verdict) (left : List ℕ) → resultOf v (marksOf n left) ≡ held (resultOf v left)
+  held-result (verdict.Accepted lines) left = refl
+  held-result (verdict.Refused number rec lines) left = refl
+
+  -- what marking the packed set leaves holds what marking the byte set leaves
+  pub mark-held : (v : Verdict) (left : List ℕ) → by ≤ pendingMark → resultOf v left ≡ markPackedBy by n table (packed bytes) s → resultOf v (marksOf n left) ≡ markBy by n table bytes s
+  mark-held v left l e =
+      let r : Result (List ℕ) = markBy by n table bytes s in
+      held-result v left
+      ∙ ap held (e ∙ mark-packed)
+      ∙ ap (λ (m : List ℕ). record { marks = m; lines = r .lines; verdict = r .verdict }) (marks-packed (mark-byte-set by n table s l b))

@@ -1,0 +1,57 @@
+-- `marks::converting::unpack_all` meets its contract: at the loop's head the first i marks are those of the set. Assumes nothing.
+use Prim.Native.Nat.{_-_}
+use native.Mathlib.Omega.{arith}
+use lib.ListN.{length}
+use borrow.Author.Needs.{needs}
+use Rattle.marks.proofs.Packing.{Unpacking, none-unpacked, one-unpacked, all-unpacked}
+use Rattle.marks.proofs.converting.unpack_all.Statement.{statement}
+use Rattle.marks.proofs.converting.unpack_all.Tie as tie
+
+abbrev Inv-loop : tie.InvT-loop
+Inv-loop set bytes₀ i₀ bytes i = Unpacking set bytes₀ bytes i
+
+abbrev μ-loop : tie.MeasureT-loop
+μ-loop set bytes₀ i₀ bytes i = length bytes₀ - i
+
+loop-holds : tie.Need-loop-holds Inv-loop μ-loop
+loop-holds c = none-unpacked _ _
+
+shared-slice-read-quarter : tie.Need-shared-slice-read-quarter Inv-loop μ-loop
+shared-slice-read-quarter c = omega (arith, c .before .before .before .before .before .pre, c .before .before .loop .inv .kept, c .before .loop-test .taken)
+
+quarter-requires : tie.Need-quarter-requires Inv-loop μ-loop
+quarter-requires c κs = omega arith
+
+slice-write-bytes : tie.Need-slice-write-bytes Inv-loop μ-loop
+slice-write-bytes c = search needs
+
+add-i : tie.Need-add-i Inv-loop μ-loop
+add-i c = search needs
+
+loop-less : tie.Need-loop-less Inv-loop μ-loop
+loop-less c = search needs
+
+loop-again : tie.Need-loop-again Inv-loop μ-loop
+loop-again c = one-unpacked (c .before .before .before .loop .inv) (c .before .before .loop-test .taken) (c .quarter .ensures)
+
+same-length : tie.Need-same-length Inv-loop μ-loop
+same-length c = search needs
+
+returns : tie.Need-returns Inv-loop μ-loop
+returns c = all-unpacked (c .before .loop .inv) (c .before .before .before .before .pre) (c .loop-test .left)
+
+pub unpack-all-spec : {M : Type 1} → statement M
+unpack-all-spec =
+    tie.close
+    (tie.spec
+    Inv-loop
+    μ-loop
+    loop-holds
+    shared-slice-read-quarter
+    quarter-requires
+    slice-write-bytes
+    add-i
+    loop-less
+    loop-again
+    same-length
+    returns)
