@@ -1,6 +1,6 @@
 /*
  * How a tour solver uses Revosti: a board is measured, a strike sheet written from lists of standing pairs, asked, withdrawn, asked again
- * and confirmed, and a search looks at open edges only.
+ * and confirmed, and a search looks at open edges only. At the end its marks go to a byte set and back.
  *
  *   cc -Iinclude examples/solver.c target/staticlib/librevosti.a -o solver && ./solver
  *
@@ -11,10 +11,10 @@
 
 #include "revosti.h"
 
-enum { N = 4, EDGES = N * (N - 1) / 2, RECORD = 16 };
+enum { N = 4, EDGES = N * (N - 1) / 2, SET = (EDGES + 3) / 4, RECORD = 16 };
 
-/* What is lent to Revosti: all numbers are little-endian bytes. The list has room for every pair of points. */
-static uint8_t coordinates[8 * N], table[4 * EDGES], marks[EDGES], sheet[RECORD * EDGES], tour[2 * N], list[4 * EDGES];
+/* What is lent to Revosti: all numbers are little-endian bytes, marks are a packed set. The list has room for every pair of points. */
+static uint8_t coordinates[8 * N], table[4 * EDGES], marks[SET], sheet[RECORD * EDGES], tour[2 * N], list[4 * EDGES];
 
 static int faults;
 
@@ -43,7 +43,7 @@ static void put32(uint8_t *at, uint32_t number)
 static unsigned get16(const uint8_t *at) { return at[0] | (unsigned)at[1] << 8; }
 static uint32_t get32(const uint8_t *at) { return get16(at) | (uint32_t)get16(at + 2) << 16; }
 
-static unsigned mark_of(unsigned a, unsigned b) { return marks[revosti_place(N, a, b)]; }
+static unsigned mark_of(unsigned a, unsigned b) { return revosti_mark_of(N, marks, a, b); }
 static int is_open(unsigned a, unsigned b) { return mark_of(a, b) == REVOSTI_OPEN; }
 static uint32_t length(unsigned a, unsigned b) { return get32(table + 4 * revosti_place(N, a, b)); }
 
@@ -180,6 +180,22 @@ static void find_tour(void)
     expect("tour found, all edges open", (uint64_t)revosti_tour_open(answer), 1);
 }
 
+/* The marks as a byte set, as an older program holds them, and back: 1-3 and 2-4 are struck, and the packed set is the same. */
+static void convert(void)
+{
+    static const uint8_t byte_set[EDGES] = {1, 0, 1, 1, 0, 1};
+    uint8_t bytes[EDGES], back[SET];
+    expect("unpacking", revosti_unpack_marks(N, marks, sizeof marks, bytes, sizeof bytes), REVOSTI_ACCEPTED);
+    expect("byte set differs from the one expected", (uint64_t)(memcmp(bytes, byte_set, sizeof bytes) != 0), 0);
+    expect("packing", revosti_pack_marks(N, bytes, sizeof bytes, back, sizeof back), REVOSTI_ACCEPTED);
+    expect("marks differ, there and back", (uint64_t)(memcmp(back, marks, sizeof marks) != 0), 0);
+    bytes[0] = 3;
+    expect("packing, a byte of 3", revosti_pack_marks(N, bytes, sizeof bytes, back, sizeof back), REVOSTI_MARKS);
+    back[SET - 1] |= 0x80;
+    expect("unpacking, an unused bit set", revosti_unpack_marks(N, back, sizeof back, bytes, sizeof bytes), REVOSTI_MARKS);
+    expect("confirming, an unused bit set", revosti_confirm(N, back, sizeof back), REVOSTI_MARKS);
+}
+
 /* Faulty input is refused, and changes nothing. `lines` is the length of the sheet that is marked already. */
 static void refusals(size_t lines)
 {
@@ -190,9 +206,9 @@ static void refusals(size_t lines)
     memcpy(old_list, list, sizeof list);
 
     expect("fresh marks, n = 181", revosti_fresh_marks(181, marks, sizeof marks), REVOSTI_POINTS);
-    expect("fresh marks, one too few", revosti_fresh_marks(N, marks, sizeof marks - 1), REVOSTI_MARKS);
+    expect("fresh marks, one byte short", revosti_fresh_marks(N, marks, sizeof marks - 1), REVOSTI_MARKS);
     expect("confirming, n = 181", revosti_confirm(181, marks, sizeof marks), REVOSTI_POINTS);
-    expect("withdrawing, one mark too few", revosti_withdraw(N, marks, sizeof marks - 1), REVOSTI_MARKS);
+    expect("withdrawing, one byte short", revosti_withdraw(N, marks, sizeof marks - 1), REVOSTI_MARKS);
     expect("measuring, coordinates one byte short",
            revosti_measure(N, REVOSTI_EUC_2D, coordinates, sizeof coordinates - 1, table, sizeof table), REVOSTI_SIZE);
     expect("measuring, a table one byte short",
@@ -239,6 +255,7 @@ static void list_at_3(void)
 int main(void)
 {
     measure_square();
+    expect("bytes of marks", sizeof marks, revosti_marks_size(N));
     expect("fresh marks", fresh_marks(), REVOSTI_ACCEPTED);
     list_at_3();
 
@@ -248,6 +265,7 @@ int main(void)
     hand_in(lines);
     mark_directly(lines);
     find_tour();
+    convert();
     refusals(lines);
     return faults != 0;
 }

@@ -1,6 +1,6 @@
 /*
  * Revosti for C: measure a board, make fresh marks, mark a strike sheet, ask one and confirm or withdraw it, list standing pairs, check a
- * tour.
+ * tour; convert sets of marks.
  *
  * Link with librevosti.a (`rt staticlib revosti` writes target/staticlib/librevosti.a).
  *
@@ -9,7 +9,9 @@
  *
  *   coordinates  4 bytes a number, 2n numbers: both of point 1, then both of point 2, ..; each at most REVOSTI_MOST_COORDINATE.
  *   table        4 bytes an edge: its length, at most REVOSTI_MOST_LENGTH. It need not obey the triangle inequality.
- *   marks        1 byte an edge: REVOSTI_OPEN, REVOSTI_PENDING or REVOSTI_STRUCK. Fresh marks are all REVOSTI_OPEN.
+ *   marks        a packed set: 2 bits an edge, four edges a byte, the first edge in the lowest bits, each REVOSTI_OPEN, REVOSTI_PENDING or
+ *                REVOSTI_STRUCK; what the last byte has left is 0. revosti_marks_size gives its bytes, revosti_mark_of the mark of an edge.
+ *   byte set     1 byte an edge, the same three numbers. revosti_pack_marks reads it and revosti_unpack_marks writes it, no other function.
  *   sheet        16 bytes a record, 1 to REVOSTI_MOST_RECORDS records, numbered from 1: eight 16-bit numbers kind, a, b, u, v, c, d, next.
  *   tour         2 bytes a point, n points.
  *   list         2 bytes a point: x then y of each pair. It takes any length: its places are its whole entries.
@@ -26,6 +28,10 @@
  *   pending  until it is settled: confirming moves it to struck, withdrawing back to open.
  *   struck   for good; only fresh marks set it to open again.
  *   Marking and asking want nothing pending (refusal 20), confirming and withdrawing want something pending (refusal 21).
+ *   Converting a set, there or back, keeps every mark, pending ones too.
+ *
+ * Marks are refused by 6 where the packed set has not its size, has a mark of 3 or has one of the unused bits of its last byte set. Of a
+ * set that is only written (fresh marks, the conversions) the size alone is tested, and what it holds is not read.
  *
  * Within an asked sheet a pending edge counts as struck; the pair list and the tour check count it as open.
  *
@@ -79,7 +85,8 @@ enum {
     REVOSTI_RULE = 3,            /* the rule is outside 1 to 5 */
     REVOSTI_COORDINATE = 4,      /* a coordinate above 1,000,000 */
     REVOSTI_LENGTH = 5,          /* a table entry above 2,000,000 */
-    REVOSTI_MARKS = 6,           /* wrong number of marks, or a byte above 2 */
+    REVOSTI_MARKS = 6,           /* a packed set of wrong size, with a mark of 3 or an unused bit set; converting, also a byte set of
+                                    wrong size or with a byte above 2 */
     REVOSTI_SHEET = 7,           /* the sheet is not 1 to 4,000 whole records */
     REVOSTI_INDEX_ABOVE = 8,     /* an index above the record count; names the record that has the index */
     REVOSTI_INDEX_NOT_ABOVE = 9, /* an index not above the highest record entered; names the record that has the index */
@@ -104,10 +111,24 @@ uint64_t revosti_measure(uint32_t n, uint32_t rule, const uint8_t *coordinates, 
                          size_t table_len);
 
 /*
- * Makes fresh marks: sets every mark to REVOSTI_OPEN, whatever it was. Refusals in this order: 1; 6, the size alone.
- * Answer: the refusal number, or 0. A refused call changes no mark.
+ * Makes fresh marks: sets every mark to REVOSTI_OPEN and the unused bits to 0, whatever they were: bytes of 85, the last one 1, 5, 21 or
+ * 85. Refusals in this order: 1; 6, the size alone. Answer: the refusal number, or 0. A refused call changes no mark.
  */
 uint64_t revosti_fresh_marks(uint32_t n, uint8_t *marks, size_t marks_len);
+
+/*
+ * Packs a byte set: writes the packed set with its marks. Refusals in this order: 1; 6, of the byte set (not n(n - 1)/2 bytes, or a byte
+ * above 2) and then of the packed set (the size alone). Answer: the refusal number, or 0. It changes the packed set alone, and a refused
+ * call nothing.
+ */
+uint64_t revosti_pack_marks(uint32_t n, const uint8_t *bytes, size_t bytes_len, uint8_t *packed, size_t packed_len);
+
+/*
+ * Unpacks a packed set: writes the byte set with its marks. Refusals in this order: 1; 6, of the packed set and then of the byte set (the
+ * size alone). Answer: the refusal number, or 0. It changes the byte set alone, and a refused call nothing. Either conversion undoes the
+ * other.
+ */
+uint64_t revosti_unpack_marks(uint32_t n, const uint8_t *packed, size_t packed_len, uint8_t *bytes, size_t bytes_len);
 
 /*
  * Marks a sheet: strikes each line's edge whose argument is complete, one line after the other, and stops at the first refusal.
@@ -171,6 +192,14 @@ static inline size_t revosti_place(uint32_t n, uint32_t a, uint32_t b)
 {
     uint32_t low = a < b ? a : b, high = a < b ? b : a;
     return (size_t)(low - 1) * (2 * n - low) / 2 + (high - low - 1);
+}
+
+/* How many bytes the packed set of n points has, and the mark of the edge a-b in one (a and b different, from 1 to n, in either order). */
+static inline size_t revosti_marks_size(uint32_t n) { return (revosti_edges(n) + 3) / 4; }
+static inline unsigned revosti_mark_of(uint32_t n, const uint8_t *marks, uint32_t a, uint32_t b)
+{
+    size_t place = revosti_place(n, a, b);
+    return (unsigned)marks[place / 4] >> 2 * (place % 4) & 3;
 }
 
 #ifdef __cplusplus
