@@ -9,6 +9,7 @@ from itertools import combinations
 from support import LINES, N, POINTS, ROOT, TABLE
 
 import revosti
+from packing import packed, unpacked
 from sheetlib.answer import Answer
 from sheetlib.board import Board, length_of
 from sheetlib.explain import explain
@@ -32,6 +33,11 @@ def nine():
     """A board of nine points with a sheet that strikes 27 edges: n, table, sheet."""
     parts = pack((ROOT / "tests/sheet/nine.txt").read_text()).parts
     return parts.n, revosti.measure(parts.n, parts.rule, parts.points), parts.records
+
+
+def count(n, marks, mark):
+    """How many edges of a packed set have a mark."""
+    return unpacked(marks)[:n * (n - 1) // 2].count(mark)
 
 
 class Operations(unittest.TestCase):
@@ -87,7 +93,12 @@ class FreshMarks(Operations):
         for n in (4, 5, 180):
             marks = revosti.fresh_marks(n)
             self.assertIsInstance(marks, bytearray)
-            self.assertEqual(marks, bytes([revosti.OPEN]) * (n * (n - 1) // 2))
+            self.assertEqual(marks, packed([revosti.OPEN] * (n * (n - 1) // 2)))
+
+    def test_bytes_of_85(self):
+        for n, last in ((9, 85), (8, 85), (7, 1), (4, 5), (6, 21), (180, 5)):
+            marks = revosti.fresh_marks(n)
+            self.assertEqual((set(marks[:-1]), marks[-1]), ({85}, last))
 
     def test_refusals(self):
         for n in (0, 3, 181, 2**32 - 1):
@@ -102,24 +113,24 @@ class MarkSheet(Operations):
 
     def test_marks_are_changed_in_place(self):
         self.assertEqual(revosti.mark_sheet(N, TABLE, self.marks, LINES), 2)
-        self.assertEqual(list(self.marks), [1, 0, 1, 1, 0, 1])
+        self.assertEqual(self.marks, packed([1, 0, 1, 1, 0, 1]))
 
     def test_marks_are_lent_for_the_call_only(self):
         for sheet in (LINES, LINES[1:]):
             with contextlib.suppress(revosti.Refusal):
                 revosti.mark_sheet(N, TABLE, self.marks, sheet)
-            self.marks.append(1)
+            self.marks.append(0)
             del self.marks[-1]
 
     def test_records_of_any_kind_of_list(self):
         self.assertEqual(revosti.mark_sheet(N, tuple(TABLE), self.marks, [Record(*LINES[0]), tuple(LINES[1])]), 2)
 
     def test_refused_at_once(self):
-        struck, pending, wrong = bytearray([1, 0, 1, 1, 0, 1]), bytearray([1, 2, 1, 1, 0, 1]), bytearray([1, 2, 1, 1, 1, 3])
+        struck, pending, wrong = packed([1, 0, 1, 1, 0, 1]), packed([1, 2, 1, 1, 0, 1]), packed([1, 2, 1, 1, 1, 3])
         for number, arguments in ((1, (3, [], wrong, [])), (2, (N, TABLE[1:], wrong, [])), (2, (5, TABLE, struck, LINES)),
-                                  (5, (N, [2_000_001] * 6, wrong, [])), (6, (N, TABLE, bytearray(), [])), (6, (N, TABLE, pending[:5], [])),
+                                  (5, (N, [2_000_001] * 6, wrong, [])), (6, (N, TABLE, bytearray(), [])), (6, (N, TABLE, pending[:1], [])),
                                   (6, (N, TABLE, wrong, [])), (20, (N, TABLE, pending, [])), (20, (N, TABLE, pending, LINES)),
-                                  (20, (N, TABLE, bytearray([1] * 5 + [2]), LINES)), (7, (N, TABLE, struck, [])),
+                                  (20, (N, TABLE, packed([1] * 5 + [2]), LINES)), (7, (N, TABLE, struck, [])),
                                   (7, (N, TABLE, struck, LINES * 2001))):
             for call in HAND_IN:
                 with self.subTest((call, number)):
@@ -138,24 +149,24 @@ class MarkSheet(Operations):
 
     def test_a_refused_sheet_keeps_its_lines(self):
         self.refused(9, revosti.mark_sheet, N, TABLE, self.marks, [[1, 1, 3, 0, 0, 2, 0, 1]], record=1, lines=1)
-        self.assertEqual(list(self.marks), [1, 0, 1, 1, 1, 1])
+        self.assertEqual(self.marks, packed([1, 0, 1, 1, 1, 1]))
         self.refused(12, revosti.mark_sheet, N, TABLE, self.marks, LINES, record=1)
         again = [LINES[1][:7] + [2], LINES[1]]
         self.refused(12, revosti.mark_sheet, N, TABLE, self.marks, again, record=2, lines=1)
-        self.assertEqual(list(self.marks), [1, 0, 1, 1, 0, 1])
+        self.assertEqual(self.marks, packed([1, 0, 1, 1, 0, 1]))
 
     def test_nine_points(self):
         n, table, sheet = nine()
         marks = revosti.fresh_marks(n)
         self.assertEqual(revosti.mark_sheet(n, table, marks, sheet), 27)
-        self.assertEqual(marks.count(revosti.STRUCK), 27)
+        self.assertEqual(count(n, marks, revosti.STRUCK), 27)
 
     def test_180_points(self):
         parts = split((ROOT / "docs/board-180.sheet").read_bytes())
         tour = list(map(int, (ROOT / "docs/board-180.tour").read_text().split(",")))
         table, marks = revosti.measure(parts.n, parts.rule, parts.points), revosti.fresh_marks(parts.n)
         lines = revosti.mark_sheet(parts.n, table, marks, parts.records)
-        self.assertEqual((lines, marks.count(revosti.STRUCK)), (1223, 1223))
+        self.assertEqual((lines, count(parts.n, marks, revosti.STRUCK)), (1223, 1223))
         length = sum(table[revosti.place(parts.n, a, b)] for a, b in zip(tour, tour[1:] + tour[:1]))
         self.assertEqual(revosti.check_tour(parts.n, table, marks, tour), (length, True))
 
@@ -166,17 +177,17 @@ class AskSheet(Operations):
 
     def test_strikes_are_pending(self):
         self.assertEqual(revosti.ask_sheet(N, TABLE, self.marks, LINES), 2)
-        self.assertEqual(list(self.marks), [1, 2, 1, 1, 2, 1])
+        self.assertEqual(self.marks, packed([1, 2, 1, 1, 2, 1]))
 
     def test_struck_marks_stay(self):
-        self.marks[1] = revosti.STRUCK
+        self.marks = packed([1, 0, 1, 1, 1, 1])
         self.assertEqual(revosti.ask_sheet(N, TABLE, self.marks, LINES[1:]), 1)
-        self.assertEqual(list(self.marks), [1, 0, 1, 1, 2, 1])
+        self.assertEqual(self.marks, packed([1, 0, 1, 1, 2, 1]))
 
     def test_a_sheet_that_stops_keeps_its_lines_pending(self):
         twice = [LINES[0], LINES[0][:7] + [0]]
         self.refused(12, revosti.ask_sheet, N, TABLE, self.marks, twice, record=2, lines=1)
-        self.assertEqual(list(self.marks), [1, 2, 1, 1, 1, 1])
+        self.assertEqual(self.marks, packed([1, 2, 1, 1, 1, 1]))
         self.refused(20, revosti.ask_sheet, N, TABLE, self.marks, LINES[1:])
         revosti.withdraw(N, self.marks)
         self.assertEqual(self.marks, revosti.fresh_marks(N))
@@ -190,7 +201,7 @@ class AskSheet(Operations):
         direct, asked = bytearray(marks), bytearray(marks)
         found = verdict(revosti.mark_sheet, n, table, direct, sheet)
         self.assertEqual(verdict(revosti.ask_sheet, n, table, asked, sheet), found)
-        self.assertEqual(asked.count(revosti.PENDING), found[2])
+        self.assertEqual(count(n, asked, revosti.PENDING), found[2])
         back = bytearray(asked)
         for call, settled in ((revosti.confirm, asked), (revosti.withdraw, back)):
             if found[2]:
@@ -212,7 +223,7 @@ class AskSheet(Operations):
         n, table, sheet = nine()
         marks = revosti.fresh_marks(n)
         verdict(revosti.mark_sheet, n, table, marks, sheet[:20])
-        self.assertIn(revosti.STRUCK, marks)
+        self.assertGreater(count(n, marks, revosti.STRUCK), 0)
         self.assertEqual(self.agrees(n, table, marks, sheet), (12, 1, 0))
         self.assertEqual(self.agrees(n, table, marks, []), (7, 0, 0))
 
@@ -222,23 +233,22 @@ class Settle(Operations):
 
     def test_pending_marks_alone_are_changed(self):
         for call, left in ((revosti.confirm, [0, 1, 0, 0, 1, 0]), (revosti.withdraw, [1, 1, 0, 1, 1, 0])):
-            marks = bytearray([2, 1, 0, 2, 1, 0])
+            marks = packed([2, 1, 0, 2, 1, 0])
             self.assertIsNone(call(N, marks))
-            self.assertEqual(list(marks), left)
+            self.assertEqual(marks, packed(left))
 
     def test_one_pending_mark_is_enough(self):
         for place in range(6):
             for call, mark in ((revosti.confirm, revosti.STRUCK), (revosti.withdraw, revosti.OPEN)):
-                marks = revosti.fresh_marks(N)
-                marks[place] = revosti.PENDING
+                marks = packed([revosti.PENDING if at == place else revosti.OPEN for at in range(6)])
                 call(N, marks)
-                self.assertEqual(list(marks), [mark if at == place else revosti.OPEN for at in range(6)])
+                self.assertEqual(marks, packed([mark if at == place else revosti.OPEN for at in range(6)]))
 
     def test_refusals(self):
-        pending, wrong = bytearray([2] * 6), bytearray([1] * 5 + [3])
-        for number, arguments in ((1, (3, bytearray([2] * 3))), (1, (181, wrong)), (1, (0, bytearray())), (6, (N, pending[:5])),
-                                  (6, (5, pending)), (6, (N, bytearray())), (6, (N, wrong)), (6, (N, bytearray([2] * 5 + [255]))),
-                                  (21, (N, revosti.fresh_marks(N))), (21, (N, bytearray(6))), (21, (N, bytearray([0, 1] * 3)))):
+        pending, wrong = packed([2] * 6), packed([1] * 5 + [3])
+        for number, arguments in ((1, (3, packed([2] * 3))), (1, (181, wrong)), (1, (0, bytearray())), (6, (N, pending[:1])),
+                                  (6, (5, pending)), (6, (N, bytearray())), (6, (N, wrong)), (6, (N, packed([2] * 6 + [0, 2]))),
+                                  (21, (N, revosti.fresh_marks(N))), (21, (N, bytearray(2))), (21, (N, packed([0, 1] * 3)))):
             for call in SETTLE:
                 with self.subTest((call, arguments)):
                     self.refused(number, call, *arguments)
@@ -254,10 +264,10 @@ class ListPairs(Operations):
         self.assertEqual(self.marks, revosti.fresh_marks(N))
 
     def test_marks_may_be_bytes(self):
-        self.assertEqual(revosti.list_pairs(N, TABLE, bytes([1, 0, 1, 1, 1, 1]), 2, 1, 3), [(2, 4)])
+        self.assertEqual(revosti.list_pairs(N, TABLE, bytes(packed([1, 0, 1, 1, 1, 1])), 2, 1, 3), [(2, 4)])
 
     def test_pending_edges_are_open(self):
-        marks = bytes([1, 2, 1, 1, 1, 1])
+        marks = packed([1, 2, 1, 1, 1, 1])
         self.assertEqual(revosti.list_pairs(N, TABLE, marks, 1, 2, 3), [(1, 4), (2, 4)])
         self.assertEqual(revosti.list_pairs(N, TABLE, marks, 1, 3, 2), [])
 
@@ -268,7 +278,7 @@ class ListPairs(Operations):
             edges = list(combinations(range(1, n + 1), 2))
             struck = r.sample(edges, r.randrange(8))
             board, table = Board(1, points, struck), revosti.measure(n, 1, points)
-            marks = bytearray(0 if edge in struck else r.choice((1, 2)) for edge in edges)
+            marks = packed([0 if edge in struck else r.choice((1, 2)) for edge in edges])
             for (a, b), c in ((e, c) for e in edges if e not in struck for c in range(1, n + 1)):
                 self.assertEqual(revosti.list_pairs(n, table, marks, a, b, c), board.standing({(a, b)}, c), (points, struck, a, b, c))
 
@@ -280,10 +290,10 @@ class ListPairs(Operations):
         self.assertEqual(pairs, [pair for pair in combinations(others, 2) if pair != (1, 2)])
 
     def test_refusals(self):
-        struck, points = bytearray([1, 0, 1, 1, 1, 1]), (1, 2, 3)
+        struck, points = packed([1, 0, 1, 1, 1, 1]), (1, 2, 3)
         for number, arguments in ((1, (181, [], struck, 0, 0, 0)), (2, (N, TABLE * 2, bytearray(), *points)),
                                   (5, (N, [2_000_001] * 6, bytearray(), *points)), (6, (N, TABLE, bytearray(), 0, 0, 0)),
-                                  (6, (N, TABLE, bytearray([1] * 5 + [3]), 0, 0, 0)), (11, (N, TABLE, struck, 0, 3, 2)),
+                                  (6, (N, TABLE, packed([1] * 5 + [3]), 0, 0, 0)), (11, (N, TABLE, struck, 0, 3, 2)),
                                   (11, (N, TABLE, struck, 2, 2, 3)), (11, (N, TABLE, struck, 1, 3, 65535)),
                                   (12, (N, TABLE, struck, 3, 1, 2))):
             with self.subTest(arguments):
@@ -292,23 +302,23 @@ class ListPairs(Operations):
 
 class CheckTour(Operations):
     def test_length_and_open(self):
-        marks = bytearray([1, 0, 1, 1, 0, 1])
+        marks = packed([1, 0, 1, 1, 0, 1])
         self.assertEqual(revosti.check_tour(N, TABLE, marks, [1, 2, 3, 4]), revosti.Tour(length=40, open=True))
         self.assertEqual(revosti.check_tour(N, TABLE, bytes(marks), (1, 3, 2, 4)), revosti.Tour(length=48, open=False))
         self.assertIs(revosti.check_tour(N, TABLE, marks, [4, 3, 2, 1]).open, True)
 
     def test_pending_edges_are_open(self):
-        self.assertEqual(revosti.check_tour(N, TABLE, bytes([1, 2, 1, 1, 2, 1]), [1, 3, 2, 4]), (48, True))
-        self.assertEqual(revosti.check_tour(N, TABLE, bytes([1, 2, 1, 1, 0, 1]), [1, 3, 2, 4]), (48, False))
+        self.assertEqual(revosti.check_tour(N, TABLE, packed([1, 2, 1, 1, 2, 1]), [1, 3, 2, 4]), (48, True))
+        self.assertEqual(revosti.check_tour(N, TABLE, packed([1, 2, 1, 1, 0, 1]), [1, 3, 2, 4]), (48, False))
 
     def test_longest(self):
         tour = revosti.check_tour(180, [2_000_000] * 16110, revosti.fresh_marks(180), range(1, 181))
         self.assertEqual(tour, (360_000_000, True))
 
     def test_refusals(self):
-        marks = bytearray(6)
+        marks = bytearray(2)
         for number, arguments in ((1, (3, [], marks, [])), (2, (N, [], b"", [])), (5, (N, [0] * 5 + [2_000_001], b"", [])),
-                                  (6, (N, TABLE, bytes([2] * 5 + [3]), [])), (6, (N, TABLE, bytes(7), [])), (17, (N, TABLE, marks, [])),
+                                  (6, (N, TABLE, packed([2] * 5 + [3]), [])), (6, (N, TABLE, bytes(3), [])), (17, (N, TABLE, marks, [])),
                                   (17, (N, TABLE, marks, [1, 2, 3, 3])), (17, (N, TABLE, marks, [0, 1, 2, 3])),
                                   (17, (N, TABLE, marks, [1, 2, 3, 4, 1]))):
             with self.subTest(arguments):
@@ -320,11 +330,12 @@ class Refusals(Operations):
         for number, words, call in (
                 (1, "n is outside 4 to 180.", lambda: revosti.fresh_marks(3)),
                 (3, "The rule is outside 1 to 5.", lambda: revosti.measure(N, 9, POINTS)),
-                (6, "The marks have not n(n − 1)/2 bytes, or a byte is above 2.", lambda: revosti.confirm(N, bytearray([3] * 6))),
-                (12, "The edge is struck already.", lambda: revosti.list_pairs(N, TABLE, bytes(6), 1, 2, 3)),
+                (6, "The packed set has not n(n − 1)/8 bytes, rounded up, or has a mark of 3 or an unused bit set; in a conversion also, "
+                    "the byte set has not n(n − 1)/2 bytes or has a byte above 2.", lambda: revosti.confirm(N, packed([3] * 6))),
+                (12, "The edge is struck already.", lambda: revosti.list_pairs(N, TABLE, bytes(2), 1, 2, 3)),
                 (20, "Something is pending: confirm or withdraw it first.",
-                 lambda: revosti.mark_sheet(N, TABLE, bytearray([2] * 6), LINES)),
-                (21, "Nothing is pending: there is nothing to confirm or withdraw.", lambda: revosti.confirm(N, bytearray(6)))):
+                 lambda: revosti.mark_sheet(N, TABLE, packed([2] * 6), LINES)),
+                (21, "Nothing is pending: there is nothing to confirm or withdraw.", lambda: revosti.confirm(N, bytearray(2)))):
             found = self.refused(number, call)
             self.assertEqual((found.words, str(found)), (words, f"Refused, number {number}: {words}"))
 
@@ -353,7 +364,8 @@ class Numbers(unittest.TestCase):
     def test_numbers_that_do_not_fit(self):
         marks = revosti.fresh_marks(N)
         for call, *arguments in ((revosti.measure, (N, 32), (1, 32), (POINTS, 32)),
-                                 (revosti.fresh_marks, (N, 32)),
+                                 (revosti.fresh_marks, (N, 32)), (revosti.pack_marks, (N, 32), (bytes([1] * 6), 8)),
+                                 (revosti.unpack_marks, (N, 32), (marks, 8)),
                                  (revosti.mark_sheet, (N, 32), (TABLE, 32), (marks, 8), (LINES, 16)),
                                  (revosti.ask_sheet, (N, 32), (TABLE, 32), (marks, 8), (LINES, 16)),
                                  (revosti.confirm, (N, 32), (marks, 8)), (revosti.withdraw, (N, 32), (marks, 8)),
@@ -371,9 +383,10 @@ class Numbers(unittest.TestCase):
             revosti.mark_sheet(N, TABLE, revosti.fresh_marks(N), [LINES[0], LINES[1][:7]])
 
     def test_other_things(self):
-        for call, arguments in ((revosti.mark_sheet, (N, TABLE, bytes(6), LINES)), (revosti.mark_sheet, (N, TABLE, [1] * 6, LINES)),
-                                (revosti.ask_sheet, (N, TABLE, bytes(6), LINES)), (revosti.confirm, (N, bytes(6))),
-                                (revosti.withdraw, (N, bytes(6))), (revosti.check_tour, (N, TABLE, 6, [1, 2, 3, 4])),
+        for call, arguments in ((revosti.mark_sheet, (N, TABLE, bytes(2), LINES)), (revosti.mark_sheet, (N, TABLE, [85, 5], LINES)),
+                                (revosti.ask_sheet, (N, TABLE, bytes(2), LINES)), (revosti.confirm, (N, bytes(2))),
+                                (revosti.withdraw, (N, bytes(2))), (revosti.check_tour, (N, TABLE, 2, [1, 2, 3, 4])),
+                                (revosti.pack_marks, (N, 6)), (revosti.pack_marks, (N, [1] * 6)), (revosti.unpack_marks, (N, 2)),
                                 (revosti.measure, (N, 1, [0.5] * 8))):
             with self.subTest(arguments), self.assertRaises(TypeError):
                 call(*arguments)

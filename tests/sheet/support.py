@@ -12,7 +12,7 @@ from unittest import mock
 HERE = Path(__file__).resolve().parent
 TOOLS = next(p for p in (HERE.parent / "tools", HERE.parent.parent / "tools") if p.is_dir())
 sys.dont_write_bytecode = True
-sys.path.insert(0, str(TOOLS))
+sys.path[:0] = [str(TOOLS), str(HERE.parent)]
 
 NINE = HERE / "nine.txt"  # a board of nine points; its sheet strikes 27 edges
 STANDIN = shlex.join([sys.executable, str(HERE / "standin.py")])

@@ -57,7 +57,8 @@ class Command(unittest.TestCase):
         self.assertIn("No such file", run.err)
 
     def test_bad_use(self):
-        for arguments in ((), ("paint",), ("pack", "--tour", "1"), ("explain", "--marks", "x"), ("draw", "--form", "x")):
+        for arguments in ((), ("paint",), ("pack", "--tour", "1"), ("explain", "--marks", "x"), ("draw", "--form", "x"), ("ask",),
+                          ("confirm", "x"), ("show-marks", "--marks", "x"), ("pack-marks", "--form", "text")):
             run = Run(*arguments)
             self.assertEqual((run.status, run.out), (2, b""))
             self.assertIn("usage: sheet", run.err)

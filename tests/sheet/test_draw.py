@@ -9,6 +9,8 @@ from xml.etree import ElementTree
 
 from support import NINE, SQUARE_POINTS, SQUARE_RECORDS, STANDIN, Run, binary, fake
 
+from packing import packed
+
 from sheetlib.draw import WIDTH, draw
 from sheetlib.labels import overlap, place_labels
 from sheetlib.marks import edges
@@ -156,22 +158,36 @@ class Command(unittest.TestCase):
 
     def test_marks_of_a_file(self):
         for marks, wanted in (([1, 2, 1, 1, 0, 1], [4, 1, 1]), ([1] * 6, [6, 0, 0]), ([2] * 6, [0, 6, 0])):
-            p = Picture(self.marked(bytes(marks)).out)
+            p = Picture(self.marked(packed(marks)).out)
             self.assertEqual([p.edges(g) for g in ("open", "pending", "struck")], wanted)
-        x, y, z, w = *p.spots()[0], *p.spots()[1]
-        self.assertIn(f"M{x} {y}L{z} {w}", p.groups["pending"][0].get("d"))
+
+    def test_each_edge_has_its_own_mark(self):
+        for at, (a, b) in enumerate(edges(4)):
+            for group, mark in (("struck", 0), ("pending", 2)):
+                p = Picture(self.marked(packed([mark if place == at else 1 for place in range(6)])).out)
+                (x, y), (z, w) = p.spots()[a - 1], p.spots()[b - 1]
+                self.assertEqual([path.get("d") for path in p.groups[group]], [f"M{x} {y}L{z} {w}"])
+
+    def test_marks_of_nine_points(self):
+        marks = [random.Random(4).randrange(3) for _ in range(36)]
+        p = Picture(self.marked(packed(marks), NINE.read_bytes()).out)
+        self.assertEqual([p.edges(g) for g in ("struck", "open", "pending")], [marks.count(mark) for mark in range(3)])
 
     def test_bad_marks(self):
-        for marks, words in ((bytes(5), "6 marks, a byte each, found 5 bytes"), (bytes(7), "found 7 bytes"),
-                             (b"", "found 0 bytes"), (bytes([1, 0, 2, 3, 4, 1]), "0, 1 or 2 as the mark of 2-3, found 3")):
+        size = "--marks: expected a packed set of 4 points, 2 bytes, found "
+        byte_set = "6 bytes; a byte set has this size, and pack-marks packs it\n"
+        for marks, words in ((bytes(1), size + "1 byte\n"), (bytes(3), size + "3 bytes\n"), (b"", size + "0 bytes\n"),
+                             (bytes(6), size + byte_set), (packed([1, 0, 2, 3, 3, 1]), "0, 1 or 2 as the mark of 2-3, found 3\n"),
+                             (packed([1] * 5 + [3]), "0, 1 or 2 as the mark of 3-4, found 3\n"),
+                             (packed([1] * 6 + [1]), "expected 0 in the unused bits of the last byte, found 1 there\n"),
+                             (packed([1] * 6 + [0, 2]), "expected 0 in the unused bits of the last byte, found 1000 there\n")):
             with self.subTest(marks):
                 run = self.marked(marks)
                 self.assertEqual((run.status, run.out), (2, b""))
-                self.assertIn("--marks: expected ", run.err)
                 self.assertIn(words, run.err)
 
     def test_marks_of_a_refused_board(self):
-        run = self.marked(bytes(3), binary([], [(0, 0)] * 3))
+        run = self.marked(bytes(1), binary([], [(0, 0)] * 3))
         self.assertEqual((run.status, run.out), (1, b""))
         self.assertIn("There is no board to draw.", run.err)
 

@@ -14,7 +14,7 @@ import standin
 
 # The key words of 01 for each number.
 KEYS = {1: "4 to 180", 2: "not 2n numbers", 3: "outside 1 to 5", 4: "above 1,000,000",
-        5: "above 2,000,000", 6: "a byte is above 2", 7: "1 to 4,000 whole records",
+        5: "above 2,000,000", 6: "a mark of 3 or an unused bit set", 7: "1 to 4,000 whole records",
         8: "above the record count", 9: "highest record entered", 10: "wrong kind",
         11: "outside 1 to n, or a = b", 12: "struck already", 13: "seventh split",
         14: "next standing one", 15: "edge or centres break", 16: "No labelling",

@@ -1,15 +1,17 @@
-"""The examples in docs/FORMATS.md and the distances in docs/RULES.md are true, and both have each refusal."""
+"""The examples in docs/FORMATS.md, sets of marks among them, and the distances in docs/RULES.md are true, and both have each refusal."""
 
 import re
 import unittest
 
-from support import TOOLS
+from support import TOOLS, Run
 
 import standin
+from packing import packed
 from revosti.refusal import REFUSALS
 from sheetlib.explain import explain
 from sheetlib.answer import understand
 from sheetlib.board import RULES, length_of
+from sheetlib.marks import NAMES, edges
 from sheetlib.parts import join
 from sheetlib.read import pack
 
@@ -44,6 +46,36 @@ class Formats(unittest.TestCase):
         sheet = pack(re.sub(r"\n.*crossing.*", "", self.text))
         answer = understand(standin.answer(join(sheet.parts)))
         self.assertIn(block("Refused"), explain(sheet.parts, answer, sheet.lines))
+
+
+class Marks(unittest.TestCase):
+    """The set of four points bit by bit, and the table of sizes."""
+
+    SECTION = PAGE.partition("## Sets of marks")[2].partition("\n## ")[0]
+    BITS = re.findall(r"^\| (?:first|second) \| (.*) \| (\d+) \|$", SECTION, re.M)
+
+    def test_bits(self):
+        cells = [cell for row, _ in self.BITS for cell in reversed(row.split(" | "))]
+        written = [re.fullmatch(r"(\d)-(\d): ([01]{2}), (\w+)", cell).groups() for cell in cells[:6]]
+        self.assertEqual([(int(a), int(b)) for a, b, _, _ in written], edges(4))
+        self.assertEqual([NAMES[int(bits, 2)] for _, _, bits, _ in written], [name for *_, name in written])
+        self.assertEqual({name for *_, name in written}, {"struck", "open", "pending"})
+        self.assertEqual(cells[6:], ["unused: 00"] * 2)
+        marks = [int(bits, 2) for _, _, bits, _ in written]
+        self.assertEqual(packed(marks), bytes(int(value) for _, value in self.BITS))
+        self.assertIn(f"here `{' '.join(map(str, marks))}`", self.SECTION)
+
+    def test_shown(self):
+        data = bytes(int(value) for _, value in self.BITS)
+        self.assertEqual(Run("show-marks", data=data).text, block("points 4 edges 6\nopen"))
+
+    def test_sizes(self):
+        rows = [numbers(row) for row in re.findall(r"^\| (\d+ \| [\d,]+ \|.*)$", self.SECTION, re.M)]
+        self.assertEqual([row[0] for row in rows], [4, 5, 6, 7, 8, 180])
+        for n, *row in rows:
+            count = n * (n - 1) // 2
+            fresh = packed([1] * count)
+            self.assertEqual(row, [count, len(fresh), 8 * len(fresh) - 2 * count, fresh[-1], count], n)
 
 
 class Distances(unittest.TestCase):

@@ -8,10 +8,13 @@ confirm      strikes what is pending
 withdraw     opens it again
 list_pairs   the standing pairs of a split
 check_tour   a tour's length, and whether its edges are open
+pack_marks   a byte set to a packed set
+unpack_marks a packed set to a byte set
 
-A board has n points, 4 to 180. A table is one length an edge, marks are one byte an edge in a bytearray (OPEN, PENDING or STRUCK), both in
-the order 1-2, 1-3, .., 1-n, 2-3, ..; `place` gives the place of an edge. A sheet is a list of records of eight numbers:
-kind, a, b, u, v, c, d, next. docs/RULES.md has the rules.
+A board has n points, 4 to 180. A table is one length an edge, in the order 1-2, 1-3, .., 1-n, 2-3, ..; `place` gives the place of an edge.
+Marks are a packed set in a bytearray, two bits an edge in the same order, four edges a byte: `mark_of` reads the mark of an edge (OPEN,
+PENDING or STRUCK), `marks_size` gives the bytes of a set. A byte set has a byte an edge; only the last two functions take and give it.
+A sheet is a list of records of eight numbers: kind, a, b, u, v, c, d, next. docs/RULES.md has the rules.
 
 Faulty input raises a Refusal, and a refused call changes nothing, but for a sheet that stops at a record: the strikes of the lines accepted
 before stay. A number that does not fit its format (32 bits for n, rule, coordinates and lengths, 16 for all others) is an OverflowError,
@@ -22,8 +25,9 @@ The first call makes the library where it is missing, or raises NoLibrary.
 
 from .library import NoLibrary
 from .operations import (LEAST_POINTS, MOST_POINTS, OPEN, PENDING, STRUCK, Tour, ask_sheet, check_tour, confirm, fresh_marks, list_pairs,
-                         mark_sheet, measure, place, withdraw)
+                         mark_of, mark_sheet, marks_size, measure, pack_marks, place, unpack_marks, withdraw)
 from .refusal import Refusal, meaning
 
 __all__ = ["LEAST_POINTS", "MOST_POINTS", "NoLibrary", "OPEN", "PENDING", "Refusal", "STRUCK", "Tour", "ask_sheet", "check_tour", "confirm",
-           "fresh_marks", "list_pairs", "mark_sheet", "meaning", "measure", "place", "withdraw"]
+           "fresh_marks", "list_pairs", "mark_of", "mark_sheet", "marks_size", "meaning", "measure", "pack_marks", "place", "unpack_marks",
+           "withdraw"]

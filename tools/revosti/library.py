@@ -18,6 +18,8 @@ WORD, HALF = ctypes.c_uint32, ctypes.c_uint16
 ARGUMENTS = {
     "revosti_measure": (WORD, WORD, *BUFFER, *BUFFER),
     "revosti_fresh_marks": (WORD, *BUFFER),
+    "revosti_pack_marks": (WORD, *BUFFER, *BUFFER),
+    "revosti_unpack_marks": (WORD, *BUFFER, *BUFFER),
     "revosti_mark_sheet": (WORD, *BUFFER, *BUFFER, *BUFFER),
     "revosti_ask_sheet": (WORD, *BUFFER, *BUFFER, *BUFFER),
     "revosti_confirm": (WORD, *BUFFER),

@@ -31,9 +31,23 @@ def measure(n, rule, coordinates):
 
 def fresh_marks(n):
     """New marks, all open."""
-    marks = bytearray(edges(n))
+    marks = bytearray(marks_size(n))
     refuse(library().revosti_fresh_marks(fit(WORD, n), *lend(marks)))
     return marks
+
+
+def pack_marks(n, byte_set):
+    """The packed set with the marks of a byte set."""
+    packed = bytearray(marks_size(n))
+    refuse(library().revosti_pack_marks(fit(WORD, n), *lend(copy(byte_set)), *lend(packed)))
+    return packed
+
+
+def unpack_marks(n, marks):
+    """The byte set with the marks of a packed set."""
+    byte_set = bytearray(edges(n))
+    refuse(library().revosti_unpack_marks(fit(WORD, n), *lend(copy(marks)), *lend(byte_set)))
+    return byte_set
 
 
 def mark_sheet(n, table, marks, sheet):
@@ -58,7 +72,7 @@ def withdraw(n, marks):
 
 def list_pairs(n, table, marks, a, b, c):
     """The pairs (x, y) that stand at the split point c under the edge ab, rising. A pending edge counts as open."""
-    found = array(HALF, [0]) * (2 * len(marks))  # a pair is an edge, too
+    found = array(HALF, [0]) * (2 * edges(n))  # a pair is an edge, too
     answer = library().revosti_list_pairs(fit(WORD, n), *lend(array(WORD, table)), *lend(copy(marks)), fit(HALF, a), fit(HALF, b),
                                           fit(HALF, c), *lend(found))
     refuse(answer)
@@ -74,9 +88,20 @@ def check_tour(n, table, marks, tour):
 
 
 def place(n, a, b):
-    """The place of the edge ab, in either order, in a table and in marks (01, Points, lengths, marks)."""
+    """The place of the edge ab, in either order, in edge order (01, Points, lengths, marks)."""
     a, b = min(a, b), max(a, b)
     return (a - 1) * (2 * n - a) // 2 + b - a - 1
+
+
+def marks_size(n):
+    """How many bytes a packed set has. An n that is refused has none."""
+    return (edges(n) + 3) // 4
+
+
+def mark_of(n, marks, a, b):
+    """The mark of the edge ab in a packed set; a and b are different, from 1 to n, in either order."""
+    byte, rank = divmod(place(n, a, b), 4)
+    return marks[byte] >> 2 * rank & 3
 
 
 def hand_in(function, n, table, marks, sheet):

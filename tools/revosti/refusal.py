@@ -6,7 +6,8 @@ REFUSALS = {
     3: "The rule is outside 1 to 5.",
     4: "A coordinate is above 1,000,000.",
     5: "A table entry is above 2,000,000.",
-    6: "The marks have not n(n − 1)/2 bytes, or a byte is above 2.",
+    6: "The packed set has not n(n − 1)/8 bytes, rounded up, or has a mark of 3 or an unused bit set; "
+       "in a conversion also, the byte set has not n(n − 1)/2 bytes or has a byte above 2.",
     7: "The sheet is not 1 to 4,000 whole records, or the file is under 8 bytes, "
        "ends inside the coordinates or is longer than 65,448 bytes.",
     8: "An index of the record is above the record count.",

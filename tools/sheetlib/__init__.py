@@ -6,7 +6,8 @@ write    pieces to text (unpack)
 scan     text to lines of tokens, and complaints with their place
 read     text to pieces (pack)
 answer   running `mark` and reading its lines
-marks    the marks of a board
+marks    the marks of a board, and sets of marks taken apart
+archive  packed sets in files: handing in over one, settling, the two conversions
 board    lengths, K and standing pairs
 words    numbers in sentences
 fault    what a file itself shows about its refusal

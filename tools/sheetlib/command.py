@@ -1,13 +1,16 @@
-"""The command line. Exit status: 0 done, 1 a file or `mark` fails, 2 a bad text or bad use."""
+"""The command line. Exit status: 0 done, 1 a file, `mark` or a call fails, 2 a bad text, a bad set or bad use."""
 
 import argparse
 import sys
 from pathlib import Path
 
+from revosti import NoLibrary, Refusal, ask_sheet, confirm, mark_sheet, withdraw
+
 from .answer import NoAnswer, ask
+from .archive import bytes_of, hand_in, packed_of, settle, start
 from .draw import BadTour, draw, read_tour
-from .explain import explain
-from .marks import BadMarks, marks_left, read_marks
+from .explain import explain, kept
+from .marks import BadMarks, marks_left, packed_points, read_marks, show
 from .parts import join, split
 from .read import Sheet, pack
 from .scan import BadText
@@ -27,8 +30,10 @@ def main(arguments=None):
     except BadTour as error:
         return complain(f"--tour: {error}", 2)
     except BadMarks as error:
-        return complain(f"--marks: {error}", 2)
-    except NoAnswer as error:
+        return complain(f"{'--marks' if options.marks else name_of(options.file)}: {error}", 2)
+    except Refusal as error:
+        return complain(f"{error} {kept(error.lines)}" if error.record else str(error), 1)
+    except (NoAnswer, NoLibrary) as error:
         return complain(str(error), 1)
     except BrokenPipeError:
         sys.stderr.close()
@@ -44,10 +49,18 @@ def complain(message, status):
 
 
 def parser():
-    """The four commands and their options."""
+    """All commands and their options."""
     top = argparse.ArgumentParser(
-        prog="sheet", description="Write, read, explain and draw strike sheets.")
+        prog="sheet", description="Write, read, explain, draw and hand in strike sheets; show and convert sets of marks.")
     commands = top.add_subparsers(required=True, metavar="COMMAND")
+    add_sheets(commands)
+    add_hand_in(commands)
+    add_sets(commands)
+    return top
+
+
+def add_sheets(commands):
+    """The commands for a sheet."""
     add(commands, "pack", run_pack, "text to the input of mark")
     unpacking = add(commands, "unpack", run_unpack, "the input of mark to text")
     unpacking.add_argument("-n", "--numbers", action="store_true",
@@ -56,17 +69,37 @@ def parser():
                             ("draw", run_draw, "the board as SVG")):
         command = add(commands, name, run, text)
         command.add_argument("--form", choices=("text", "binary"), help="do not detect the form")
-    command.add_argument("--marks", metavar="MARKS", help="draw the marks in this file, a byte an edge, not those that mark leaves")
+    command.add_argument("--marks", metavar="MARKS", help="draw the packed set in this file, not the marks that mark leaves")
     command.add_argument("--tour", metavar="1,2,3,..", help="a tour to draw, all points in order")
-    return top
 
 
-def add(commands, name, run, text):
-    """One command with the options that all share."""
+def add_hand_in(commands):
+    """The commands that write a packed set, or change the one in a file."""
+    for name, run, sheet, text in (("fresh", run_fresh, True, "fresh marks of the sheet's board, all open"),
+                                   ("mark", run_mark, True, "mark the sheet over a set: its strikes count at once"),
+                                   ("ask", run_ask, True, "ask the sheet over a set: its strikes are pending"),
+                                   ("confirm", run_confirm, False, "strike what is pending in a set"),
+                                   ("withdraw", run_withdraw, False, "open again what is pending in a set")):
+        command = add(commands, name, run, text, files=sheet)
+        command.add_argument("--marks", metavar="MARKS", required=True, help="the file of the packed set, which is written")
+        if sheet:
+            command.add_argument("--form", choices=("text", "binary"), help="do not detect the form")
+
+
+def add_sets(commands):
+    """The commands for a set of marks. Its size tells how many points it is of."""
+    add(commands, "show-marks", run_show, "a packed set as text, a line an edge")
+    add(commands, "pack-marks", run_pack_marks, "a byte set to a packed set")
+    add(commands, "unpack-marks", run_unpack_marks, "a packed set to a byte set")
+
+
+def add(commands, name, run, text, files=True):
+    """One command with the options that all share, or all that read a file."""
     command = commands.add_parser(name, help=text, description=text)
-    command.add_argument("file", nargs="?", metavar="FILE", help="standard input if none is named")
+    if files:
+        command.add_argument("file", nargs="?", metavar="FILE", help="standard input if none is named")
     command.add_argument("-o", metavar="OUT", dest="out", help="standard output if none is named")
-    command.set_defaults(run=run)
+    command.set_defaults(run=run, file=None, marks=None)
     return command
 
 
@@ -141,3 +174,50 @@ def run_draw(options):
         marks = read_marks(Path(options.marks).read_bytes(), parts.n)
     tour = read_tour(options.tour, parts.n) if options.tour is not None else []
     write(options, draw(parts, marks, tour).encode("utf-8"))
+
+
+def run_fresh(options):
+    """sheet fresh"""
+    say(options, start(load(options).parts, options.marks))
+
+
+def run_mark(options):
+    """sheet mark"""
+    say(options, hand_in(mark_sheet, load(options).parts, options.marks))
+
+
+def run_ask(options):
+    """sheet ask"""
+    say(options, hand_in(ask_sheet, load(options).parts, options.marks))
+
+
+def run_confirm(options):
+    """sheet confirm"""
+    say(options, settle(confirm, options.marks))
+
+
+def run_withdraw(options):
+    """sheet withdraw"""
+    say(options, settle(withdraw, options.marks))
+
+
+def say(options, words):
+    """Puts a sentence where the options say."""
+    write(options, f"{words}\n".encode("utf-8"))
+
+
+def run_show(options):
+    """sheet show-marks"""
+    data = read(options)
+    n = packed_points(data)
+    write(options, show(n, read_marks(data, n)).encode("ascii"))
+
+
+def run_pack_marks(options):
+    """sheet pack-marks"""
+    write(options, packed_of(read(options)))
+
+
+def run_unpack_marks(options):
+    """sheet unpack-marks"""
+    write(options, bytes_of(read(options)))

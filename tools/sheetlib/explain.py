@@ -60,12 +60,11 @@ def verdict_block(parts, answer):
     lines += [more] if more else []
     if answer.n is None:
         return lines + ["Nothing is marked."]
-    return lines + [kept_sentence(answer), open_sentence(answer)]
+    return lines + [kept(len(answer.struck)), open_sentence(answer)]
 
 
-def kept_sentence(answer):
-    """What a refusal leaves of the lines before it."""
-    count = len(answer.struck)
+def kept(count):
+    """What a refusal leaves of the lines before it, so many of them accepted."""
     if count == 0:
         return "No line is accepted."
     return f"{counted(count, 'line')} before it {'is' if count == 1 else 'are'} accepted."

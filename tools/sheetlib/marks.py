@@ -1,14 +1,17 @@
-"""The marks of a board: those that `mark` leaves, or those of a file (01, Points, lengths, marks)."""
+"""The marks of a board, one number an edge: those that `mark` leaves, or those of a set (01, Points, lengths, marks)."""
 
 from itertools import combinations
 
-from revosti import OPEN, PENDING, STRUCK, meaning
+from revosti import LEAST_POINTS, MOST_POINTS, OPEN, PENDING, STRUCK, mark_of, marks_size, meaning
 
 from .answer import NoAnswer
+from .words import counted
+
+NAMES = {STRUCK: "struck", PENDING: "pending", OPEN: "open"}
 
 
 class BadMarks(Exception):
-    """Bytes that are no marks of a board (01, refusal 6)."""
+    """Bytes that are no set of marks (01, refusal 6)."""
 
 
 def marks_left(parts, answer):
@@ -19,18 +22,54 @@ def marks_left(parts, answer):
     every, struck = edges(answer.n), set(answer.struck)
     if answer.n != len(parts.points) or not struck <= set(every):
         raise NoAnswer("mark answers for another board")
-    return bytes(STRUCK if e in struck else OPEN for e in every)
+    return [STRUCK if e in struck else OPEN for e in every]
 
 
 def read_marks(data, n):
-    """The marks that these bytes are."""
+    """The marks of a packed set of n points."""
     every = edges(n)
-    if len(data) != len(every):
-        raise BadMarks(f"expected {len(every)} marks, a byte each, found {len(data)} bytes")
-    for (a, b), mark in zip(every, data):
-        if mark not in (STRUCK, OPEN, PENDING):
+    if len(data) != marks_size(n):
+        hint = "; a byte set has this size, and pack-marks packs it" if len(data) == len(every) else ""
+        raise BadMarks(f"expected a packed set of {counted(n, 'point')}, {marks_size(n)} bytes, found {counted(len(data), 'byte')}{hint}")
+    marks = known([mark_of(n, data, a, b) for a, b in every], n)
+    unused = data[-1] >> 2 * (len(every) % 4) if len(every) % 4 else 0
+    if unused:
+        raise BadMarks(f"expected 0 in the unused bits of the last byte, found {unused:b} there")
+    return marks
+
+
+def known(marks, n):
+    """The marks, where each of them is one."""
+    for (a, b), mark in zip(edges(n), marks):
+        if mark not in NAMES:
             raise BadMarks(f"expected {STRUCK}, {OPEN} or {PENDING} as the mark of {a}-{b}, found {mark}")
-    return data
+    return marks
+
+
+def packed_points(data):
+    """How many points a packed set is of. No two numbers of points have sets of one size."""
+    return points_of(data, marks_size, "a packed set")
+
+
+def byte_points(data):
+    """How many points a byte set is of."""
+    return points_of(data, lambda n: len(edges(n)), "a byte set")
+
+
+def points_of(data, size, form):
+    """The number of points whose set in this form has the size of the data."""
+    for n in range(LEAST_POINTS, MOST_POINTS + 1):
+        if size(n) == len(data):
+            return n
+    raise BadMarks(f"expected {form} of {LEAST_POINTS} to {MOST_POINTS} points, found {counted(len(data), 'byte')}, the size of none")
+
+
+def show(n, marks):
+    """The marks as text: the sizes, a line an edge, and how many have each mark."""
+    lines = [f"points {n} edges {len(marks)}"]
+    lines += [f"{NAMES[mark]} {a} {b}" for (a, b), mark in zip(edges(n), marks)]
+    total = " ".join(f"{name} {marks.count(mark)}" for mark, name in NAMES.items())
+    return "\n".join([*lines, f"total {total}", ""])
 
 
 def marked(n, marks, mark):

@@ -1,0 +1,85 @@
+"""The inline functions for packed sets in include/revosti.h, compiled as C99 and as C++, against sets made by another way."""
+
+import ctypes
+import shutil
+import subprocess
+import tempfile
+import unittest
+from itertools import combinations
+from pathlib import Path
+
+from support import ROOT
+
+from packing import SIZES, packed, some
+
+STRICT = ("-Wall", "-Wextra", "-Wpedantic", "-Wconversion", "-Werror", "-O2", "-shared", "-fPIC")
+SOURCE = """
+#include "revosti.h"
+#ifdef __cplusplus
+extern "C" {
+#endif
+size_t size(uint32_t n);
+unsigned mark(uint32_t n, const uint8_t *marks, uint32_t a, uint32_t b);
+size_t size(uint32_t n) { return revosti_marks_size(n); }
+unsigned mark(uint32_t n, const uint8_t *marks, uint32_t a, uint32_t b) { return revosti_mark_of(n, marks, a, b); }
+#ifdef __cplusplus
+}
+#endif
+"""
+
+
+def compiled(folder, *words):
+    """The two functions, compiled so, beside a second file that has the header, too."""
+    first, second, out = (Path(folder) / name for name in ("first", "second", "header.so"))
+    first.write_text(SOURCE)
+    second.write_text('#include "revosti.h"\n')
+    subprocess.run([*words, first, second, *STRICT, "-I", ROOT / "include", "-o", out], check=True)
+    functions = ctypes.CDLL(str(out))
+    functions.size.restype = ctypes.c_size_t
+    return functions
+
+
+class Inline:
+    """What holds of the functions, however they are compiled."""
+
+    def test_sizes(self):
+        self.assertEqual({n: self.functions.size(n) for n in SIZES}, SIZES)
+
+    def test_each_edge_in_both_orders(self):
+        for n in SIZES:
+            every, marks = list(combinations(range(1, n + 1), 2)), some(n)
+            data = bytes(packed(marks))
+            self.assertEqual([self.functions.mark(n, data, a, b) for a, b in every], marks, n)
+            self.assertEqual([self.functions.mark(n, data, b, a) for a, b in every], marks, n)
+
+    def test_one_edge_alone(self):
+        for n in range(4, 13):
+            every = list(combinations(range(1, n + 1), 2))
+            for edge in every:
+                data = bytes(packed([2 if other == edge else 1 for other in every]))
+                self.assertEqual([other for other in every if self.functions.mark(n, data, *other) == 2], [edge])
+
+
+class Compiled(unittest.TestCase):
+    """Compiles once for all tests of a class."""
+
+    COMPILER = ()
+
+    @classmethod
+    def setUpClass(cls):
+        holder = tempfile.TemporaryDirectory()
+        cls.addClassCleanup(holder.cleanup)
+        cls.functions = compiled(holder.name, *cls.COMPILER)
+
+
+class C99(Inline, Compiled):
+    COMPILER = ("gcc", "-std=c99", "-x", "c")
+
+
+@unittest.skipUnless(shutil.which("g++"), "there is no g++")
+class Cpp(Inline, Compiled):
+    COMPILER = ("g++", "-std=c++11", "-x", "c++")
+
+
+if __name__ == "__main__":
+    unittest.main()
