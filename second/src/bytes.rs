@@ -2,7 +2,7 @@
 
 use crate::marking::{self, Marked};
 use crate::refusal::Refusal;
-use crate::{lengths, listing, marks, tour};
+use crate::{lengths, listing, marks, packed, tour};
 
 /// 32-bit entries; a length that is no whole number of entries becomes a wrong size.
 pub fn entries(bytes: &[u8]) -> Vec<u32> {
@@ -39,6 +39,16 @@ pub fn measure(n: u32, rule: u32, coordinates: &[u8], table: &mut [u8]) -> u64 {
 /// *Fresh marks* for C: the refusal number or 0.
 pub fn fresh_marks(n: u32, marks: &mut [u8]) -> u64 {
     number(marks::fresh_marks(n, marks).map(|()| 0))
+}
+
+/// Packing a byte set for C: the refusal number or 0.
+pub fn pack_marks(n: u32, bytes: &[u8], packed: &mut [u8]) -> u64 {
+    number(packed::pack_marks(n, bytes, packed).map(|()| 0))
+}
+
+/// Unpacking a packed set for C: the refusal number or 0.
+pub fn unpack_marks(n: u32, packed: &[u8], bytes: &mut [u8]) -> u64 {
+    number(packed::unpack_marks(n, packed, bytes).map(|()| 0))
 }
 
 /// *List pairs* for C: the refusal number, or 65,536 × the number of pairs. The list's places are

@@ -1,7 +1,7 @@
 //! The limits of an instance and the tests that operations share (1, 2, 5, 6).
 
 use crate::lengths::edge_count;
-use crate::marks;
+use crate::packed::some_pending;
 use crate::refusal::Refusal;
 
 /// 01, Points, lengths, marks.
@@ -24,8 +24,9 @@ impl Instance {
         }
     }
 
-    /// Tests 1, 2, 5 and 6, which marking, asking, listing and the tour check begin with. Answers n and the largest mark.
-    pub fn tests(n: u32, table: &[u32], marks: &[u8]) -> Result<(u16, u8), Refusal> {
+    /// Tests 1, 2, 5 and 6, which marking, asking, listing and the tour check begin with. Answers n and whether a
+    /// mark is pending.
+    pub fn tests(n: u32, table: &[u32], marks: &[u8]) -> Result<(u16, bool), Refusal> {
         let n = Self::point_count(n)?;
         if table.len() != edge_count(n) {
             return Err(Refusal::TableSize);
@@ -33,6 +34,6 @@ impl Instance {
         if table.iter().fold(0, |most, &l| most.max(l)) > Self::MOST_LENGTH {
             return Err(Refusal::TableEntry);
         }
-        Ok((n, marks::largest(n, marks)?))
+        Ok((n, some_pending(n, marks)?))
     }
 }

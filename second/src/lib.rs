@@ -12,6 +12,7 @@ pub mod lengths;
 pub mod listing;
 pub mod marking;
 pub mod marks;
+pub mod packed;
 pub mod pairs;
 pub mod program;
 pub mod refusal;

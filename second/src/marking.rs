@@ -5,6 +5,7 @@ use crate::edge_set::EdgeSet;
 use crate::instance::Instance;
 use crate::lengths::Lengths;
 use crate::marks::{Marks, PENDING, STRUCK};
+use crate::packed::put_mark;
 use crate::pairs::Split;
 use crate::refusal::{demand, Fault, Refusal};
 use crate::sheet::{Case, Closing, Line, Sheet};
@@ -36,8 +37,8 @@ fn hand_in(n: u32, table: &[u32], marks: &mut [u8], sheet: &[u16], strike: u8) -
 
 /// 1, 2, 5, 6, 20, 7.
 fn tests<'a>(n: u32, table: &[u32], marks: &[u8], sheet: &'a [u16]) -> Result<(u16, Sheet<'a>), Refusal> {
-    let (n, largest) = Instance::tests(n, table, marks)?;
-    if largest == PENDING {
+    let (n, pending) = Instance::tests(n, table, marks)?;
+    if pending {
         return Err(Refusal::SomethingPending);
     }
     Ok((n, Sheet::read(sheet)?))
@@ -48,7 +49,7 @@ fn mark_lines(lengths: &Lengths, marks: &mut [u8], sheet: Sheet, strike: u8, lin
     let mut index = 1;
     loop {
         let line = walk.line(Marks::in_sheet(marks), index)?;
-        marks[lengths.order.place(line.a, line.b)] = strike;
+        put_mark(marks, lengths.order.place(line.a, line.b), strike);
         *lines += 1;
         if line.next == 0 {
             return Ok(());

@@ -7,6 +7,7 @@ use crate::instance::Instance;
 use crate::lengths::{edge_count, measure};
 use crate::marking::{mark_sheet, Marked};
 use crate::marks::{fresh_marks, OPEN, STRUCK};
+use crate::packed::{mark, packed_size};
 use crate::refusal::Refusal;
 use crate::sheet::Sheet;
 
@@ -42,19 +43,19 @@ fn read_file(file: &[u8]) -> Result<(u16, Vec<u32>, &[u8]), Refusal> {
 
 /// Marks the records from fresh marks and prints all lines.
 fn marked_text(n: u16, table: &[u32], records: &[u8]) -> String {
-    let mut marks = vec![STRUCK; edge_count(n)];
+    let mut marks = vec![0; packed_size(n)];
     fresh_marks(u32::from(n), &mut marks).unwrap();
     let marked = mark_sheet(u32::from(n), table, &mut marks, &bytes::numbers(records));
     let mut text = format!("points {} edges {}\n", n, edge_count(n));
     strikes(n, &marks, &mut text);
-    let open = marks.iter().filter(|&&m| m == OPEN).count();
+    let open = (0..edge_count(n)).filter(|&place| mark(&marks, place) == OPEN).count();
     text + &verdict(marked, open)
 }
 
 /// One line for each struck edge, in edge order.
 fn strikes(n: u16, marks: &[u8], text: &mut String) {
     let edges = (1..=n).flat_map(|a| (a + 1..=n).map(move |b| (a, b)));
-    for ((a, b), _) in edges.zip(marks).filter(|&(_, &mark)| mark == STRUCK) {
+    for (_, (a, b)) in edges.enumerate().filter(|&(place, _)| mark(marks, place) == STRUCK) {
         writeln!(text, "struck {a} {b}").unwrap();
     }
 }

@@ -8,9 +8,11 @@ use second::kit::coverage::Coverage;
 use second::kit::drafts::sheet_bytes;
 use second::kit::kept::Kept;
 use second::kit::rng::Rng;
+use second::kit::sets::packed;
 use second::kit::sheets::{self, Plan};
 use second::kit::three_opt::MOST_POINTS;
 use second::lengths::Lengths;
+use second::packed::packed_size;
 
 /// One sheet of any sort.
 fn sheet(rng: &mut Rng, lengths: &Lengths, marks: &[u8]) -> Vec<u8> {
@@ -39,7 +41,7 @@ fn run(rng: &mut Rng, board: &Board, steps: usize) -> u64 {
     let lengths = Lengths::new(board.n, &board.table);
     let kept = Kept::new(rng, board);
     let table: Vec<u8> = board.table.iter().flat_map(|l| l.to_le_bytes()).collect();
-    let mut marks = vec![0; board.table.len()];
+    let mut marks = vec![0; packed_size(board.n)];
     fresh_marks(u32::from(board.n), &mut marks);
     let mut strikes = 0;
     for _ in 0..steps {
@@ -72,8 +74,8 @@ fn shortest_tours_of_the_square() {
     let shortest = Shortest::of(&Lengths::new(4, &table));
     assert_eq!((shortest.length, &shortest.useful[..]), (40, &[1, 0, 1, 1, 0, 1][..]));
     assert_eq!(Shortest::of(&Lengths::new(4, &[10; 6])).useful, [1; 6]);
-    assert_eq!(shortest.lost_edge(&[1, 0, 1, 1, 0, 1]), None);
-    assert_eq!(shortest.lost_edge(&[1, 0, 0, 1, 0, 1]), Some(2));
-    assert_eq!(shortest.lost_edge(&[1, 2, 1, 1, 0, 1]), None);
-    assert_eq!(shortest.lost_edge(&[1, 2, 1, 1, 0, 2]), Some(5));
+    assert_eq!(shortest.lost_edge(&packed(&[1, 0, 1, 1, 0, 1])), None);
+    assert_eq!(shortest.lost_edge(&packed(&[1, 0, 0, 1, 0, 1])), Some(2));
+    assert_eq!(shortest.lost_edge(&packed(&[1, 2, 1, 1, 0, 1])), None);
+    assert_eq!(shortest.lost_edge(&packed(&[1, 2, 1, 1, 0, 2])), Some(5));
 }

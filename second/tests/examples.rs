@@ -30,6 +30,9 @@ fn edge_order() {
     assert_eq!(edge_count(180), 16_110);
 }
 
+/// Marks of the square with 1-3 struck: the fourth edge, third, second, first; the sixth, fifth.
+const DIAGONAL_STRUCK: [u8; 2] = [0b01_01_00_01, 0b01_01];
+
 fn compatible_on_square(pq: (u16, u16), (x, c): (u16, u16)) -> bool {
     let table = square();
     let l = Lengths::new(4, &table);
@@ -95,14 +98,14 @@ fn sheets() {
     let mut marks = fresh(4);
     let marked = mark_sheet(4, &square(), &mut marks, &[1, 1, 3, 0, 0, 2, 0, 1]);
     assert_eq!(figures(marked), (9, 1, 1));
-    assert_eq!(marks, [1, 0, 1, 1, 1, 1]);
+    assert_eq!(marks, DIAGONAL_STRUCK);
 }
 
 #[test]
 fn tour_of_the_square() {
     let table: Vec<u8> = square().iter().flat_map(|l| l.to_le_bytes()).collect();
     let tour = |points: [u16; 4]| points.iter().flat_map(|v| v.to_le_bytes()).collect::<Vec<u8>>();
-    let marks = [1, 0, 1, 1, 1, 1];
+    let marks = DIAGONAL_STRUCK;
     assert_eq!(second::bytes::check_tour(4, &table, &marks, &tour([1, 2, 3, 4])), 65_536 * 40 + 256);
     assert_eq!(second::bytes::check_tour(4, &table, &marks, &tour([1, 3, 2, 4])), 65_536 * 48);
 }

@@ -7,6 +7,7 @@ use second::lengths::measure;
 use second::listing::list_pairs;
 use second::marking::{ask_sheet, mark_sheet, Marked};
 use second::marks::{confirm, withdraw};
+use second::packed::put_mark;
 use second::program::mark_text;
 use second::tour::check_tour;
 
@@ -28,10 +29,10 @@ fn hand_in_with(hand_in: HandIn, faults: &str) -> u8 {
     }
     let mut marks = fresh(4);
     if has('m') {
-        marks[5] = 3;
+        put_mark(&mut marks, 5, 3);
     }
     if has('p') {
-        marks[0] = 2;
+        put_mark(&mut marks, 0, 2);
     }
     let before = marks.clone();
     let sheet: &[u16] = if has('s') { &[] } else { &[0; 8] };
@@ -64,16 +65,18 @@ fn settling() {
             assert!(number == 0 || marks == before, "a refusal leaves the marks");
             number
         };
-        assert_eq!(number(3, vec![3; 5]), 1);
-        assert_eq!(number(181, vec![2; 6]), 1);
-        assert_eq!(number(4, vec![1; 5]), 6, "6 before 21");
-        assert_eq!(number(4, vec![2; 5]), 6);
-        assert_eq!(number(5, vec![2; 6]), 6);
-        assert_eq!(number(4, vec![1, 1, 1, 1, 1, 3]), 6, "6 before 21");
-        assert_eq!(number(4, vec![2, 2, 2, 2, 2, 3]), 6);
-        assert_eq!(number(4, vec![1; 6]), 21);
-        assert_eq!(number(4, vec![0; 6]), 21);
-        assert_eq!(number(4, vec![0, 1, 2, 1, 1, 1]), 0);
+        assert_eq!(number(3, vec![0xff; 1]), 1);
+        assert_eq!(number(181, vec![0b10_10_10_10, 0b10_10]), 1);
+        assert_eq!(number(4, vec![0b01_01_01_01]), 6, "6 before 21");
+        assert_eq!(number(4, vec![0b10_10_10_10]), 6);
+        assert_eq!(number(5, vec![0b10_10_10_10, 0b10_10]), 6);
+        assert_eq!(number(4, vec![0b01_01_01_01, 0b11_01]), 6, "6 before 21");
+        assert_eq!(number(4, vec![0b10_10_10_10, 0b11_10]), 6);
+        assert_eq!(number(4, vec![0b01_01_01_01, 0b01_01_01]), 6, "6 before 21");
+        assert_eq!(number(4, vec![0b10_10_10_10, 0b10_10_10]), 6);
+        assert_eq!(number(4, vec![0b01_01_01_01, 0b01_01]), 21);
+        assert_eq!(number(4, vec![0, 0]), 21);
+        assert_eq!(number(4, vec![0b01_10_01_00, 0b01_01]), 0);
     }
 }
 
@@ -91,27 +94,27 @@ fn measuring() {
 #[test]
 fn listing() {
     let list = |n, table: &[u32], marks: &[u8], a| refusal(list_pairs(n, table, marks, (a, 2), 3, &mut []));
-    assert_eq!(list(3, &[LONG; 5], &[2; 5], 0), 1);
-    assert_eq!(list(4, &[LONG; 5], &[2; 5], 0), 2);
-    assert_eq!(list(4, &[LONG; 6], &[2; 5], 0), 5);
-    assert_eq!(list(4, &square(), &[2; 5], 0), 6);
-    assert_eq!(list(4, &square(), &[3; 6], 0), 6);
-    assert_eq!(list(4, &square(), &[0; 6], 0), 11);
-    assert_eq!(list(4, &square(), &[0; 6], 1), 12);
-    assert_eq!(list(4, &square(), &[1; 6], 1), 18);
-    assert_eq!(list(4, &square(), &[2; 6], 1), 18, "pending marks are no fault");
+    assert_eq!(list(3, &[LONG; 5], &[2; 1], 0), 1);
+    assert_eq!(list(4, &[LONG; 5], &[2; 1], 0), 2);
+    assert_eq!(list(4, &[LONG; 6], &[2; 1], 0), 5);
+    assert_eq!(list(4, &square(), &[2; 1], 0), 6);
+    assert_eq!(list(4, &square(), &[0, 0b11_00], 0), 6);
+    assert_eq!(list(4, &square(), &[0, 0], 0), 11);
+    assert_eq!(list(4, &square(), &[0, 0], 1), 12);
+    assert_eq!(list(4, &square(), &[0b01_01_01_01, 0b01_01], 1), 18);
+    assert_eq!(list(4, &square(), &[0b10_10_10_10, 0b10_10], 1), 18, "pending marks are no fault");
 }
 
 #[test]
 fn tours() {
     let tour = |n, table: &[u32], marks: &[u8]| refusal(check_tour(n, table, marks, &[0]));
-    assert_eq!(tour(181, &[LONG; 5], &[2; 5]), 1);
-    assert_eq!(tour(4, &[LONG; 5], &[2; 5]), 2);
-    assert_eq!(tour(4, &[LONG; 6], &[2; 5]), 5);
-    assert_eq!(tour(4, &square(), &[2; 5]), 6);
-    assert_eq!(tour(4, &square(), &[3; 6]), 6);
-    assert_eq!(tour(4, &square(), &[1; 6]), 17);
-    assert_eq!(tour(4, &square(), &[2; 6]), 17, "pending marks are no fault");
+    assert_eq!(tour(181, &[LONG; 5], &[2; 1]), 1);
+    assert_eq!(tour(4, &[LONG; 5], &[2; 1]), 2);
+    assert_eq!(tour(4, &[LONG; 6], &[2; 1]), 5);
+    assert_eq!(tour(4, &square(), &[2; 1]), 6);
+    assert_eq!(tour(4, &square(), &[0, 0b11_00]), 6);
+    assert_eq!(tour(4, &square(), &[0b01_01_01_01, 0b01_01]), 17);
+    assert_eq!(tour(4, &square(), &[0b10_10_10_10, 0b10_10]), 17, "pending marks are no fault");
 }
 
 #[test]

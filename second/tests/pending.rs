@@ -13,9 +13,11 @@ use second::tour::{check_tour, TourAnswer};
 /// The two diagonals, each by a split without a pair.
 const DIAGONALS: [Record; 2] = [[1, 1, 3, 0, 0, 2, 0, 2], [1, 2, 4, 0, 0, 1, 0, 0]];
 
-/// Marks of 1-2, 1-3, 1-4, 2-3, 2-4, 3-4.
-const PENDING: [u8; 6] = [1, 2, 1, 1, 2, 1];
-const STRUCK: [u8; 6] = [1, 0, 1, 1, 0, 1];
+/// Marks of 2-3, 1-4, 1-3, 1-2, then of 3-4, 2-4: the first edge of a byte stands lowest.
+const PENDING: [u8; 2] = [0b01_01_10_01, 0b01_10];
+const STRUCK: [u8; 2] = [0b01_01_00_01, 0b01_00];
+/// Of the diagonals only 1-3 is pending.
+const ONE_PENDING: [u8; 2] = [0b01_01_10_01, 0b01_01];
 
 /// Asks the records from fresh marks: number, record, lines accepted, and the marks left.
 fn asked(records: &[Record]) -> ((u8, u16, u32), Vec<u8>) {
@@ -38,14 +40,14 @@ fn confirming_strikes() {
 
 #[test]
 fn withdrawing_opens() {
-    let mut marks = [0, 2, 1, 1, 2, 1];
-    assert_eq!((refusal(withdraw(4, &mut marks)), marks), (0, [0, 1, 1, 1, 1, 1]));
-    assert_eq!((refusal(withdraw(4, &mut marks)), marks), (21, [0, 1, 1, 1, 1, 1]));
+    let (mut marks, open) = ([0b01_01_10_00, 0b01_10], [0b01_01_01_00, 0b01_01]);
+    assert_eq!((refusal(withdraw(4, &mut marks)), marks), (0, open));
+    assert_eq!((refusal(withdraw(4, &mut marks)), marks), (21, open));
 }
 
 #[test]
 fn an_asked_sheet_that_stops_keeps_its_strikes_pending() {
-    assert_eq!(asked(&[[1, 1, 3, 0, 0, 2, 0, 1]]), ((9, 1, 1), vec![1, 2, 1, 1, 1, 1]));
+    assert_eq!(asked(&[[1, 1, 3, 0, 0, 2, 0, 1]]), ((9, 1, 1), ONE_PENDING.to_vec()));
 }
 
 /// A sheet that strikes nothing leaves nothing to confirm.
@@ -59,7 +61,7 @@ fn asked_for_nothing() {
 #[test]
 fn a_pending_edge_is_struck_already_in_its_own_sheet() {
     let again = [DIAGONALS[0], [1, 3, 1, 0, 0, 2, 0, 0]];
-    assert_eq!(asked(&again), ((12, 2, 1), vec![1, 2, 1, 1, 1, 1]));
+    assert_eq!(asked(&again), ((12, 2, 1), ONE_PENDING.to_vec()));
 }
 
 /// With 1-3 open, (1, 4) stands before (2, 4) at 3 under K = {1-2}, and the case gets 14.
@@ -98,15 +100,15 @@ fn the_pair_list_counts_a_pending_edge_as_open() {
 fn the_tour_check_counts_a_pending_edge_as_open() {
     let tour = |marks: &[u8]| check_tour(4, &square(), marks, &[1, 3, 2, 4]).unwrap();
     assert_eq!(tour(&PENDING), TourAnswer { length: 48, all_open: true });
-    assert_eq!(tour(&[1, 2, 1, 1, 0, 1]), TourAnswer { length: 48, all_open: false });
+    assert_eq!(tour(&[0b01_01_10_01, 0b01_00]), TourAnswer { length: 48, all_open: false });
 }
 
 /// Whatever the marks were, with the right size.
 #[test]
 fn fresh_marks_are_open() {
     for old in [2, 3, 255] {
-        let mut marks = [old; 6];
-        assert_eq!((refusal(fresh_marks(4, &mut marks)), marks), (0, [1; 6]));
+        let mut marks = [old; 2];
+        assert_eq!((refusal(fresh_marks(4, &mut marks)), marks), (0, [85, 5]));
     }
 }
 

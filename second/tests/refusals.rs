@@ -42,9 +42,11 @@ fn measuring() {
 
 #[test]
 fn fresh_marking() {
-    assert_eq!(refusal(fresh_marks(3, &mut [5; 3])), 1);
-    assert_eq!(refusal(fresh_marks(4, &mut [5; 5])), 6);
-    assert_eq!(refusal(fresh_marks(4, &mut [5; 6])), 0);
+    assert_eq!(refusal(fresh_marks(3, &mut [5; 1])), 1);
+    assert_eq!(refusal(fresh_marks(4, &mut [5; 1])), 6);
+    assert_eq!(refusal(fresh_marks(4, &mut [5; 3])), 6);
+    assert_eq!(refusal(fresh_marks(4, &mut [5; 6])), 6, "the size of the byte set");
+    assert_eq!(refusal(fresh_marks(4, &mut [5; 2])), 0);
 }
 
 #[test]
@@ -57,9 +59,12 @@ fn marking_before_the_records() {
     assert_eq!(mark(5, &table, &mut fresh(4), &GOOD), (2, 0, 0));
     assert_eq!(mark(4, &[10, 14, 10, 10, 14, 2_000_001], &mut fresh(4), &GOOD), (5, 0, 0));
     assert_eq!(mark(4, &[10, 14, 10, 10, 14, 2_000_000], &mut fresh(4), &[1; 0]), (7, 0, 0));
-    assert_eq!(mark(4, &table, &mut [1; 5], &GOOD), (6, 0, 0));
-    assert_eq!(mark(4, &table, &mut [1, 1, 1, 1, 1, 3], &GOOD), (6, 0, 0));
-    assert_eq!(mark(4, &table, &mut [1, 1, 1, 1, 1, 2], &GOOD), (20, 0, 0));
+    assert_eq!(mark(4, &table, &mut [85], &GOOD), (6, 0, 0));
+    assert_eq!(mark(4, &table, &mut [85, 5, 0], &GOOD), (6, 0, 0));
+    assert_eq!(mark(4, &table, &mut [1; 6], &GOOD), (6, 0, 0), "a byte set");
+    assert_eq!(mark(4, &table, &mut [85, 0b11_01], &GOOD), (6, 0, 0));
+    assert_eq!(mark(4, &table, &mut [85, 0b01_01_01], &GOOD), (6, 0, 0));
+    assert_eq!(mark(4, &table, &mut [85, 0b10_01], &GOOD), (20, 0, 0));
     assert_eq!(mark(4, &table, &mut fresh(4), &[]), (7, 0, 0));
     assert_eq!(mark(4, &table, &mut fresh(4), &GOOD[..7]), (7, 0, 0));
     assert_eq!(mark(4, &table, &mut fresh(4), &GOOD.repeat(4_001)), (7, 0, 0));
@@ -108,7 +113,7 @@ fn point_fields() {
 #[test]
 fn struck_already() {
     assert_eq!(on_square(&[[1, 1, 3, 0, 0, 2, 0, 2], [1, 3, 1, 0, 0, 2, 0, 0]]), (12, 2, 1));
-    assert_eq!(mark(4, &square(), &mut [1, 0, 1, 1, 1, 1], &GOOD), (12, 1, 0));
+    assert_eq!(mark(4, &square(), &mut [0b01_01_00_01, 0b01_01], &GOOD), (12, 1, 0));
 }
 
 /// Splits at point 1 again and again; K = {12, 13} has one pair there.
@@ -177,7 +182,7 @@ fn listing() {
     for (ab, c) in [((0, 2), 3), ((1, 5), 3), ((1, 2), 0), ((1, 2), 5), ((2, 2), 3)] {
         assert_eq!(list(4, &table, &marks, ab, c, 4), 11);
     }
-    assert_eq!(list(4, &table, &[0, 1, 1, 1, 1, 1], (2, 1), 3, 4), 12);
+    assert_eq!(list(4, &table, &[0b01_01_01_00, 0b01_01], (2, 1), 3, 4), 12);
     assert_eq!(list(4, &table, &marks, (1, 2), 3, 3), 18);
     assert_eq!(list(4, &table, &marks, (1, 2), 3, 4), 0);
     assert_eq!(list(4, &table, &marks, (1, 3), 2, 0), 0);
@@ -191,7 +196,7 @@ fn tours() {
     assert_eq!(tour(3, &table, &marks, &[1, 2, 3]), 1);
     assert_eq!(tour(5, &table, &marks, &[1, 2, 3, 4]), 2);
     assert_eq!(tour(4, &[2_000_001; 6], &marks, &[1, 2, 3, 4]), 5);
-    assert_eq!(tour(4, &table, &[3; 6], &[1, 2, 3, 4]), 6);
+    assert_eq!(tour(4, &table, &[0b11_01_01_01, 0b01_01], &[1, 2, 3, 4]), 6);
     for wrong in [&[1, 2, 3][..], &[1, 2, 3, 4, 1], &[], &[1, 2, 3, 3], &[0, 1, 2, 3], &[2, 3, 4, 5]] {
         assert_eq!(tour(4, &table, &marks, wrong), 17);
     }

@@ -4,12 +4,13 @@ use second::kit::checker::Second;
 use second::kit::compare::Comparison;
 use second::kit::coverage::Coverage;
 use second::kit::naive::{Naive, Slip};
+use second::kit::sets_met::READERS;
 
 #[test]
 fn alike_and_everything_met() {
     let naive = Naive::default();
-    let mut comparison = Comparison::new(&Second, &naive, 7);
-    if let Err(difference) = comparison.run(6_000) {
+    let mut comparison = Comparison::new(&Second, &naive, &naive, 7);
+    if let Err(difference) = comparison.run(10_000) {
         panic!("{}", difference.0);
     }
     assert!(comparison.coverage.missing().is_empty(), "{:?}", comparison.coverage.missing());
@@ -73,10 +74,39 @@ fn pending_marks_are_demanded() {
     }
 }
 
+/// Before the first case no packed set has been met.
+#[test]
+fn packed_sets_are_demanded() {
+    let missing = Coverage::default().missing();
+    let demanded = |unmet: String| assert!(missing.contains(&unmet), "{unmet}");
+    for operation in READERS.map(|operation| operation.name()) {
+        for n in (4..=12).chain(177..=180) {
+            demanded(format!("{operation}: a result for {n} points"));
+            demanded(format!("{operation}: held against the naive checker for {n} points"));
+        }
+        for marks in 1..=4 {
+            (0..marks).for_each(|place| {
+                demanded(format!("{operation}: refused for a mark of 3 at place {place} of a last byte with {marks}"))
+            });
+            (2 * marks..8)
+                .for_each(|bit| demanded(format!("{operation}: refused for bit {bit} of a last byte with {marks}")));
+        }
+        (0..4).for_each(|place| demanded(format!("{operation}: refused for a mark of 3 at place {place} of a byte")));
+        demanded(format!("{operation}: a faulty set refused by a test before 6"));
+    }
+    for operation in ["fresh marks", "pack marks", "program"] {
+        (4..=12).chain(177..=180).for_each(|n| demanded(format!("{operation}: a result for {n} points")));
+    }
+    for operation in READERS.map(|operation| operation.name()).into_iter().chain(["fresh marks", "pack marks"]) {
+        demanded(format!("{operation}: refused for a byte too few"));
+        demanded(format!("{operation}: refused for a byte too many"));
+    }
+}
+
 /// Sheets until the comparison finds the slip.
 fn found_after(slip: Slip) -> Option<u64> {
     let naive = Naive { slip: Some(slip) };
-    let mut comparison = Comparison::new(&Second, &naive, 7);
+    let mut comparison = Comparison::new(&Second, &naive, &naive, 7);
     let outcome = comparison.run(10_000);
     outcome.is_err().then_some(comparison.sheets)
 }
@@ -93,7 +123,7 @@ fn slips_are_found() {
 /// What the comparison finds where both programs make the slip: the marks alone tell it.
 fn found_in_both(slip: Slip) -> String {
     let naive = Naive { slip: Some(slip) };
-    let mut comparison = Comparison::new(&naive, &naive, 7);
+    let mut comparison = Comparison::new(&naive, &naive, &naive, 7);
     let Err(difference) = comparison.run(20_000) else { panic!("{slip:?} is not found") };
     let what = difference.0.split(" differs").next().unwrap();
     println!("{slip:?}: {what} after {} sheets", comparison.sheets);
@@ -117,6 +147,25 @@ fn slips_of_both_are_found_by_the_laws_of_asking() {
     assert_eq!(found_in_both(Slip::ConfirmOpens), "ask, then confirm");
     assert_eq!(found_in_both(Slip::NothingPendingUntold), "ask, then confirm");
     assert_eq!(found_in_both(Slip::WithdrawStrikes), "ask, then withdraw");
+}
+
+/// Paper 4's laws, on conversions and on sets with one fault.
+#[test]
+fn slips_of_both_are_found_by_the_laws_of_packed_sets() {
+    assert_eq!(found_in_both(Slip::PendingPackedOpen), "pack marks, then unpack marks");
+    assert_eq!(found_in_both(Slip::LastMarkDropped), "pack marks, then unpack marks");
+    assert_eq!(found_in_both(Slip::WrittenSetTested), "pack marks, then unpack marks");
+    assert_eq!(found_in_both(Slip::PackedBeforeTest), "pack marks, refused");
+    let faults = [
+        (Slip::LongerSet, " for a byte too many"),
+        (Slip::MarkThree, " for a mark of 3 at place "),
+        (Slip::LastByteUntested, " of a last byte with "),
+        (Slip::UnusedPassed, " for bit "),
+    ];
+    for (slip, fault) in faults {
+        let what = found_in_both(slip);
+        assert!(what.contains(fault), "{slip:?}: {what}");
+    }
 }
 
 /// Rules that shut out too much, in both.

@@ -9,6 +9,7 @@ use std::time::Instant;
 use second::kit::checker::{Checker, Second};
 use second::kit::compare::Comparison;
 use second::kit::guarded::Guarded;
+use second::kit::naive::Naive;
 
 struct Options {
     sheets: u64,
@@ -43,14 +44,15 @@ fn other() -> impl Checker {
 
 #[cfg(not(feature = "revosti"))]
 fn other() -> impl Checker {
-    second::kit::naive::Naive::default()
+    Naive::default()
 }
 
 fn main() {
     let options = options();
     let other = Guarded(other());
     let start = Instant::now();
-    let mut comparison = Comparison::new(&Second, &other, options.seed);
+    let naive = Naive::default();
+    let mut comparison = Comparison::new(&Second, &other, &naive, options.seed);
     comparison.save = options.save;
     let outcome = match options.case {
         Some(case) => comparison.run_case(case),

@@ -2,6 +2,7 @@
 
 use super::rng::Rng;
 use crate::lengths::{edge_count, measure};
+use crate::marks::PENDING;
 
 /// Where a table comes from.
 #[derive(Clone, Debug)]
@@ -111,8 +112,13 @@ pub fn corner_coordinates(rng: &mut Rng, n: usize) -> Vec<u32> {
 }
 
 fn random_points(rng: &mut Rng, most: usize) -> Board {
-    let n = usize::from(size(rng));
-    let coordinates = random_coordinates(rng, n, most);
+    let n = size(rng);
+    points_of(rng, n, most)
+}
+
+/// n points with coordinates from 0 to `most`.
+pub fn points_of(rng: &mut Rng, n: u16, most: usize) -> Board {
+    let coordinates = random_coordinates(rng, usize::from(n), most);
     Board::from_points(rule(rng), coordinates)
 }
 
@@ -135,12 +141,17 @@ fn bent_table(rng: &mut Rng) -> Board {
     Board { table, measured: None, ..board }
 }
 
-/// Marks in which each edge is open with the chance `per_hundred`.
+/// A byte set in which each edge is open with the chance `per_hundred`.
 pub fn random_marks(rng: &mut Rng, n: u16, per_hundred: usize) -> Vec<u8> {
     (0..edge_count(n)).map(|_| u8::from(rng.chance(per_hundred))).collect()
 }
 
-/// Marks in which an edge is open if one end is among the other's `near` nearest points.
+/// Makes marks pending with the chance `per_hundred`.
+pub fn some_pending(rng: &mut Rng, bytes: &mut [u8], per_hundred: usize) {
+    bytes.iter_mut().filter(|_| rng.chance(per_hundred)).for_each(|mark| *mark = PENDING);
+}
+
+/// A byte set in which an edge is open if one end is among the other's `near` nearest points.
 pub fn near_marks(board: &Board, near: usize) -> Vec<u8> {
     let lengths = crate::lengths::Lengths::new(board.n, &board.table);
     let mut marks = vec![0; edge_count(board.n)];

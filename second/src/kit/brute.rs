@@ -1,5 +1,6 @@
 //! All shortest tours of small instances, by trying every order.
 
+use super::sets;
 use crate::lengths::{edge_count, Lengths};
 use crate::marks::OPEN;
 
@@ -30,7 +31,7 @@ impl Shortest {
 
     /// The first edge of a shortest tour that is struck or pending, by its place.
     pub fn lost_edge(&self, marks: &[u8]) -> Option<usize> {
-        self.useful.iter().zip(marks).position(|(&used, &mark)| used == 1 && mark != OPEN)
+        self.useful.iter().zip(sets::marks(marks)).position(|(&used, mark)| used == 1 && mark != OPEN)
     }
 }
 

@@ -7,6 +7,10 @@ pub trait Checker {
     fn measure(&self, n: u32, rule: u32, coordinates: &[u8], table: &mut [u8]) -> u64;
     /// The refusal number or 0.
     fn fresh_marks(&self, n: u32, marks: &mut [u8]) -> u64;
+    /// The refusal number or 0.
+    fn pack_marks(&self, n: u32, bytes: &[u8], packed: &mut [u8]) -> u64;
+    /// The refusal number or 0.
+    fn unpack_marks(&self, n: u32, packed: &[u8], bytes: &mut [u8]) -> u64;
     /// 01's 64-bit number for marking.
     fn mark_sheet(&self, n: u32, table: &[u8], marks: &mut [u8], sheet: &[u8]) -> u64;
     /// The same number for asking.
@@ -41,6 +45,14 @@ impl Checker for Second {
 
     fn fresh_marks(&self, n: u32, marks: &mut [u8]) -> u64 {
         crate::bytes::fresh_marks(n, marks)
+    }
+
+    fn pack_marks(&self, n: u32, bytes: &[u8], packed: &mut [u8]) -> u64 {
+        crate::bytes::pack_marks(n, bytes, packed)
+    }
+
+    fn unpack_marks(&self, n: u32, packed: &[u8], bytes: &mut [u8]) -> u64 {
+        crate::bytes::unpack_marks(n, packed, bytes)
     }
 
     fn mark_sheet(&self, n: u32, table: &[u8], marks: &mut [u8], sheet: &[u8]) -> u64 {

@@ -3,12 +3,15 @@
 use std::fmt;
 
 use super::rules_met::RulesMet;
+use super::sets_met::SetsMet;
 use crate::sheet::Sheet;
 
 #[derive(Clone, Copy, Debug, PartialEq, Eq)]
 pub enum Operation {
     Measure,
     FreshMarks,
+    PackMarks,
+    UnpackMarks,
     MarkSheet,
     AskSheet,
     Confirm,
@@ -21,9 +24,11 @@ pub enum Operation {
 use Operation::*;
 
 /// Each operation with the numbers that it has to have met; 0 is a result.
-const DEMANDS: [(Operation, &str, &[usize]); 9] = [
+const DEMANDS: [(Operation, &str, &[usize]); Operation::COUNT] = [
     (Measure, "measure", &[0, 1, 2, 3, 4]),
     (FreshMarks, "fresh marks", &[0, 1, 6]),
+    (PackMarks, "pack marks", &[0, 1, 6]),
+    (UnpackMarks, "unpack marks", &[0, 1, 6]),
     (MarkSheet, "mark a sheet", &[0, 1, 2, 5, 6, 20, 7, 8, 9, 10, 11, 12, 13, 14, 15, 16]),
     (AskSheet, "ask a sheet", &[0, 1, 2, 5, 6, 20, 7, 8, 9, 10, 11, 12, 13, 14, 15, 16]),
     (Confirm, "confirm", &[0, 1, 6, 21]),
@@ -34,6 +39,8 @@ const DEMANDS: [(Operation, &str, &[usize]); 9] = [
 ];
 
 impl Operation {
+    pub const COUNT: usize = 11;
+
     pub fn name(self) -> &'static str {
         DEMANDS.iter().find(|demand| demand.0 == self).unwrap().1
     }
@@ -103,11 +110,27 @@ pub enum Event {
     /// Pending marks held against all shortest tours, and against 3-opt tours of larger boards.
     PendingShortest,
     PendingThreeOpt,
+    /// Sets with pending marks, converted there and back.
+    PackedBack,
+    UnpackedBack,
+    /// Byte sets refused for one byte: of 3, above 3, the first, the last.
+    ByteThree,
+    ByteAboveThree,
+    FirstByte,
+    LastByte,
+    /// Conversions refused for the size of the byte set alone.
+    PackShorter,
+    PackLonger,
+    UnpackShorter,
+    UnpackLonger,
+    /// Conversions refused by 6 for both sets, and by 1 where 6 is for one, too.
+    BothSets,
+    PointsFirst,
 }
 
 use Event::*;
 
-const EVENTS: [(Event, &str); 35] = [
+const EVENTS: [(Event, &str); 47] = [
     (TourOpen, "tours with all edges open"),
     (TourStruck, "tours with a struck edge"),
     (NoPairs, "splits listed without a pair"),
@@ -143,6 +166,18 @@ const EVENTS: [(Event, &str); 35] = [
     (PendingTour, "tours with all edges open, some of them pending"),
     (PendingShortest, "pending marks held against all shortest tours"),
     (PendingThreeOpt, "pending marks held against 3-opt tours of more than nine points"),
+    (PackedBack, "byte sets with pending marks, packed and unpacked to the old bytes"),
+    (UnpackedBack, "packed sets with pending marks, unpacked and packed to the old ones"),
+    (ByteThree, "byte sets refused for a byte of 3"),
+    (ByteAboveThree, "byte sets refused for a byte above 3"),
+    (FirstByte, "byte sets refused for their first byte"),
+    (LastByte, "byte sets refused for their last byte"),
+    (PackShorter, "byte sets a byte too short to be packed"),
+    (PackLonger, "byte sets a byte too long to be packed"),
+    (UnpackShorter, "byte sets a byte too short to be written"),
+    (UnpackLonger, "byte sets a byte too long to be written"),
+    (BothSets, "conversions refused by 6 for both sets"),
+    (PointsFirst, "conversions of faulty sets refused by 1"),
 ];
 
 #[derive(Clone)]
@@ -152,6 +187,7 @@ pub struct Coverage {
     /// The rules that *measure* and the program were given.
     pub measure_rules: RulesMet,
     pub program_rules: RulesMet,
+    pub sets: SetsMet,
     /// Accepted lines by the number of splits one inside another, from 1.
     depths: [u64; Sheet::MOST_SPLITS + 1],
     /// Accepted lines by the size of the board.
@@ -169,6 +205,7 @@ impl Default for Coverage {
             events: [0; EVENTS.len()],
             measure_rules: RulesMet::default(),
             program_rules: RulesMet::default(),
+            sets: SetsMet::default(),
             depths: [0; Sheet::MOST_SPLITS + 1],
             sizes: [0; SIZES.len()],
         }
@@ -201,6 +238,7 @@ impl Coverage {
         missing.extend(unmet.map(|(_, name)| name.to_string()));
         missing.extend(self.measure_rules.missing().iter().map(|unmet| format!("measure: {unmet}")));
         missing.extend(self.program_rules.missing().iter().map(|unmet| format!("program: {unmet}")));
+        missing.extend(self.sets.missing());
         let unmet = (1..=Sheet::MOST_SPLITS).filter(|&depth| self.depths[depth] == 0);
         missing.extend(unmet.map(|depth| format!("accepted line at depth {depth}")));
         let unmet = SIZES.iter().zip(self.sizes).filter(|&(_, lines)| lines == 0);
@@ -229,7 +267,7 @@ impl fmt::Display for Coverage {
         for (event, name) in EVENTS {
             writeln!(f, "{name}: {}", self.events[event as usize])?;
         }
-        writeln!(f, "measure: {}\nprogram: {}", self.measure_rules, self.program_rules)?;
+        writeln!(f, "measure: {}\nprogram: {}\n{}", self.measure_rules, self.program_rules, self.sets)?;
         write!(f, "accepted lines by depth:")?;
         for depth in 1..=Sheet::MOST_SPLITS {
             write!(f, " {depth}: {}", self.depths[depth])?;

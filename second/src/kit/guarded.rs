@@ -35,6 +35,14 @@ impl<C: Checker> Checker for Guarded<C> {
         lend(marks, |marks| self.0.fresh_marks(n, marks))
     }
 
+    fn pack_marks(&self, n: u32, bytes: &[u8], packed: &mut [u8]) -> u64 {
+        lend(packed, |packed| self.0.pack_marks(n, bytes, packed))
+    }
+
+    fn unpack_marks(&self, n: u32, packed: &[u8], bytes: &mut [u8]) -> u64 {
+        lend(bytes, |bytes| self.0.unpack_marks(n, packed, bytes))
+    }
+
     fn mark_sheet(&self, n: u32, table: &[u8], marks: &mut [u8], sheet: &[u8]) -> u64 {
         lend(marks, |marks| self.0.mark_sheet(n, table, marks, sheet))
     }

@@ -9,6 +9,7 @@ use super::brute::{self, Shortest};
 use super::coverage::{Coverage, Event};
 use super::drafts::sheet_bytes;
 use super::rng::Rng;
+use super::sets;
 use super::three_opt;
 use crate::lengths::Lengths;
 use crate::marks::{OPEN, PENDING};
@@ -57,7 +58,7 @@ impl Kept {
         let open = open_edges(board.n, marks);
         enough_open(&open)?;
         self.count(&open, lines, coverage);
-        self.count_pending(marks.iter().filter(|&&mark| mark == PENDING).count() as u64, coverage);
+        self.count_pending(sets::marks(marks).filter(|&mark| mark == PENDING).count() as u64, coverage);
         for tour in &self.tours {
             if let Some((a, b)) = three_opt::lost_edge(&lengths, tour, marks) {
                 return Err(("3-opt tour", format!("edge {a}-{b} of {tour:?}\n")));
@@ -100,7 +101,7 @@ fn open_edges(n: u16, marks: &[u8]) -> Vec<usize> {
     let n = usize::from(n);
     let mut open = vec![0; n];
     let edges = (0..n).flat_map(|a| (a + 1..n).map(move |b| (a, b)));
-    for ((a, b), _) in edges.zip(marks).filter(|&(_, &mark)| mark == OPEN) {
+    for ((a, b), _) in edges.zip(sets::marks(marks)).filter(|&(_, mark)| mark == OPEN) {
         open[a] += 1;
         open[b] += 1;
     }

@@ -45,6 +45,8 @@ extern "C" {
         table_len: usize,
     ) -> u64;
     fn revosti_fresh_marks(n: u32, marks: *mut u8, marks_len: usize) -> u64;
+    fn revosti_pack_marks(n: u32, bytes: *const u8, bytes_len: usize, packed: *mut u8, packed_len: usize) -> u64;
+    fn revosti_unpack_marks(n: u32, packed: *const u8, packed_len: usize, bytes: *mut u8, bytes_len: usize) -> u64;
     fn revosti_list_pairs(
         n: u32,
         table: *const u8,
@@ -90,6 +92,14 @@ impl Checker for Revosti {
 
     fn fresh_marks(&self, n: u32, marks: &mut [u8]) -> u64 {
         unsafe { revosti_fresh_marks(n, marks.as_mut_ptr(), marks.len()) }
+    }
+
+    fn pack_marks(&self, n: u32, bytes: &[u8], packed: &mut [u8]) -> u64 {
+        unsafe { revosti_pack_marks(n, bytes.as_ptr(), bytes.len(), packed.as_mut_ptr(), packed.len()) }
+    }
+
+    fn unpack_marks(&self, n: u32, packed: &[u8], bytes: &mut [u8]) -> u64 {
+        unsafe { revosti_unpack_marks(n, packed.as_ptr(), packed.len(), bytes.as_mut_ptr(), bytes.len()) }
     }
 
     fn mark_sheet(&self, n: u32, table: &[u8], marks: &mut [u8], sheet: &[u8]) -> u64 {

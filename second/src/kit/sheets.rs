@@ -5,6 +5,7 @@ use super::rng::Rng;
 use super::search::{crossings, Effort, Search};
 use crate::lengths::Lengths;
 use crate::marks::{OPEN, STRUCK};
+use crate::packed::{mark, put_mark};
 use crate::sheet::{Record, Sheet};
 
 /// How a valid sheet is sought.
@@ -48,7 +49,7 @@ pub fn valid(rng: &mut Rng, lengths: &Lengths, marks: &[u8], plan: Plan) -> Draf
             continue;
         }
         draft.line(rng, &argument);
-        marks[lengths.order.place(a, b)] = STRUCK;
+        put_mark(&mut marks, lengths.order.place(a, b), STRUCK);
         lines += 1;
         if lines == plan.lines {
             break;
@@ -63,7 +64,8 @@ fn long_edges(rng: &mut Rng, lengths: &Lengths, marks: &[u8], most: usize) -> Ve
     let mut edges = Vec::new();
     for _ in 0..3 * most {
         let (a, b) = (rng.point(n), rng.point(n));
-        if a != b && marks[lengths.order.place(a, b)] == OPEN && !edges.contains(&(a, b)) && !edges.contains(&(b, a)) {
+        let open = a != b && mark(marks, lengths.order.place(a, b)) == OPEN;
+        if open && !edges.contains(&(a, b)) && !edges.contains(&(b, a)) {
             edges.push((a, b));
         }
     }

@@ -2,6 +2,7 @@
 
 use super::boards::{self, Board, Measured};
 use super::rng::Rng;
+use crate::packed::put_mark;
 
 /// Numbers that are no rule: beside 1 to 5, 1 by its lowest byte or two bytes, and the largest.
 const NO_RULES: [u32; 5] = [0, 6, 257, 65_537, u32::MAX];
@@ -28,8 +29,8 @@ pub fn call(rng: &mut Rng, lent: &mut Lent) {
             0 => lent.n = wrong_count(rng, lent.n),
             1 => resize(rng, &mut lent.table, &[1, 2, 4, 8, 64]),
             2 | 3 => entry(rng, &mut lent.table),
-            4 => resize(rng, &mut lent.marks, &[1, 2, 5]),
-            _ => mark(rng, &mut lent.marks),
+            4 => set_size(rng, lent),
+            _ => set(rng, &mut lent.marks),
         }
     }
 }
@@ -42,6 +43,20 @@ pub fn wrong_count(rng: &mut Rng, n: u32) -> u32 {
         rng.pick(&others)
     } else {
         rng.pick(&fixed)
+    }
+}
+
+/// Another n, out of range.
+pub fn no_count(rng: &mut Rng, n: u32) -> u32 {
+    rng.pick(&[0, 1, 3, 181, n + 256, n + 65_536, u32::MAX])
+}
+
+/// Another size of the packed set; that of the byte set, too.
+fn set_size(rng: &mut Rng, lent: &mut Lent) {
+    if rng.chance(20) {
+        lent.marks.resize(lent.table.len() / 4, 1);
+    } else {
+        resize(rng, &mut lent.marks, &[1, 1, 2, 5]);
     }
 }
 
@@ -67,10 +82,16 @@ fn some_entry(rng: &mut Rng, bytes: &mut [u8], values: &[u32]) {
     }
 }
 
-fn mark(rng: &mut Rng, marks: &mut [u8]) {
-    if !marks.is_empty() {
-        let at = rng.below(marks.len());
-        marks[at] = rng.pick(&[2, 3, 3, 128, 255]);
+/// A mark of 2 or 3 anywhere, a last one that may lie in unused bits, or any byte.
+fn set(rng: &mut Rng, set: &mut [u8]) {
+    if set.is_empty() {
+        return;
+    }
+    let places = 4 * set.len();
+    match rng.below(4) {
+        0 | 1 => put_mark(set, rng.below(places), rng.pick(&[2, 3])),
+        2 => put_mark(set, places - 1, rng.pick(&[1, 2, 3])),
+        _ => set[rng.below(places / 4)] = rng.word() as u8,
     }
 }
 
@@ -84,14 +105,16 @@ pub fn point_count(rng: &mut Rng) -> u32 {
     }
 }
 
-/// A size of marks for n, mostly right.
+/// A size of a packed set for n, mostly right.
 pub fn mark_size(rng: &mut Rng, n: u32) -> usize {
     let n = (n as usize).min(200);
-    let right = n * n.saturating_sub(1) / 2;
+    let edges = n * n.saturating_sub(1) / 2;
+    let right = edges.div_ceil(4);
     match rng.below(10) {
         0 => right + 1,
         1 => right.saturating_sub(1),
         2 => rng.below(40),
+        3 => edges,
         _ => right,
     }
 }

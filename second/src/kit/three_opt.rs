@@ -7,6 +7,7 @@
 use super::rng::Rng;
 use crate::lengths::Lengths;
 use crate::marks::OPEN;
+use crate::packed::mark;
 
 /// Boards up to this many points are searched.
 pub const MOST_POINTS: u16 = 30;
@@ -40,7 +41,7 @@ pub fn length(lengths: &Lengths, tour: &[u16]) -> i32 {
 
 /// The first edge of a tour that is struck or pending.
 pub fn lost_edge(lengths: &Lengths, tour: &[u16], marks: &[u8]) -> Option<(u16, u16)> {
-    edges(tour).find(|&(a, b)| marks[lengths.order.place(a, b)] != OPEN)
+    edges(tour).find(|&(a, b)| mark(marks, lengths.order.place(a, b)) != OPEN)
 }
 
 /// A tour without the edges behind the places i < j < k.

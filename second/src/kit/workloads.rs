@@ -5,6 +5,7 @@ use super::checker::Checker;
 use super::drafts::{sheet_bytes, CaseNote, Draft};
 use super::rng::Rng;
 use super::search::Effort;
+use super::sets;
 use super::sheets::{self, Plan};
 use crate::lengths::Lengths;
 use crate::sheet::{Record, Sheet};
@@ -120,7 +121,7 @@ fn sheet(name: String, note: String, board: &Board, records: &[Record]) -> Workl
         call: Call::Mark {
             n: u32::from(board.n),
             table: entries(&board.table),
-            marks: vec![1; board.table.len()],
+            marks: sets::fresh(board.n),
             sheet: sheet_bytes(records),
         },
     }
@@ -144,7 +145,7 @@ fn lines(board: &Board, deep: bool) -> Draft {
         most_records: 4_000,
     };
     let lengths = Lengths::new(board.n, &board.table);
-    sheets::valid(&mut Rng::new(2, u64::from(board.n)), &lengths, &vec![1; board.table.len()], plan)
+    sheets::valid(&mut Rng::new(2, u64::from(board.n)), &lengths, &sets::fresh(board.n), plan)
 }
 
 fn marking(n: usize, deep: bool) -> Workload {
@@ -189,7 +190,7 @@ fn listing(n: usize) -> Workload {
         note: "20 random splits, fresh marks".to_string(),
         call: Call::List {
             n: n as u32,
-            marks: vec![1; board.table.len()],
+            marks: sets::fresh(board.n),
             list: vec![0; 4 * board.table.len()],
             table: entries(&board.table),
             splits,

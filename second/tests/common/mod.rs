@@ -1,9 +1,10 @@
 //! Small inputs that several tests use.
 #![allow(dead_code)]
 
-use second::lengths::{edge_count, measure};
+use second::lengths::measure;
 use second::marking::{mark_sheet, Marked};
 use second::marks::fresh_marks;
+use second::packed::packed_size;
 use second::refusal::{Fault, Refusal};
 use second::sheet::Record;
 
@@ -17,7 +18,7 @@ pub fn square() -> Vec<u32> {
 }
 
 pub fn fresh(n: u32) -> Vec<u8> {
-    let mut marks = vec![9; edge_count(n as u16)];
+    let mut marks = vec![9; packed_size(n as u16)];
     fresh_marks(n, &mut marks).unwrap();
     marks
 }

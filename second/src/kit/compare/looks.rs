@@ -1,24 +1,25 @@
 //! *List pairs* and *check a tour*, over pending marks too.
 
-use super::steps::{pending, Run};
+use super::steps::Run;
 use super::{hex, hex_call, Checked, Comparison};
 use crate::kit::coverage::{Event, Operation};
 use crate::kit::rng::Rng;
+use crate::kit::sets::{self, old_bytes, pending};
 use crate::kit::spoil::{self, Lent};
 use crate::marks::{OPEN, PENDING, STRUCK};
 
 /// A pending edge, if there is one.
 fn pending_edge(rng: &mut Rng, n: u16, marks: &[u8]) -> Option<(u16, u16)> {
     let edges = (1..=n).flat_map(|a| (a + 1..=n).map(move |b| (a, b)));
-    let edges: Vec<(u16, u16)> = edges.zip(marks).filter(|&(_, &mark)| mark == PENDING).map(|(edge, _)| edge).collect();
+    let edges: Vec<(u16, u16)> =
+        edges.zip(sets::marks(marks)).filter(|&(_, mark)| mark == PENDING).map(|(edge, _)| edge).collect();
     edges.get(rng.below(edges.len().max(1))).copied()
 }
 
 /// The same call over marks whose pending edges are struck.
 fn with_pending_struck(lent: &Lent) -> Lent {
-    let mut lent = lent.clone();
-    lent.marks.iter_mut().filter(|mark| **mark == PENDING).for_each(|mark| *mark = STRUCK);
-    lent
+    let struck = sets::marks(&lent.marks).map(|mark| if mark == PENDING { STRUCK } else { mark });
+    Lent { marks: sets::packed(&struck.collect::<Vec<u8>>()), ..lent.clone() }
 }
 
 impl Comparison<'_> {
@@ -46,11 +47,12 @@ impl Comparison<'_> {
         let pairs = self.pairs(&lent, abc);
         let size = spoil::list_size(rng, pairs.len() / 2);
         let bytes = 2 * size + usize::from(rng.chance(20));
-        let mut list: Vec<u8> = (0..bytes).map(|_| rng.word() as u8).collect();
+        let mut list = old_bytes(rng, bytes);
         let (before, mut other_list) = (list.clone(), list.clone());
         let answer = self.one.list_pairs(lent.n, &lent.table, &lent.marks, abc, &mut list);
         let other = self.other.list_pairs(lent.n, &lent.table, &lent.marks, abc, &mut other_list);
         self.count_listing(answer, size);
+        self.coverage.sets.count(Operation::ListPairs, lent.n, &lent.marks, answer % 65_536);
         if answer % 65_536 == 0 && pending(&lent.marks) {
             self.count_pending(&lent, abc, &pairs);
         }
@@ -93,7 +95,7 @@ impl Comparison<'_> {
         let mut lent = Lent::new(&run.board, marks);
         if rng.chance(20) {
             let other = rng.pick(&[OPEN, PENDING]);
-            lent.marks.fill_with(|| rng.pick(&[OPEN, other]));
+            lent.marks = sets::packed(&run.board.table.iter().map(|_| rng.pick(&[OPEN, other])).collect::<Vec<u8>>());
         }
         if rng.chance(20) {
             spoil::call(rng, &mut lent);
@@ -106,6 +108,7 @@ impl Comparison<'_> {
         let answer = self.one.check_tour(lent.n, &lent.table, &lent.marks, &tour);
         let other = self.other.check_tour(lent.n, &lent.table, &lent.marks, &tour);
         self.coverage.number(Operation::CheckTour, answer % 256);
+        self.coverage.sets.count(Operation::CheckTour, lent.n, &lent.marks, answer % 256);
         if answer % 256 == 0 {
             let open = answer % 65_536 == 256;
             self.coverage.event(if open { Event::TourOpen } else { Event::TourStruck }, 1);

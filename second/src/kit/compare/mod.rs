@@ -1,9 +1,11 @@
 //! Two programs on the same inputs; everything that they show is compared.
 
 mod looks;
+mod packing;
+mod readings;
 mod steps;
 
-use std::fmt::{Debug, Write};
+use std::fmt::{self, Debug, Write};
 use std::path::PathBuf;
 
 use super::boards::{self, Board};
@@ -11,6 +13,7 @@ use super::checker::Checker;
 use super::coverage::{Coverage, Event, Operation};
 use super::drafts::{sheet_bytes, Draft};
 use super::rng::Rng;
+use super::sets::old_bytes;
 use super::sheets::{self, Plan};
 use super::spoil;
 use crate::lengths::Lengths;
@@ -25,6 +28,8 @@ type Checked = Result<(), Difference>;
 pub struct Comparison<'a> {
     one: &'a dyn Checker,
     other: &'a dyn Checker,
+    /// A third program, for packed sets: it reads them into byte sets.
+    naive: &'a dyn Checker,
     seed: u64,
     case: u64,
     /// Sheets compared so far.
@@ -45,8 +50,8 @@ const DAMAGED: usize = 6;
 const ATTEMPTS: usize = 2;
 
 impl<'a> Comparison<'a> {
-    pub fn new(one: &'a dyn Checker, other: &'a dyn Checker, seed: u64) -> Self {
-        Comparison { one, other, seed, case: 0, sheets: 0, save: None, saved: 0, coverage: Coverage::default() }
+    pub fn new(one: &'a dyn Checker, other: &'a dyn Checker, naive: &'a dyn Checker, seed: u64) -> Self {
+        Comparison { one, other, naive, seed, case: 0, sheets: 0, save: None, saved: 0, coverage: Coverage::default() }
     }
 
     /// Runs cases from 0 on until so many sheets are compared.
@@ -65,7 +70,9 @@ impl<'a> Comparison<'a> {
         let mut rng = Rng::new(self.seed, case);
         let board = boards::board(&mut rng);
         self.measuring(&mut rng, &board)?;
-        self.fresh(&mut rng)?;
+        let n = spoil::point_count(&mut rng);
+        self.fresh(&mut rng, n)?;
+        self.readings(&mut rng)?;
         let mut run = Run::new(board, &mut rng);
         for _ in 0..2 {
             self.round(&mut rng, &mut run)?;
@@ -121,14 +128,14 @@ impl<'a> Comparison<'a> {
     }
 
     /// *Fresh marks*, for wrong sizes too.
-    fn fresh(&mut self, rng: &mut Rng) -> Checked {
-        let n = spoil::point_count(rng);
+    fn fresh(&mut self, rng: &mut Rng, n: u32) -> Checked {
         let size = spoil::mark_size(rng, n);
-        let mut marks: Vec<u8> = (0..size).map(|_| rng.word() as u8).collect();
+        let mut marks = old_bytes(rng, size);
         let (before, mut other_marks) = (marks.clone(), marks.clone());
         let answer = self.one.fresh_marks(n, &mut marks);
         let other = self.other.fresh_marks(n, &mut other_marks);
         self.coverage.number(Operation::FreshMarks, answer);
+        self.coverage.sets.count(Operation::FreshMarks, n, &before, answer);
         self.same("fresh marks", (answer, marks), (other, other_marks), || format!("n {n} marks {}\n", hex(&before)))
     }
 
@@ -166,7 +173,11 @@ impl<'a> Comparison<'a> {
         if number == 7 {
             self.coverage.event(if alone { Event::FileRefused } else { Event::RecordsRefused }, 1);
         }
-        self.count_rule(file, if alone { number } else { 0 });
+        let number = if alone { number } else { 0 };
+        self.count_rule(file, number);
+        if number == 0 {
+            self.coverage.sets.count(Operation::Program, entry(file, 4), &[], 0);
+        }
     }
 
     /// The rule of a file that is long enough to be measured, with what came of that.
@@ -178,10 +189,21 @@ impl<'a> Comparison<'a> {
     }
 
     fn same<T: PartialEq + Debug>(&self, what: &str, one: T, other: T, inputs: impl Fn() -> String) -> Checked {
+        self.same_as(what, one, (self.other.name(), other), inputs)
+    }
+
+    /// The first program's answer against that of a named one.
+    fn same_as<T: PartialEq + Debug>(
+        &self,
+        what: &str,
+        one: T,
+        (name, other): (&str, T),
+        inputs: impl Fn() -> String,
+    ) -> Checked {
         if one == other {
             return Ok(());
         }
-        let answers = format!("{}: {one:?}\n{}: {other:?}\n", self.one.name(), self.other.name());
+        let answers = format!("{}: {one:?}\n{name}: {other:?}\n", self.one.name());
         Err(self.difference(what, inputs() + &answers))
     }
 
@@ -208,6 +230,16 @@ pub fn hex(bytes: &[u8]) -> String {
         write!(text, "{byte:02x}").unwrap();
         text
     })
+}
+
+/// Bytes, printed in hex.
+#[derive(Clone, Copy, PartialEq)]
+struct Hex<'a>(&'a [u8]);
+
+impl Debug for Hex<'_> {
+    fn fmt(&self, f: &mut fmt::Formatter) -> fmt::Result {
+        write!(f, "{}", hex(self.0))
+    }
 }
 
 fn hex_call(n: u32, table: &[u8], marks: &[u8]) -> String {

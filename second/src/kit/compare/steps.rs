@@ -3,19 +3,21 @@
 
 use std::fmt::{self, Debug};
 
-use super::{hex, hex_call, Checked, Comparison, Difference, PROGRAMS};
+use super::{hex, hex_call, Checked, Comparison, Difference, Hex, PROGRAMS};
 use crate::kit::boards::{self, Board};
 use crate::kit::checker::Checker;
 use crate::kit::coverage::{Event, Operation};
 use crate::kit::entered::Entered;
 use crate::kit::kept::Kept;
 use crate::kit::rng::Rng;
+use crate::kit::sets::{self, pending};
 use crate::kit::spoil::{self, Lent};
 use crate::lengths::EdgeOrder;
-use crate::marks::{OPEN, PENDING};
+use crate::marks::PENDING;
+use crate::packed::mark;
 use crate::sheet::Sheet;
 
-/// An instance with its marks as they stand.
+/// An instance with its marks as they stand, a packed set.
 pub struct Run {
     pub board: Board,
     pub marks: Vec<u8>,
@@ -26,7 +28,7 @@ pub struct Run {
 impl Run {
     pub fn new(board: Board, rng: &mut Rng) -> Run {
         let fresh = rng.chance(70);
-        let marks = if fresh { vec![OPEN; board.table.len()] } else { starting_marks(rng, &board) };
+        let marks = if fresh { sets::fresh(board.n) } else { starting_marks(rng, &board) };
         let kept = fresh.then(|| Kept::new(rng, &board));
         Run { board, marks, kept }
     }
@@ -42,18 +44,13 @@ fn starting_marks(rng: &mut Rng, board: &Board) -> Vec<u8> {
         boards::random_marks(rng, board.n, open)
     };
     let per_hundred = rng.pick(&[0, 0, 10, 50]);
-    marks.iter_mut().filter(|_| rng.chance(per_hundred)).for_each(|mark| *mark = PENDING);
-    marks
-}
-
-/// Whether a mark is pending.
-pub fn pending(marks: &[u8]) -> bool {
-    marks.contains(&PENDING)
+    boards::some_pending(rng, &mut marks, per_hundred);
+    sets::packed(&marks)
 }
 
 /// One step of a run that writes marks.
 #[derive(Clone, Copy, PartialEq, Eq)]
-enum Step {
+pub enum Step {
     Mark,
     Ask,
     Confirm,
@@ -71,7 +68,7 @@ impl Step {
         self == Step::Mark || self == Step::Ask
     }
 
-    fn operation(self) -> Operation {
+    pub fn operation(self) -> Operation {
         match self {
             Step::Mark => Operation::MarkSheet,
             Step::Ask => Operation::AskSheet,
@@ -81,7 +78,7 @@ impl Step {
     }
 
     /// The number that a program answers.
-    fn call(self, checker: &dyn Checker, Lent { n, table, marks }: &mut Lent, sheet: &[u8]) -> u64 {
+    pub fn call(self, checker: &dyn Checker, Lent { n, table, marks }: &mut Lent, sheet: &[u8]) -> u64 {
         match self {
             Step::Mark => checker.mark_sheet(*n, table, marks, sheet),
             Step::Ask => checker.ask_sheet(*n, table, marks, sheet),
@@ -149,7 +146,9 @@ impl Comparison<'_> {
         let answer = step.call(self.one, lent, sheet);
         let other = step.call(self.other, &mut other_lent, sheet);
         self.coverage.number(step.operation(), answer % 256);
-        let (one, other) = (Shown { answer, marks: &lent.marks }, Shown { answer: other, marks: &other_lent.marks });
+        self.coverage.sets.count(step.operation(), lent.n, &before, answer % 256);
+        let (one, other) =
+            (Shown { answer, marks: Hex(&lent.marks) }, Shown { answer: other, marks: Hex(&other_lent.marks) });
         self.same(step.operation().name(), one, other, || {
             let call = hex_call(lent.n, &lent.table, &before);
             format!("{call}sheet {}\n", hex(sheet))
@@ -181,7 +180,7 @@ impl Comparison<'_> {
             let numbers = crate::bytes::numbers(sheet);
             let at = Sheet::FIELDS * (record as usize - 1);
             let place = EdgeOrder::new(asked.n as u16).place(numbers[at + 1], numbers[at + 2]);
-            self.coverage.event(Event::AskedTwice, u64::from(asked.marks[place] == PENDING));
+            self.coverage.event(Event::AskedTwice, u64::from(mark(&asked.marks, place) == PENDING));
         }
     }
 
@@ -229,12 +228,12 @@ fn lines(answer: u64) -> u64 {
 #[derive(PartialEq)]
 struct Shown<'a> {
     answer: u64,
-    marks: &'a [u8],
+    marks: Hex<'a>,
 }
 
 impl Debug for Shown<'_> {
     fn fmt(&self, f: &mut fmt::Formatter) -> fmt::Result {
         let (number, record, lines) = (self.answer % 256, self.answer / 256 % 65_536, lines(self.answer));
-        write!(f, "number {number} record {record} lines {lines} marks {}", hex(self.marks))
+        write!(f, "number {number} record {record} lines {lines} marks {:?}", self.marks)
     }
 }

@@ -1,16 +1,18 @@
 //! A slow checker written straight from documents 01 and 02, sharing no code with the second program:
-//! all edges in a list, K as a vector, degrees by counting, cycles by walking every way, all pairs
+//! all edges in a list, marks as a byte set that is packed again at the end, K as a vector, degrees by counting, cycles by walking every way, all pairs
 //! filtered by the five tests as they stand.
 //!
 //! A `Slip` builds in one mistake, to show that the comparison finds it.
 
 mod reader;
 mod rules;
+mod sets;
 mod slip;
 
 use super::checker::Checker;
 use reader::Reader;
 use rules::{all_edges, pending_read_as, Board, Edge};
+use sets::{byte_set, packed_size};
 pub use slip::Slip;
 
 #[derive(Default)]
@@ -31,29 +33,29 @@ fn limit(number: u64, slip: Option<Slip>, wrong: Slip) -> u64 {
     number - u64::from(slip == Some(wrong))
 }
 
-/// Tests 1, 2, 5, 6; 0 if all pass.
-fn first_refusal(slip: Option<Slip>, n: u32, table: &[u32], table_whole: bool, marks: &[u8]) -> u64 {
+/// The number of edges, or 1.
+fn edge_count(n: u32) -> Result<usize, u64> {
     if n < 4 || n > 180 {
-        return 1;
+        return Err(1);
     }
-    let edges = n as usize * (n as usize - 1) / 2;
+    Ok(n as usize * (n as usize - 1) / 2)
+}
+
+/// Tests 1, 2, 5, 6; the byte set if all pass.
+fn first_tests(slip: Option<Slip>, n: u32, table: &[u32], table_whole: bool, marks: &[u8]) -> Result<Vec<u8>, u64> {
+    let edges = edge_count(n)?;
     if !table_whole || table.len() != edges {
-        2
+        Err(2)
     } else if table.iter().any(|&l| u64::from(l) > limit(2_000_000, slip, Slip::LengthLimit)) {
-        5
+        Err(5)
     } else {
-        mark_refusal(slip, edges, marks)
+        byte_set(slip, edges, marks)
     }
 }
 
-/// Test 6; 0 if it passes.
-fn mark_refusal(slip: Option<Slip>, edges: usize, marks: &[u8]) -> u64 {
-    let known: &[u8] = if slip == Some(Slip::MarkThree) { &[0, 1, 2, 3] } else { &[0, 1, 2] };
-    if marks.len() != edges || !marks.iter().all(|m| known.contains(m)) {
-        6
-    } else {
-        0
-    }
+/// The refusal number, or the answer.
+fn number(answer: Result<u64, u64>) -> u64 {
+    answer.unwrap_or_else(|refusal| refusal)
 }
 
 fn table_of(bytes: &[u8]) -> (Vec<u32>, bool) {
@@ -101,34 +103,35 @@ impl Naive {
         self.slip == Some(slip)
     }
 
-    /// Tests 1, 2, 5, 6, 20, 7 of a sheet; 0 if all pass.
-    fn sheet_refusal(&self, n: u32, table: &[u32], table_whole: bool, marks: &[u8], sheet: &[u8], asked: bool) -> u64 {
-        let refusal = first_refusal(self.slip, n, table, table_whole, marks);
-        if refusal != 0 {
-            return refusal;
-        }
+    /// Tests 20 and 7 of a sheet.
+    fn sheet_tests(&self, marks: &[u8], sheet: &[u8], asked: bool) -> Result<(), u64> {
         let pending = marks.contains(&2) && (asked || !self.slips(Slip::PendingMarked));
         let most = limit(4_000, self.slip, Slip::RecordLimit);
         let records = !sheet.is_empty() && sheet.len() % 16 == 0 && sheet.len() as u64 / 16 <= most;
         if pending && (records || !self.slips(Slip::PendingAfterRecords)) {
-            20
+            Err(20)
         } else if !records {
-            7
+            Err(7)
         } else {
-            0
+            Ok(())
         }
     }
 
     /// *Mark a sheet*, directly or asked.
-    fn hand_in(&self, n: u32, table: &[u8], marks: &mut [u8], sheet: &[u8], asked: bool) -> u64 {
+    fn hand_in(&self, n: u32, table: &[u8], set: &mut [u8], sheet: &[u8], asked: bool) -> Result<u64, u64> {
         let (table, whole) = table_of(table);
-        let refusal = self.sheet_refusal(n, &table, whole, marks, sheet, asked);
-        if refusal != 0 {
-            return refusal;
-        }
+        let mut marks = first_tests(self.slip, n, &table, whole, set)?;
+        self.sheet_tests(&marks, sheet, asked)?;
+        let answer = self.hand_in_bytes(n, &table, &mut marks, sheet, asked);
+        sets::write(self.slip, &marks, set);
+        Ok(answer)
+    }
+
+    /// The same on a byte set, past the first tests.
+    fn hand_in_bytes(&self, n: u32, table: &[u32], marks: &mut [u8], sheet: &[u8], asked: bool) -> u64 {
         let record = |bytes| numbers(bytes, 2).iter().map(|&v| v as usize).collect();
         let records = sheet.chunks(16).map(record).collect();
-        let board = Board::new(n as usize, &table, self.slip);
+        let board = Board::new(n as usize, table, self.slip);
         let before = marks.to_vec();
         let mut accepted = 0;
         let strike = if asked { 2 } else { 0 };
@@ -144,19 +147,105 @@ impl Naive {
     }
 
     /// *Confirm* and *withdraw*: 1, 6, 21; then `becomes` stands for each 2.
-    fn settle(&self, n: u32, marks: &mut [u8], becomes: u8) -> u64 {
-        if n < 4 || n > 180 {
-            return 1;
-        }
-        let refusal = mark_refusal(self.slip, all_edges(n as usize).len(), marks);
-        if refusal != 0 {
-            return refusal;
-        }
+    fn settle(&self, n: u32, set: &mut [u8], becomes: u8) -> Result<u64, u64> {
+        let marks = byte_set(self.slip, edge_count(n)?, set)?;
         if !marks.contains(&2) && !self.slips(Slip::NothingPendingUntold) {
-            return 21;
+            return Err(21);
         }
-        marks.copy_from_slice(&pending_read_as(becomes, marks));
-        0
+        sets::write(self.slip, &pending_read_as(becomes, &marks), set);
+        Ok(0)
+    }
+
+    fn fresh(&self, n: u32, set: &mut [u8]) -> Result<u64, u64> {
+        let edges = edge_count(n)?;
+        if set.len() != packed_size(edges) {
+            return Err(6);
+        }
+        sets::write(self.slip, &vec![1; edges], set);
+        if self.slips(Slip::FreshUnused) {
+            set.fill(85);
+        }
+        Ok(0)
+    }
+
+    /// 1; 6, the byte set; 6, the size of the packed set.
+    fn pack(&self, n: u32, bytes: &[u8], set: &mut [u8]) -> Result<u64, u64> {
+        let edges = edge_count(n)?;
+        let known = |&mark: &u8| mark < 3 || self.slips(Slip::ByteModuloFour) && mark % 4 < 3;
+        let good = bytes.len() == edges && bytes.iter().all(known);
+        if self.slips(Slip::PackedBeforeTest) && bytes.len() == edges && set.len() == packed_size(edges) {
+            sets::write(None, &bytes.iter().map(|mark| mark % 4).collect::<Vec<u8>>(), set);
+        }
+        if !good || set.len() != packed_size(edges) {
+            return Err(6);
+        }
+        if self.slips(Slip::WrittenSetTested) {
+            byte_set(None, edges, set)?;
+        }
+        let pending = if self.slips(Slip::PendingPackedOpen) { 1 } else { 2 };
+        let bytes: Vec<u8> = bytes.iter().map(|mark| mark % 4).collect();
+        sets::write(self.slip, &pending_read_as(pending, &bytes), set);
+        Ok(0)
+    }
+
+    /// 1; 6, the packed set; 6, the size of the byte set.
+    fn unpack(&self, n: u32, set: &[u8], bytes: &mut [u8]) -> Result<u64, u64> {
+        let edges = edge_count(n)?;
+        let marks = byte_set(self.slip, edges, set)?;
+        if bytes.len() != edges {
+            return Err(6);
+        }
+        let last = if self.slips(Slip::LastMarkDropped) { edges - 1 } else { edges };
+        bytes[..last].copy_from_slice(&marks[..last]);
+        Ok(0)
+    }
+
+    fn tour(&self, n: u32, table: &[u8], set: &[u8], tour: &[u8]) -> Result<u64, u64> {
+        let (table, whole) = table_of(table);
+        let marks = first_tests(self.slip, n, &table, whole, set)?;
+        let points: Vec<usize> = numbers(tour, 2).iter().map(|&v| v as usize).collect();
+        let mut sorted = points.clone();
+        sorted.sort();
+        if tour.len() % 2 != 0 || sorted != (1..=n as usize).collect::<Vec<_>>() {
+            return Err(17);
+        }
+        let board = Board::new(n as usize, &table, self.slip);
+        let closing = if self.slip == Some(Slip::OpenTour) { 1 } else { 0 };
+        let edges: Vec<Edge> =
+            (closing..points.len()).map(|i| (points[i], points[(i + points.len() - 1) % points.len()])).collect();
+        let length: i64 = edges.iter().map(|&(a, b)| board.l(a, b)).sum();
+        let marks = pending_read_as(if self.slips(Slip::PendingStruckInTour) { 0 } else { 1 }, &marks);
+        let open = edges.iter().filter(|&&(a, b)| marks[board.place(a, b)] == 0).count() == 0;
+        Ok(length as u64 * 65_536 + if open { 256 } else { 0 })
+    }
+
+    fn list(&self, n: u32, table: &[u8], set: &[u8], abc: [u16; 3], list: &mut [u8]) -> Result<u64, u64> {
+        let (table, whole) = table_of(table);
+        let marks = first_tests(self.slip, n, &table, whole, set)?;
+        if abc.iter().any(|&v| v == 0 || u32::from(v) > n) || abc[0] == abc[1] {
+            return Err(11);
+        }
+        let [a, b, c] = abc.map(usize::from);
+        let board = Board::new(n as usize, &table, self.slip);
+        let marks = pending_read_as(if self.slips(Slip::PendingStruckInList) { 0 } else { 1 }, &marks);
+        if marks[board.place(a, b)] == 0 {
+            return Err(12);
+        }
+        let pairs = board.standing(&marks, &[(a, b)], c);
+        let fits = list.len() >= 4 * pairs.len();
+        if fits || self.slip == Some(Slip::ListWrittenOnRefusal) {
+            for (i, &(x, y)) in pairs.iter().take(list.len() / 4).enumerate() {
+                for (j, point) in [x, y].into_iter().enumerate() {
+                    list[4 * i + 2 * j] = (point % 256) as u8;
+                    list[4 * i + 2 * j + 1] = (point / 256) as u8;
+                }
+            }
+        }
+        if fits {
+            Ok(65_536 * pairs.len() as u64)
+        } else {
+            Err(18)
+        }
     }
 }
 
@@ -193,86 +282,39 @@ impl Checker for Naive {
     }
 
     fn fresh_marks(&self, n: u32, marks: &mut [u8]) -> u64 {
-        if n < 4 || n > 180 {
-            return 1;
-        }
-        if marks.len() != all_edges(n as usize).len() {
-            return 6;
-        }
-        for mark in marks {
-            *mark = 1;
-        }
-        0
+        number(self.fresh(n, marks))
+    }
+
+    fn pack_marks(&self, n: u32, bytes: &[u8], packed: &mut [u8]) -> u64 {
+        number(self.pack(n, bytes, packed))
+    }
+
+    fn unpack_marks(&self, n: u32, packed: &[u8], bytes: &mut [u8]) -> u64 {
+        number(self.unpack(n, packed, bytes))
     }
 
     fn mark_sheet(&self, n: u32, table: &[u8], marks: &mut [u8], sheet: &[u8]) -> u64 {
-        self.hand_in(n, table, marks, sheet, false)
+        number(self.hand_in(n, table, marks, sheet, false))
     }
 
     fn ask_sheet(&self, n: u32, table: &[u8], marks: &mut [u8], sheet: &[u8]) -> u64 {
-        self.hand_in(n, table, marks, sheet, true)
+        number(self.hand_in(n, table, marks, sheet, true))
     }
 
     fn confirm(&self, n: u32, marks: &mut [u8]) -> u64 {
-        self.settle(n, marks, if self.slips(Slip::ConfirmOpens) { 1 } else { 0 })
+        number(self.settle(n, marks, if self.slips(Slip::ConfirmOpens) { 1 } else { 0 }))
     }
 
     fn withdraw(&self, n: u32, marks: &mut [u8]) -> u64 {
-        self.settle(n, marks, if self.slips(Slip::WithdrawStrikes) { 0 } else { 1 })
+        number(self.settle(n, marks, if self.slips(Slip::WithdrawStrikes) { 0 } else { 1 }))
     }
 
     fn check_tour(&self, n: u32, table: &[u8], marks: &[u8], tour: &[u8]) -> u64 {
-        let (table, whole) = table_of(table);
-        let refusal = first_refusal(self.slip, n, &table, whole, marks);
-        if refusal != 0 {
-            return refusal;
-        }
-        let points: Vec<usize> = numbers(tour, 2).iter().map(|&v| v as usize).collect();
-        let mut sorted = points.clone();
-        sorted.sort();
-        if tour.len() % 2 != 0 || sorted != (1..=n as usize).collect::<Vec<_>>() {
-            return 17;
-        }
-        let board = Board::new(n as usize, &table, self.slip);
-        let closing = if self.slip == Some(Slip::OpenTour) { 1 } else { 0 };
-        let edges: Vec<Edge> =
-            (closing..points.len()).map(|i| (points[i], points[(i + points.len() - 1) % points.len()])).collect();
-        let length: i64 = edges.iter().map(|&(a, b)| board.l(a, b)).sum();
-        let marks = pending_read_as(if self.slips(Slip::PendingStruckInTour) { 0 } else { 1 }, marks);
-        let open = edges.iter().filter(|&&(a, b)| marks[board.place(a, b)] == 0).count() == 0;
-        length as u64 * 65_536 + if open { 256 } else { 0 }
+        number(self.tour(n, table, marks, tour))
     }
 
     fn list_pairs(&self, n: u32, table: &[u8], marks: &[u8], abc: [u16; 3], list: &mut [u8]) -> u64 {
-        let (table, whole) = table_of(table);
-        let refusal = first_refusal(self.slip, n, &table, whole, marks);
-        if refusal != 0 {
-            return refusal;
-        }
-        if abc.iter().any(|&v| v == 0 || u32::from(v) > n) || abc[0] == abc[1] {
-            return 11;
-        }
-        let [a, b, c] = abc.map(usize::from);
-        let board = Board::new(n as usize, &table, self.slip);
-        let marks = pending_read_as(if self.slips(Slip::PendingStruckInList) { 0 } else { 1 }, marks);
-        if marks[board.place(a, b)] == 0 {
-            return 12;
-        }
-        let pairs = board.standing(&marks, &[(a, b)], c);
-        let fits = list.len() >= 4 * pairs.len();
-        if fits || self.slip == Some(Slip::ListWrittenOnRefusal) {
-            for (i, &(x, y)) in pairs.iter().take(list.len() / 4).enumerate() {
-                for (j, point) in [x, y].into_iter().enumerate() {
-                    list[4 * i + 2 * j] = (point % 256) as u8;
-                    list[4 * i + 2 * j + 1] = (point / 256) as u8;
-                }
-            }
-        }
-        if fits {
-            65_536 * pairs.len() as u64
-        } else {
-            18
-        }
+        number(self.list(n, table, marks, abc, list))
     }
 
     fn program(&self, file: &[u8]) -> Vec<u8> {
@@ -295,7 +337,12 @@ impl Checker for Naive {
             return refused(refusal);
         }
         let mut marks = vec![1; edges.len()];
-        let answer = self.mark_sheet(n, &table, &mut marks, &file[sheet_start..]);
+        let sheet = &file[sheet_start..];
+        let table = table_of(&table).0;
+        let answer = match self.sheet_tests(&marks, sheet, false) {
+            Ok(()) => self.hand_in_bytes(n, &table, &mut marks, sheet, false),
+            Err(refusal) => refusal,
+        };
         let mut text = format!("points {} edges {}\n", n, edges.len());
         for (place, (a, b)) in edges.iter().enumerate() {
             if marks[place] == 0 {

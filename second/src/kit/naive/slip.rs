@@ -78,10 +78,30 @@ pub enum Slip {
     PendingStruckInList,
     /// The tour check counts a pending edge as struck.
     PendingStruckInTour,
+    /// The first edge of a byte in its highest bits.
+    FirstHighest,
+    /// A set may have a byte more.
+    LongerSet,
+    /// A mark of 3 passes in a last byte with unused bits.
+    LastByteUntested,
+    /// An unused bit may be set.
+    UnusedPassed,
+    /// Fresh marks set unused bits.
+    FreshUnused,
+    /// A byte set's bytes are taken modulo 4.
+    ByteModuloFour,
+    /// A byte set is packed before its bytes are tested.
+    PackedBeforeTest,
+    /// What the packed set held before is tested, too.
+    WrittenSetTested,
+    /// Pending marks are packed as open ones.
+    PendingPackedOpen,
+    /// The last mark is not unpacked.
+    LastMarkDropped,
 }
 
 impl Slip {
-    pub const ALL: [Slip; 39] = [
+    pub const ALL: [Slip; 49] = [
         Slip::EqualShutsOut,
         Slip::EqualSaves,
         Slip::OneExchange,
@@ -121,5 +141,15 @@ impl Slip {
         Slip::NothingPendingUntold,
         Slip::PendingStruckInList,
         Slip::PendingStruckInTour,
+        Slip::FirstHighest,
+        Slip::LongerSet,
+        Slip::LastByteUntested,
+        Slip::UnusedPassed,
+        Slip::FreshUnused,
+        Slip::ByteModuloFour,
+        Slip::PackedBeforeTest,
+        Slip::WrittenSetTested,
+        Slip::PendingPackedOpen,
+        Slip::LastMarkDropped,
     ];
 }
