@@ -27,6 +27,7 @@ static uint8_t *guarded(void)
 }
 
 static uint8_t *table_end, *marks_end, *sheet_end, *tour_end, *list_end, *measured_end, *asked_end, *settled_end, *other_list_end;
+static uint8_t *bytes_end, *packed_end;
 
 static uint32_t get32(const uint8_t *at) { return at[0] | (uint32_t)at[1] << 8 | (uint32_t)at[2] << 16 | (uint32_t)at[3] << 24; }
 
@@ -52,12 +53,27 @@ static uint32_t length(const uint8_t *coordinates, uint32_t a, uint32_t b)
     return (uint32_t)((x * 31 + y * 17) % 2000003);
 }
 
+/* The bytes of a packed set, the mark of an edge in it, and the bits of a byte of it that hold marks. */
+static size_t packed(size_t edges) { return (edges + 3) / 4; }
+static uint8_t mark_of(const uint8_t *marks, size_t edge) { return marks[edge / 4] >> 2 * (edge % 4) & 3; }
+static uint8_t used(size_t edges, size_t at) { return at == edges / 4 ? (uint8_t)((1 << 2 * (edges % 4)) - 1) : 0xff; }
+
 static unsigned count(const uint8_t *marks, size_t edges, uint8_t mark)
 {
     unsigned count = 0;
-    for (size_t i = 0; i < edges; i++) count += marks[i] == mark;
+    for (size_t i = 0; i < edges; i++) count += mark_of(marks, i) == mark;
     return count;
 }
+
+/* What test 6 of a packed set answers. */
+static uint64_t test_6(uint32_t n, const uint8_t *marks, size_t len)
+{
+    size_t edges = revosti_edges(n);
+    if (len != packed(edges) || marks[len - 1] & ~used(edges, len - 1)) return REVOSTI_MARKS;
+    return count(marks, edges, 3) ? REVOSTI_MARKS : 0;
+}
+
+static int no_points(uint32_t n) { return n < REVOSTI_LEAST_POINTS || n > REVOSTI_MOST_POINTS; }
 
 /* Marks that marking or asking left of fresh ones: two open edges at every point, and n in all. */
 static void enough_open(uint32_t n, const uint8_t *marks, size_t edges)
@@ -65,20 +81,61 @@ static void enough_open(uint32_t n, const uint8_t *marks, size_t edges)
     promise(count(marks, edges, REVOSTI_OPEN) >= n, "n edges are open");
     for (uint32_t a = 1; a <= n; a++) {
         unsigned open = 0;
-        for (uint32_t b = 1; b <= n; b++) open += b != a && marks[revosti_place(n, a, b)] == REVOSTI_OPEN;
+        for (uint32_t b = 1; b <= n; b++) open += b != a && mark_of(marks, revosti_place(n, a, b)) == REVOSTI_OPEN;
         promise(open >= 2, "two open edges at every point");
     }
+}
+
+/* Unpacks into old bytes, which stay where the call is refused. */
+static uint64_t try_unpack(uint32_t n, const uint8_t *marks, size_t len, uint8_t *bytes, size_t edges)
+{
+    uint64_t number = no_points(n) ? REVOSTI_POINTS : edges != revosti_edges(n) ? REVOSTI_MARKS : test_6(n, marks, len);
+    memset(bytes, 0xa5, edges);
+    promise(revosti_unpack_marks(n, marks, len, bytes, edges) == number, "1 and 6 of the packed set, or 0");
+    for (size_t i = 0; i < edges; i++) promise(bytes[i] == (number ? 0xa5 : mark_of(marks, i)), "the byte set, or the bytes as they were");
+    return number;
+}
+
+/* The same for packing. */
+static uint64_t try_pack(uint32_t n, const uint8_t *bytes, size_t edges, uint8_t *marks, size_t len)
+{
+    uint64_t number = no_points(n) ? REVOSTI_POINTS : edges != revosti_edges(n) || len != packed(edges) ? REVOSTI_MARKS : 0;
+    for (size_t i = 0; i < edges; i++)
+        if (number == 0 && bytes[i] > REVOSTI_PENDING) number = REVOSTI_MARKS;
+    memset(marks, 0xa5, len);
+    promise(revosti_pack_marks(n, bytes, edges, marks, len) == number, "1 and 6 of the byte set, or 0");
+    for (size_t i = 0; i < 4 * len; i++)
+        promise(number ? marks[i / 4] == 0xa5 : mark_of(marks, i) == (i < edges ? bytes[i] : 0), "the packed set, or the bytes as they were");
+    return number;
+}
+
+/* There and back, with sets a byte too short, and with a byte of the input in the byte set. */
+static void try_convert(uint32_t n, const uint8_t *marks, size_t edges, uint32_t rule)
+{
+    size_t len = packed(edges);
+    if (edges == 0) return;
+    uint8_t *bytes = bytes_end - edges, *back = packed_end - len;
+    try_unpack(n, marks + 1, len - 1, bytes, edges);
+    try_unpack(n, marks, len, bytes + 1, edges - 1);
+    uint64_t number = try_unpack(n, marks, len, bytes, edges);
+    if (number == 0) {
+        promise(try_pack(n, bytes, edges, back, len) == 0 && memcmp(back, marks, len) == 0, "unpacked and packed is as before");
+        try_pack(n, bytes + 1, edges - 1, back, len);
+        try_pack(n, bytes, edges, back + 1, len - 1);
+    }
+    bytes[rule % edges] = (uint8_t)(rule >> 8);
+    seen(9, (unsigned)number, (unsigned)try_pack(n, bytes, edges, back, len));
 }
 
 static void try_tour(uint32_t n, const uint8_t *table, size_t table_len, const uint8_t *marks, size_t edges)
 {
     uint8_t *tour = tour_end - 2 * n;
     for (uint32_t i = 0; i < n; i++) tour[2 * i] = (uint8_t)(i + 1), tour[2 * i + 1] = 0;
-    uint64_t answer = revosti_check_tour(n, table, table_len, marks, edges, tour, 2 * n);
+    uint64_t answer = revosti_check_tour(n, table, table_len, marks, packed(edges), tour, 2 * n);
     promise(revosti_refusal(answer) != REVOSTI_TOUR, "1, 2, .., n is a tour");
     seen(3, revosti_refusal(answer), (unsigned)revosti_tour_open(answer));
     tour[0] = tour[2];
-    answer = revosti_check_tour(n, table, table_len, marks, edges, tour, 2 * n);
+    answer = revosti_check_tour(n, table, table_len, marks, packed(edges), tour, 2 * n);
     promise(answer != 0 && answer <= REVOSTI_TOUR, "a point twice is no tour");
 }
 
@@ -89,7 +146,7 @@ static void try_list(uint32_t n, const uint8_t *table, size_t table_len, const u
     size_t len = rule % 3 == 2 ? rule % 101 : 4 * edges + rule % 3;
     uint8_t *list = list_end - len;
     memset(list, 0xa5, len);
-    uint64_t answer = revosti_list_pairs(n, table, table_len, marks, edges, a, b, c, list, len);
+    uint64_t answer = revosti_list_pairs(n, table, table_len, marks, packed(edges), a, b, c, list, len);
     size_t written = 4 * (size_t)revosti_pairs(answer);
     promise(answer <= REVOSTI_LIST || answer % 65536 == 0, "a refusal number, or pairs");
     promise(written <= len, "the pairs fit");
@@ -132,27 +189,28 @@ static void try_measure(uint32_t n, uint32_t rule, const uint8_t *coordinates, s
 }
 
 /* What confirming and withdrawing answer: 1, 6, 21, or 0. */
-static uint64_t settling(uint32_t n, const uint8_t *marks, size_t edges)
+static uint64_t settling(uint32_t n, const uint8_t *marks, size_t len)
 {
-    if (n < REVOSTI_LEAST_POINTS || n > REVOSTI_MOST_POINTS) return REVOSTI_POINTS;
-    if (edges != revosti_edges(n)) return REVOSTI_MARKS;
-    for (size_t i = 0; i < edges; i++)
-        if (marks[i] > REVOSTI_PENDING) return REVOSTI_MARKS;
-    return count(marks, edges, REVOSTI_PENDING) ? 0 : REVOSTI_NOTHING_PENDING;
+    if (no_points(n)) return REVOSTI_POINTS;
+    if (test_6(n, marks, len)) return REVOSTI_MARKS;
+    return count(marks, revosti_edges(n), REVOSTI_PENDING) ? 0 : REVOSTI_NOTHING_PENDING;
 }
 
 /* Confirms or withdraws on a copy, which is left in front of settled_end: pending marks become so, and no others change. */
 static void try_settle(uint32_t n, const uint8_t *marks, size_t edges, uint8_t settled,
                        uint64_t (*settle)(uint32_t, uint8_t *, size_t))
 {
-    uint8_t *copy = settled_end - edges;
-    memcpy(copy, marks, edges);
-    uint64_t number = settling(n, marks, edges);
-    promise(settle(n, copy, edges) == number, "1, 6 and 21, or 0");
-    for (size_t i = 0; i < edges; i++)
-        promise(copy[i] == (number == 0 && marks[i] == REVOSTI_PENDING ? settled : marks[i]), "pending marks become so, and no others change");
-    promise(settle(n, copy, edges) == (number ? number : REVOSTI_NOTHING_PENDING), "nothing is pending any more");
-    if (edges) promise(settle(n, copy + 1, edges - 1) == settling(n, copy + 1, edges - 1), "a mark too few");
+    size_t len = packed(edges);
+    uint8_t *copy = settled_end - len;
+    memcpy(copy, marks, len);
+    uint64_t number = settling(n, marks, len);
+    promise(settle(n, copy, len) == number, "1, 6 and 21, or 0");
+    for (size_t i = 0; i < 4 * len; i++) {
+        uint8_t mark = mark_of(marks, i);
+        promise(mark_of(copy, i) == (number == 0 && mark == REVOSTI_PENDING ? settled : mark), "pending marks become so, and no others change");
+    }
+    promise(settle(n, copy, len) == (number ? number : REVOSTI_NOTHING_PENDING), "nothing is pending any more");
+    if (len) promise(settle(n, copy + 1, len - 1) == settling(n, copy + 1, len - 1), "a byte too few");
     seen(6, (unsigned)number, settled);
 }
 
@@ -163,8 +221,8 @@ static void try_same_list(uint32_t n, const uint8_t *table, const uint8_t *befor
     size_t len = 4 * edges;
     uint8_t *list = list_end - len, *other = other_list_end - len;
     memset(list, 0xa5, len), memset(other, 0xa5, len);
-    uint64_t answer = revosti_list_pairs(n, table, len, asked, edges, a, b, c, list, len);
-    promise(answer == revosti_list_pairs(n, table, len, before, edges, a, b, c, other, len), "pending edges are listed as open ones");
+    uint64_t answer = revosti_list_pairs(n, table, len, asked, packed(edges), a, b, c, list, len);
+    promise(answer == revosti_list_pairs(n, table, len, before, packed(edges), a, b, c, other, len), "pending edges are listed as open ones");
     promise(memcmp(list, other, len) == 0, "pairs with pending edges stand");
     seen(7, revosti_refusal(answer), (unsigned)revosti_pairs(answer));
 }
@@ -175,8 +233,8 @@ static void try_same_tour(uint32_t n, const uint8_t *table, const uint8_t *befor
 {
     uint8_t *tour = tour_end - 2 * n;
     for (uint32_t i = 0; i < n; i++) tour[2 * i] = (uint8_t)order[i], tour[2 * i + 1] = 0;
-    uint64_t answer = revosti_check_tour(n, table, 4 * edges, asked, edges, tour, 2 * n);
-    promise(answer == revosti_check_tour(n, table, 4 * edges, before, edges, tour, 2 * n), "pending edges of a tour are open");
+    uint64_t answer = revosti_check_tour(n, table, 4 * edges, asked, packed(edges), tour, 2 * n);
+    promise(answer == revosti_check_tour(n, table, 4 * edges, before, packed(edges), tour, 2 * n), "pending edges of a tour are open");
     seen(8, revosti_refusal(answer), (unsigned)revosti_tour_open(answer));
 }
 
@@ -187,7 +245,7 @@ static void try_looks(uint32_t n, const uint8_t *table, const uint8_t *before, c
     uint16_t a = 1, b = 2, points = 2;
     for (uint16_t i = 1; i < n; i++)
         for (uint16_t j = (uint16_t)(i + 1); j <= n; j++)
-            if (asked[revosti_place(n, i, j)] == REVOSTI_PENDING) a = i, b = j;
+            if (mark_of(asked, revosti_place(n, i, j)) == REVOSTI_PENDING) a = i, b = j;
     order[0] = a, order[1] = b;
     for (uint16_t i = 1; i <= n; i++)
         if (i != a && i != b) order[points++] = i;
@@ -200,24 +258,26 @@ static void try_looks(uint32_t n, const uint8_t *table, const uint8_t *before, c
 static void try_ask(uint32_t n, const uint8_t *table, size_t table_len, const uint8_t *before, const uint8_t *marked, size_t edges,
                     const uint8_t *sheet, size_t sheet_len, uint64_t answer)
 {
-    uint8_t *asked = asked_end - edges;
-    memcpy(asked, before, edges);
-    promise(revosti_ask_sheet(n, table, table_len, asked, edges, sheet, sheet_len) == answer, "asking answers as marking");
-    for (size_t i = 0; i < edges; i++)
-        promise(asked[i] == (marked[i] == before[i] ? before[i] : REVOSTI_PENDING), "the strikes of an asked sheet are pending");
+    size_t len = packed(edges);
+    uint8_t *asked = asked_end - len, *copy = settled_end - len;
+    memcpy(asked, before, len);
+    promise(revosti_ask_sheet(n, table, table_len, asked, len, sheet, sheet_len) == answer, "asking answers as marking");
+    for (size_t i = 0; i < 4 * len; i++) {
+        uint8_t mark = mark_of(before, i);
+        promise(mark_of(asked, i) == (mark_of(marked, i) == mark ? mark : REVOSTI_PENDING), "the strikes of an asked sheet are pending");
+    }
     int none = count(before, edges, REVOSTI_PENDING) == 0;
     try_settle(n, asked, edges, REVOSTI_STRUCK, revosti_confirm);
-    if (none) promise(memcmp(settled_end - edges, marked, edges) == 0, "asked and confirmed is marked");
+    if (none) promise(memcmp(copy, marked, len) == 0, "asked and confirmed is marked");
     try_settle(n, asked, edges, REVOSTI_OPEN, revosti_withdraw);
-    if (none) promise(memcmp(settled_end - edges, before, edges) == 0, "asked and withdrawn is as before");
+    if (none) promise(memcmp(copy, before, len) == 0, "asked and withdrawn is as before");
     if (revosti_lines(answer) == 0) return;
-    uint8_t *copy = settled_end - edges;
-    memcpy(copy, asked, edges);
-    answer = revosti_mark_sheet(n, table, table_len, copy, edges, sheet, sheet_len);
+    memcpy(copy, asked, len);
+    answer = revosti_mark_sheet(n, table, table_len, copy, len, sheet, sheet_len);
     promise(answer == REVOSTI_SOMETHING_PENDING, "nothing is marked while something is pending");
-    answer = revosti_ask_sheet(n, table, table_len, copy, edges, sheet, 0);
+    answer = revosti_ask_sheet(n, table, table_len, copy, len, sheet, 0);
     promise(answer == REVOSTI_SOMETHING_PENDING, "nor asked, and 20 is before 7");
-    promise(memcmp(copy, asked, edges) == 0, "20 changes no mark");
+    promise(memcmp(copy, asked, len) == 0, "20 changes no mark");
 }
 
 static void run(const uint8_t *file, size_t size)
@@ -227,40 +287,44 @@ static void run(const uint8_t *file, size_t size)
     size_t points = n <= 200 ? n : 200;
     if (size < 8 + 8 * points) return;
     const uint8_t *coordinates = file + 8;
-    size_t edges = points < 2 ? 0 : points * (points - 1) / 2, sheet_len = size - 8 - 8 * points;
+    size_t edges = points < 2 ? 0 : points * (points - 1) / 2, len = packed(edges), sheet_len = size - 8 - 8 * points;
     if (sheet_len > MOST) return;
-    uint8_t *table = table_end - 4 * edges, *marks = marks_end - edges, *sheet = sheet_end - sheet_len;
+    uint8_t *table = table_end - 4 * edges, *marks = marks_end - packed(edges), *sheet = sheet_end - sheet_len;
     for (uint32_t a = 1; a <= points; a++)
         for (uint32_t b = a + 1; b <= points; b++) {
             uint32_t l = length(coordinates, a, b);
             uint8_t *at = table + 4 * revosti_place((uint32_t)points, a, b);
             at[0] = (uint8_t)l, at[1] = (uint8_t)(l >> 8), at[2] = (uint8_t)(l >> 16), at[3] = (uint8_t)(l >> 24);
         }
-    memset(marks, 0, edges);
-    uint64_t fresh = revosti_fresh_marks(n, marks, edges);
-    promise(fresh == (n < 4 || n > 180 ? REVOSTI_POINTS : 0), "fresh marks for any n from 4 to 180");
-    for (size_t i = 0; i < edges; i++) promise(marks[i] == (fresh == 0), "fresh marks are open, or stay");
-    memset(marks, REVOSTI_OPEN, edges);
+    memset(marks, 0xa5, len);
+    uint64_t fresh = revosti_fresh_marks(n, marks, len);
+    promise(fresh == (no_points(n) ? REVOSTI_POINTS : 0), "fresh marks for any n from 4 to 180");
+    for (size_t i = 0; i < len; i++) promise(marks[i] == (fresh ? 0xa5 : 85 & used(edges, i)), "fresh marks are open, or stay");
+    for (size_t i = 0; i < len; i++) marks[i] = 85 & used(edges, i);
     try_measure(n, rule, coordinates, points, edges);
     memcpy(sheet, file + size - sheet_len, sheet_len);
-    if (rule % 5 == 4 && edges) marks[rule % edges] = (uint8_t)(rule >> 8);
+    if (rule % 5 == 4 && edges) marks[rule % len] = (uint8_t)(rule >> 8);
+    try_convert(n, marks, edges, rule);
 
-    static uint8_t before[MOST_EDGES * 2];
-    memcpy(before, marks, edges);
+    static uint8_t before[MOST_EDGES];
+    memcpy(before, marks, len);
     size_t table_len = 4 * edges - (rule % 7 == 6 && edges ? rule >> 4 & 3 : 0);
-    uint64_t answer = revosti_mark_sheet(n, table + (4 * edges - table_len), table_len, marks, edges, sheet, sheet_len);
+    uint64_t answer = revosti_mark_sheet(n, table + (4 * edges - table_len), table_len, marks, len, sheet, sheet_len);
     unsigned refusal = revosti_refusal(answer), record = revosti_record(answer), lines = revosti_lines(answer);
     promise((refusal <= REVOSTI_NO_SAVING || refusal == REVOSTI_SOMETHING_PENDING) && answer >> 40 == 0, "the answer's parts");
     promise(record * 16u <= sheet_len, "the record is one of the sheet");
     promise((record != 0) == (refusal >= REVOSTI_INDEX_ABOVE && refusal <= REVOSTI_NO_SAVING), "a record is named exactly by 8 to 16");
     promise(lines == count(marks, edges, REVOSTI_STRUCK) - count(before, edges, REVOSTI_STRUCK), "lines accepted are marks changed");
-    if (refusal != 0 && record == 0) promise(memcmp(before, marks, edges) == 0, "a refused call changes no mark");
+    if (refusal != 0 && record == 0) promise(memcmp(before, marks, len) == 0, "a refused call changes no mark");
     int pending = count(before, edges, REVOSTI_PENDING) != 0, passed = refusal == 0 || refusal > REVOSTI_MARKS;
     promise(!passed || pending == (refusal == REVOSTI_SOMETHING_PENDING), "20, past 6, exactly where something is pending");
-    for (size_t i = 0; i < edges; i++) promise(marks[i] == before[i] || (before[i] == 1 && marks[i] == 0), "marks only go from open to struck");
+    for (size_t i = 0; i < 4 * len; i++) {
+        uint8_t mark = mark_of(marks, i), old = mark_of(before, i);
+        promise(mark == old || (old == REVOSTI_OPEN && mark == REVOSTI_STRUCK), "marks only go from open to struck");
+    }
     try_ask(n, table + (4 * edges - table_len), table_len, before, marks, edges, sheet, sheet_len, answer);
-    if (lines > 0) try_looks(n, table, before, asked_end - edges, edges, rule);
-    if (rule % 5 != 4 && lines > 0) enough_open(n, marks, edges), enough_open(n, asked_end - edges, edges);
+    if (lines > 0) try_looks(n, table, before, asked_end - len, edges, rule);
+    if (rule % 5 != 4 && lines > 0) enough_open(n, marks, edges), enough_open(n, asked_end - len, edges);
     seen(1, refusal, record < 40 ? record : 40 + record / 64);
     seen(2, lines < 60 ? lines : 60, refusal);
     try_list(n, table + (4 * edges - table_len), table_len, marks, edges, rule);
@@ -271,6 +335,7 @@ int main(void)
 {
     table_end = guarded(), marks_end = guarded(), sheet_end = guarded(), tour_end = guarded();
     list_end = guarded(), measured_end = guarded(), asked_end = guarded(), settled_end = guarded(), other_list_end = guarded();
+    bytes_end = guarded(), packed_end = guarded();
     __AFL_INIT();
     unsigned char *file = __AFL_FUZZ_TESTCASE_BUF;
     while (__AFL_LOOP(10000)) run(file, (size_t)__AFL_FUZZ_TESTCASE_LEN);
