@@ -40,7 +40,7 @@ use Rattle.demands.proofs.Kept.{Kept, InTour, guarded}
 edge-count-rises : (m n : ℕ) → 1 ≤ m → m < n → edgeCount m < edgeCount n
 edge-count-rises m n h l = omega (arith, edgeCount-tri m, edgeCount-tri n, tri-suc m, tri-mono (suc m) n l)
 
-pub edge-count-injective : (m n : ℕ) → 1 ≤ m → 1 ≤ n → edgeCount m ≡ edgeCount n → m ≡ n
+edge-count-injective : (m n : ℕ) → 1 ≤ m → 1 ≤ n → edgeCount m ≡ edgeCount n → m ≡ n
 edge-count-injective m n h g e =
     ⊎-elim
     (λ l. absurd (omega (arith, edge-count-rises m n h l)))

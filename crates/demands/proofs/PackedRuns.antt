@@ -2,54 +2,39 @@
 -- packed sets leaves the packed set of what the run over the marks leaves (`run-on-packed`), so each is a corollary. Assumes nothing.
 use Prim.Native.Nat.{ℕ, _≤_}
 use mathlib.Core.Path.{_≡_, refl, sym, _∙_, ap, subst}
-use mathlib.Core.Bool.{Bool, true, false, cond}
+use mathlib.Core.Bool.{true}
 use mathlib.Core.List.{List, [], _∷_, map}
 use native.Mathlib.Omega.{arith}
-use lib.Dec.{eqb}
 use lib.ListN.{length}
 use Rattle.lengths.specs.Edge.{Point, edgeCount, place}
 use Rattle.lengths.specs.Instance.{leastPoints, mostPoints}
 use Rattle.lengths.specs.Table.{lengthOf}
-use Rattle.lengths.proofs.Limits.{limit-each}
 use Rattle.endian.specs.Bytes.{whole16, whole32}
 use Rattle.marks.specs.Degree.{openDegree}
 use Rattle.marks.specs.Fresh.{freshAnswer, freshLeft, freshMarks, freshSetAnswer, freshSetLeft}
 use Rattle.marks.specs.Mark.{markAt, struckMark, openMark, pendingMark, opens, openUpTo, openIn, openCount}
 use Rattle.marks.specs.Packed.{ByteSet, packedSize, packed, marksOf}
-use Rattle.marks.specs.Pending.{settledAnswer, settledMarks, settledLeft}
-use Rattle.marks.specs.declared.pending.Settled.{Settled}
+use Rattle.marks.specs.Pending.{settledAnswer}
 use Rattle.marks.specs.declared.pending.Settled.the-variants as settled
-use Rattle.marks.proofs.FreshMarks.{fresh-left, fresh-size}
-use Rattle.marks.proofs.PackedSets.{each-limit, marks-packed}
-use Rattle.marks.proofs.PendingMarks.{settled-size, settled-at}
+use Rattle.marks.proofs.FreshMarks.{fresh-left, fresh-size, fresh-set-left, fresh-byte-set}
+use Rattle.marks.proofs.PackedSets.{marks-packed}
+use Rattle.marks.proofs.Settling.{settled-byte-set}
 use Rattle.tours.specs.Tour.{Uses, Shortest, ThreeOptimal}
 use Rattle.argument.specs.Sheet.{run}
 use Rattle.argument.proofs.Safe.{run-keeps}
-use Rattle.marking.proofs.PackedSheets.{fresh-set-left, fresh-byte-set, mark-byte-set}
-use Rattle.marking.specs.declared.tests.Tested.the-variants.{Refused}
+use Rattle.marking.proofs.PackedSheets.{mark-byte-set}
 use Rattle.demands.specs.Run.{Step, marking, asking, confirming, withdrawing, stepped, stepsOf, steppedPacked, stepsPacked, stepsInC, Call, runPacked, runInC}
 use Rattle.demands.proofs.Demand3.{in-limits, marking-step, three-optimal-open, shortest-open}
 use Rattle.demands.proofs.OnPacked.{mark-on-packed, settle-on-packed}
 use Rattle.demands.proofs.OpenEdges.{two-open-edges, n-open-edges}
 
 -- what a step leaves of marks of p points are marks of p points
-
-settled-stay : (mark : ℕ) {p : ℕ} {marks : List ℕ} → mark ≤ pendingMark → ByteSet p marks → (r : Settled) → ByteSet p (settledLeft r mark marks)
-unfolding markAt
-settled-stay mark {p} {marks} l b (settled.Refused k rec) = b
-settled-stay mark {p} {marks} l b settled.Done =
-    record { size = settled-size mark marks ∙ b .size; are = each-limit pendingMark (settledMarks mark marks) (λ i h. omega (arith, settled-at mark marks i, small i (eqb (markAt marks i) pendingMark))) }
-  where
-    small : (i : ℕ) (t : Bool) → cond t mark (markAt marks i) ≤ pendingMark
-    small i true = l
-    small i false = limit-each pendingMark marks (b .are) i
-
 module _ {p : ℕ} (table : List ℕ) (some : leastPoints ≤ p) where
   step-stays : (step : Step) (m : List ℕ) → ByteSet p m → ByteSet p (stepped table step m)
   step-stays (marking n s) m b = mark-byte-set struckMark n table s (omega arith) b
   step-stays (asking n s) m b = mark-byte-set pendingMark n table s (omega arith) b
-  step-stays (confirming n) m b = settled-stay struckMark (omega arith) b (settledAnswer n m)
-  step-stays (withdrawing n) m b = settled-stay openMark (omega arith) b (settledAnswer n m)
+  step-stays (confirming n) m b = settled-byte-set struckMark (omega arith) b (settledAnswer n m)
+  step-stays (withdrawing n) m b = settled-byte-set openMark (omega arith) b (settledAnswer n m)
 
   step-on-packed : (step : Step) (m : List ℕ) → ByteSet p m → steppedPacked table step (packed m) ≡ packed (stepped table step m)
   step-on-packed (marking n s) m b = ap (λ r. r .marks) (mark-on-packed some b n struckMark table s)

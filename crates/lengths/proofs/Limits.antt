@@ -11,7 +11,7 @@ use lib.ListN.{length, getD, drop, drop-of-length-le}
 use lib.Seq.{drop-cons}
 use borrow.Author.Tests.{le-leb, lt-leb, leb-true}
 use Rattle.lists.specs.Test.{allAtMost, AtMost}
-use Rattle.lists.proofs.Bools.{and-left, and-right}
+use Rattle.lists.proofs.Bools.{and-left, and-right, and-both}
 
 -- the loop of the test, at number i: `within` and the numbers that are left say what the test of all says
 pub record Limiting (limit : ℕ) (xs : List ℕ) (within : Bool) (i : ℕ) : Type 0 where
@@ -46,3 +46,9 @@ unfolding allAtMost
 limit-each limit [] h i = omega arith
 limit-each limit (x ∷ xs) h zero = leb-true x limit (and-left (leb x limit) (allAtMost limit xs) h)
 limit-each limit (x ∷ xs) h (suc i) = limit-each limit xs (and-right (leb x limit) (allAtMost limit xs) h) i
+
+-- and numbers of which each is within the limit pass it
+pub each-limit : (limit : ℕ) (xs : List ℕ) → ((i : ℕ) → i < length xs → getD xs i 0 ≤ limit) → allAtMost limit xs ≡ true
+unfolding allAtMost
+each-limit limit [] h = refl
+each-limit limit (x ∷ xs) h = and-both (leb x limit) (allAtMost limit xs) (le-leb x limit (h 0 (omega arith))) (each-limit limit xs (λ i g. h (suc i) (omega arith)))

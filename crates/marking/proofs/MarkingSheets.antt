@@ -68,7 +68,8 @@ packed-result : (v : Verdict) {left : List ℕ} (marks : List ℕ) → left ≡ 
 packed-result (verdict.Accepted lines) marks e = ap (λ (m : List ℕ). resultOf (verdict.Accepted lines) m) e
 packed-result (verdict.Refused number rec lines) marks e = ap (λ (m : List ℕ). resultOf (verdict.Refused number rec lines) m) e
 
-result-marks : (v : Verdict) (marks : List ℕ) → resultOf v marks .marks ≡ marks
+-- the marks of a result are those that are left
+pub result-marks : (v : Verdict) (marks : List ℕ) → resultOf v marks .marks ≡ marks
 result-marks (verdict.Accepted lines) marks = refl
 result-marks (verdict.Refused number rec lines) marks = refl
 

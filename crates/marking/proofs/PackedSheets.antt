@@ -1,21 +1,15 @@
--- A sheet over the packed set of a byte set: it answers what the sheet over the byte set answers, and leaves the packed set of what that leaves. Fresh
--- marks are such a byte set. Assumes nothing.
+-- A sheet over the packed set of a byte set: it answers what the sheet over the byte set answers, and leaves the packed set of what that leaves. Assumes
+-- nothing.
 use Prim.Native.Nat.{ℕ, _≤_}
 use mathlib.Core.Path.{_≡_, refl, _∙_, ap}
 use mathlib.Core.Bool.{Bool, true, false, cond}
 use mathlib.Core.List.{List}
-use native.Mathlib.Omega.{arith}
-use lib.ListN.{length, getD-replicate}
-use borrow.Author.Tests.{eq-eqb}
-use Rattle.lengths.specs.Edge.{edgeCount}
-use Rattle.lengths.specs.Instance.{inRange}
+use lib.ListN.{length}
 use Rattle.lists.specs.Test.{unless}
 use Rattle.argument.specs.Sheet.{Result, sheet}
-use Rattle.marks.specs.Fresh.{freshMarks, freshSetAnswer, freshSetLeft}
 use Rattle.marks.specs.Mark.{pendingMark}
-use Rattle.marks.specs.Packed.{ByteSet, packedSize, packed, marksOf, repacked}
-use Rattle.marks.proofs.FreshMarks.{fresh-size}
-use Rattle.marks.proofs.PackedSets.{each-limit, packed-is-well, marks-packed}
+use Rattle.marks.specs.Packed.{ByteSet, packed, marksOf, repacked}
+use Rattle.marks.proofs.PackedSets.{packed-is-well, marks-packed}
 use Rattle.sheets.specs.Rules.{markingBy}
 use Rattle.sheets.specs.Sheet.{wholeSheet}
 use Rattle.sheets.specs.Verdict.{resultOf}
@@ -26,19 +20,6 @@ use Rattle.marking.specs.Mark.{turnedDown, markTested, markBy, repack, m
 use Rattle.marking.specs.Tests.{ready}
 use Rattle.marking.specs.declared.tests.Tested.{Tested}
 use Rattle.marking.specs.declared.tests.Tested.the-variants.{Points, Refused}
-
--- what *fresh marks* leaves in a packed set of the right size
-pub fresh-set-left : (n : ℕ) (set : List ℕ) → inRange n ≡ true → length set ≡ packedSize n → freshSetLeft (freshSetAnswer n (length set)) n set ≡ packed (freshMarks n)
-unfolding freshSetAnswer
-fresh-set-left n set range size = rw (freshSetAnswer, range, eq-eqb (length set) (packedSize n) size)
-
--- fresh marks are marks of n points
-pub fresh-byte-set : (n : ℕ) → ByteSet n (freshMarks n)
-unfolding freshMarks
-fresh-byte-set n = record {
-  size = fresh-size n;
-  are = each-limit pendingMark (freshMarks n) (λ i h. omega (arith, getD-replicate {A = ℕ} (edgeCount n) i 1 0 (omega (arith, fresh-size n))));
-}
 
 -- marks of p points that are marked, or turned down, are marks of p points, whatever n a call states
 pub mark-byte-set : (by n : ℕ) {p : ℕ} (table s : List ℕ) {bytes : List ℕ} → by ≤ pendingMark → ByteSet p bytes → ByteSet p (markBy by n table bytes s .marks)

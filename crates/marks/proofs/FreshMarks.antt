@@ -12,10 +12,11 @@ use Rattle.lengths.specs.Instance.{admission, inRange}
 use Rattle.lengths.specs.declared.instance.Admission.the-variants.{OutOfRange}
 use Rattle.lengths.specs.declared.instance.Instance.{Instance}
 use Rattle.lengths.proofs.Edges.{place-below}
+use Rattle.lengths.proofs.Limits.{each-limit}
 use Rattle.lengths.proofs.Instances.{Admits, out-of-range}
-use Rattle.marks.specs.Mark.{markAt, openMark, opens, openUpTo, openIn}
-use Rattle.marks.specs.Packed.{packedBytes, packedSize, byteOf, packed}
-use Rattle.marks.specs.Fresh.{freshAnswer, freshSetAnswer, freshLeft, freshMarks, FreshAs}
+use Rattle.marks.specs.Mark.{markAt, openMark, pendingMark, opens, openUpTo, openIn}
+use Rattle.marks.specs.Packed.{ByteSet, packedBytes, packedSize, byteOf, packed}
+use Rattle.marks.specs.Fresh.{freshAnswer, freshSetAnswer, freshLeft, freshSetLeft, freshMarks, FreshAs}
 use Rattle.marks.specs.asks.Converting.{fourth, byteAt}
 use Rattle.marks.specs.asks.Fresh.{openOf, openByte}
 use Rattle.marks.specs.declared.fresh.Fresh.the-variants.{Done, Refused}
@@ -93,3 +94,16 @@ fresh-size n = length-replicate (edgeCount n) 1
 pub fresh-open : {n a b : ℕ} → IsEdge n a b → openIn n (freshMarks n) a b ≡ true
 unfolding openUpTo markAt freshMarks
 fresh-open {n} {a} {b} e = ap (opens openMark) (getD-replicate (edgeCount n) (place n a b) 1 0 (place-below e))
+
+-- what *fresh marks* leaves in a packed set of the right size
+pub fresh-set-left : (n : ℕ) (set : List ℕ) → inRange n ≡ true → length set ≡ packedSize n → freshSetLeft (freshSetAnswer n (length set)) n set ≡ packed (freshMarks n)
+unfolding freshSetAnswer
+fresh-set-left n set range size = rw (freshSetAnswer, range, eq-eqb (length set) (packedSize n) size)
+
+-- fresh marks are marks of n points
+pub fresh-byte-set : (n : ℕ) → ByteSet n (freshMarks n)
+unfolding freshMarks
+fresh-byte-set n = record {
+  size = fresh-size n;
+  are = each-limit pendingMark (freshMarks n) (λ i h. omega (arith, getD-replicate {A = ℕ} (edgeCount n) i 1 0 (omega (arith, fresh-size n))));
+}

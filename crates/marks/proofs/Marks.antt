@@ -7,13 +7,13 @@ use mathlib.Core.Logic.{_↔_}
 use mathlib.Core.List.{List, [], _∷_}
 use native.Mathlib.Omega.{arith}
 use lib.Dec.{eqb, leb}
-use lib.ListN.{length, getD, set, length-set}
+use lib.ListN.{length, set, length-set}
 use lib.Seq.{getD-set-same, getD-set-other}
-use borrow.Author.Tests.{le-leb, lt-leb, leb-true, eqb-true, ne-eqb}
+use borrow.Author.Tests.{le-leb, lt-leb, eqb-true, ne-eqb}
 use Rattle.lists.specs.Test.{allAtMost}
 use Rattle.lists.proofs.Bools.{and-left, and-right, and-both, and-no}
 use Rattle.lengths.specs.Edge.{place}
-use Rattle.lengths.proofs.Limits.{limit-each}
+use Rattle.lengths.proofs.Limits.{limit-each, each-limit}
 use Rattle.marks.specs.Mark.{markAt, setMark, struckMark, openMark, pendingMark, areMarks, nonePending, opens, openAt, markIn}
 
 pub mark-size : (marks : List ℕ) (i mark : ℕ) → length (setMark marks i mark) ≡ length marks
@@ -52,14 +52,5 @@ open-mark marks i h = eqb-true (markAt marks i) openMark (sym (open-one (markAt 
 -- where each byte is a mark, nothing is pending exactly when no mark is 2
 pub none-pending-exact : (marks : List ℕ) → areMarks marks ≡ true → (nonePending marks ≡ true) ↔ ((i : ℕ) → markAt marks i ≡ pendingMark → ⊥)
 unfolding markAt allAtMost
-none-pending-exact marks are = (λ h i e. omega (arith, limit-each openMark marks h i), λ h. within marks are h)
-  where
-    low : (x : ℕ) → x ≤ pendingMark → (x ≡ pendingMark → ⊥) → leb x openMark ≡ true
-    low x m d = le-leb x openMark (omega (arith, d))
-
-    within : (xs : List ℕ) → allAtMost pendingMark xs ≡ true → ((i : ℕ) → getD xs i 0 ≡ pendingMark → ⊥) → allAtMost openMark xs ≡ true
-    within [] a h = refl
-    within (x ∷ xs) a h =
-        and-both (leb x openMark) (allAtMost openMark xs)
-        (low x (leb-true x pendingMark (and-left (leb x pendingMark) (allAtMost pendingMark xs) a)) (h 0))
-        (within xs (and-right (leb x pendingMark) (allAtMost pendingMark xs) a) (λ i. h (suc i)))
+none-pending-exact marks are =
+    (λ h i e. omega (arith, limit-each openMark marks h i), λ h. each-limit openMark marks (λ i g. omega (arith, limit-each pendingMark marks are i, h i)))

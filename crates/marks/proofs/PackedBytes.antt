@@ -10,12 +10,12 @@ use lib.Dec.{eqb, leb, ltb}
 use lib.ListN.{getD}
 use borrow.Author.Tests.{le-leb, lt-leb, eq-eqb, ne-eqb, ltb-true, ltb-false}
 use Rattle.lists.specs.Test.{allAtMost}
-use Rattle.lengths.proofs.Limits.{limit-each}
+use Rattle.lengths.proofs.Limits.{limit-each, each-limit}
 use Rattle.lists.proofs.Bools.{and-both, and-no}
 use Rattle.marks.specs.Mark.{struckMark, opens}
 use Rattle.marks.specs.Packed.{quarter, quarters, byteOf}
 use Rattle.marks.specs.asks.Packed.{PutAsked, Put, Above}
-use Rattle.marks.proofs.PackedSets.{each-limit, quarter-small, byte-quarters, quarters-byte}
+use Rattle.marks.proofs.PackedSets.{quarter-small, byte-quarters, quarters-byte}
 
 -- what a mark of 1 in quarter j adds to the byte, as the code computes it
 abbrev pub weight : ℕ → ℕ

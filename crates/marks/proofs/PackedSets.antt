@@ -6,27 +6,21 @@ use mathlib.Core.Bool.{Bool, true, false, cond, _&&_}
 use mathlib.Core.List.{List, [], _∷_}
 use native.Mathlib.Omega.{arith}
 use native.Mathlib.Decide.{decLt}
-use lib.Dec.{eqb, leb}
+use lib.Dec.{eqb}
 use lib.ListN.{length, getD, take, drop, length-take, List·getD-eq-default}
 use lib.Seq.{getD-take, getD-drop, ext-getD}
-use borrow.Author.Tests.{le-leb, eq-eqb, eqb-true}
+use borrow.Author.Tests.{eq-eqb, eqb-true}
 use Rattle.lengths.specs.Edge.{edgeCount, tri}
 use Rattle.lengths.specs.Instance.{leastPoints}
 use Rattle.lengths.specs.declared.instance.Instance.{Instance}
 use Rattle.lengths.proofs.Edges.{edgeCount-tri, tri-mono}
 use Rattle.lengths.proofs.Instances.{Admits}
-use Rattle.lengths.proofs.Limits.{limit-each}
+use Rattle.lengths.proofs.Limits.{limit-each, each-limit}
 use Rattle.lists.specs.Test.{allAtMost, AtMost}
 use Rattle.lists.proofs.Bools.{and-left, and-right, and-both}
 use Rattle.marks.specs.Mark.{areMarks, pendingMark}
 use Rattle.marks.specs.asks.Converting.{fourth, byteAt}
 use Rattle.marks.specs.Packed.{ByteSet, quarter, quarters, packedBytes, packedSize, byteOf, packed, wellPacked, marksOf, repacked}
-
--- numbers of which each is within a limit pass its test
-pub each-limit : (limit : ℕ) (xs : List ℕ) → ((i : ℕ) → i < length xs → getD xs i 0 ≤ limit) → allAtMost limit xs ≡ true
-unfolding allAtMost
-each-limit limit [] h = refl
-each-limit limit (x ∷ xs) h = and-both (leb x limit) (allAtMost limit xs) (le-leb x limit (h 0 (omega arith))) (each-limit limit xs (λ i g. h (suc i) (omega arith)))
 
 -- a byte and its quarters
 

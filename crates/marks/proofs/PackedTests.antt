@@ -12,12 +12,12 @@ use lib.ListN.{length, getD, drop, length-drop, drop-of-length-le, List·getD-eq
 use lib.Seq.{drop-cons, getD-drop}
 use borrow.Author.Tests.{eq-eqb, ne-eqb}
 use Rattle.lengths.specs.Edge.{edgeCount}
-use Rattle.lengths.proofs.Limits.{limit-each}
+use Rattle.lengths.proofs.Limits.{limit-each, each-limit}
 use Rattle.lists.specs.Test.{allAtMost}
 use Rattle.marks.specs.Mark.{pendingMark}
 use Rattle.marks.specs.Packed.{quarter, quarters, packedBytes, packedSize, byteOf, wellPacked}
 use Rattle.marks.specs.asks.Packed.{Above, SetWithin, unusedClear, LastAsked}
-use Rattle.marks.proofs.PackedSets.{each-limit, quarter-small, byte-quarters, quarters-at, quarters-size}
+use Rattle.marks.proofs.PackedSets.{quarter-small, byte-quarters, quarters-at, quarters-size}
 
 -- the marks of a byte and of those behind it are tested one after the other
 within-cons : (most byte : ℕ) (set : List ℕ) → allAtMost most (quarters (byte ∷ set)) ≡ allAtMost most (quarters (byte ∷ [])) && allAtMost most (quarters set)

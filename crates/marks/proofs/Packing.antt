@@ -1,5 +1,5 @@
 -- Marks that are packed byte by byte, a set that is unpacked mark by mark, and the answer and the set at each way out of both conversions. Assumes nothing.
-use Prim.Native.Nat.{ℕ, _+_, _*_, _/_, _%_, _≤_, _<_}
+use Prim.Native.Nat.{ℕ, _+_, _*_, _≤_, _<_}
 use mathlib.Core.Path.{_≡_, refl, sym, _∙_, ap}
 use mathlib.Core.Bool.{Bool, true, false}
 use mathlib.Core.List.{List}
@@ -18,32 +18,42 @@ use Rattle.lengths.specs.declared.instance.Instance.{Instance}
 use Rattle.lengths.proofs.Instances.{Admits, out-of-range}
 use Rattle.lengths.proofs.Limits.{limit-each}
 use Rattle.marks.specs.Mark.{areMarks, pendingMark}
-use Rattle.marks.specs.Packed.{ByteSet, quarter, quarters, packedBytes, packedSize, byteOf, packed, wellPacked}
+use Rattle.marks.specs.Packed.{ByteSet, quarters, packedBytes, packedSize, byteOf, packed, wellPacked}
 use Rattle.marks.specs.Converting.{isByteSet, packAnswer, unpackAnswer, PackedAs, UnpackedAs}
 use Rattle.marks.specs.asks.Converting.{byteAt, PackAsked}
 use Rattle.marks.specs.asks.Packed.{FourMarks}
 use Rattle.marks.specs.declared.converting.Converted.the-variants.{Done, Refused}
-use Rattle.marks.proofs.PackedSets.{packed-at, packed-length, quarters-at, quarters-size, well-packed, marks-taken}
+use Rattle.marks.proofs.PackedSets.{packed-at, packed-length, quarters-size, well-packed, marks-taken}
 
--- the loop that packs: the first k bytes are those of the packed set
-pub record Packing (marks set₀ set : List ℕ) (k : ℕ) : Type 0 where
-  pub within : k ≤ length set₀
-  pub kept : length set ≡ length set₀
-  pub done : (j : ℕ) → j < k → getD set j 0 ≡ byteAt marks j
+-- a buffer that is written from the front: the first k numbers are those of f
+pub record Filling (f : ℕ → ℕ) (xs₀ xs : List ℕ) (k : ℕ) : Type 0 where
+  pub within : k ≤ length xs₀
+  pub kept : length xs ≡ length xs₀
+  pub done : (j : ℕ) → j < k → getD xs j 0 ≡ f j
 
-pub none-packed : (marks s : List ℕ) → Packing marks s s 0
-none-packed marks s = record { within = omega arith; kept = refl; done = λ j h. absurd (omega arith) }
+pub none-filled : (f : ℕ → ℕ) (xs : List ℕ) → Filling f xs xs 0
+none-filled f xs = record { within = omega arith; kept = refl; done = λ j h. absurd (omega arith) }
 
-module _ {marks set₀ s : List ℕ} {k : ℕ} (o : Packing marks set₀ s k) where
-  pub one-packed : {m : ℕ} → k < length s → m ≡ byteAt marks k → Packing marks set₀ (set s k m) (k + 1)
-  one-packed {m} h is = record { within = omega (arith, o .kept); kept = length-set s k m ∙ o .kept; done = λ j g. at j g (ℕ-discrete j k) }
+module _ {f : ℕ → ℕ} {xs₀ xs : List ℕ} {k : ℕ} (o : Filling f xs₀ xs k) where
+  pub one-filled : {m : ℕ} → k < length xs → m ≡ f k → Filling f xs₀ (set xs k m) (k + 1)
+  one-filled {m} h is = record { within = omega (arith, o .kept); kept = length-set xs k m ∙ o .kept; done = λ j g. at j g (ℕ-discrete j k) }
     where
-      at : (j : ℕ) → j < k + 1 → Dec (j ≡ k) → getD (set s k m) j 0 ≡ byteAt marks j
-      at j g (yes e) = rw e (getD-set-same s k m 0 h ∙ is)
-      at j g (no d) = getD-set-other s k j m 0 d ∙ o .done j (omega (arith, d))
+      at : (j : ℕ) → j < k + 1 → Dec (j ≡ k) → getD (set xs k m) j 0 ≡ f j
+      at j g (yes e) = rw e (getD-set-same xs k m 0 h ∙ is)
+      at j g (no d) = getD-set-other xs k j m 0 d ∙ o .done j (omega (arith, d))
 
-  pub all-packed : length set₀ ≡ packedBytes (length marks) → length s ≤ k → s ≡ packed marks
-  all-packed room h = ext-getD 0 s (packed marks) (o .kept ∙ room ∙ sym (packed-length marks)) (λ j g. o .done j (omega arith) ∙ sym (packed-at marks j))
+  pub all-filled : (ys : List ℕ) → length xs₀ ≡ length ys → length xs ≤ k → ((j : ℕ) → j < length ys → f j ≡ getD ys j 0) → xs ≡ ys
+  all-filled ys size h each = ext-getD 0 xs ys (o .kept ∙ size) (λ j g. o .done j (omega arith) ∙ each j (omega (arith, o .kept, size)))
+
+-- all bytes of the packed set
+pub all-packed : (marks : List ℕ) {set₀ s : List ℕ} {k : ℕ} → Filling (byteAt marks) set₀ s k → length set₀ ≡ packedBytes (length marks) → length s ≤ k → s ≡ packed marks
+all-packed marks o room h = all-filled o (packed marks) (room ∙ sym (packed-length marks)) h (λ j g. sym (packed-at marks j))
+
+-- all marks of a set
+pub all-unpacked : (s : List ℕ) {bytes₀ bytes : List ℕ} {i : ℕ} → Filling (λ (j : ℕ). getD (quarters s) j 0) bytes₀ bytes i → length bytes₀ ≤ 4 * length s → length bytes ≤ i → bytes ≡ take (length bytes₀) (quarters s)
+all-unpacked s {bytes₀} o room h =
+    let size = length-take-le (length bytes₀) (quarters s) (omega (arith, room, quarters-size s)) in
+    all-filled o (take (length bytes₀) (quarters s)) (sym size) h (λ j g. sym (getD-take (length bytes₀) (quarters s) j 0 (omega (arith, g, size))))
 
 -- the byte of four marks, and of zeros past the last
 module _ (bytes : List ℕ) (k : ℕ) {a b c d : ℕ} (ea : a ≡ getD bytes (4 * k) 0) (eb : b ≡ getD bytes (4 * k + 1) 0) (ec : c ≡ getD bytes (4 * k + 2) 0) (ed : d ≡ getD bytes (4 * k + 3) 0) where
@@ -53,28 +63,6 @@ module _ (bytes : List ℕ) (k : ℕ) {a b c d : ℕ} (ea : a ≡ getD bytes (4 
   pub four-bytes : byteOf a b c d ≡ byteAt bytes k
   unfolding byteOf
   four-bytes = let e : 4 * k ≡ 4 * k + 0 = omega arith in omega (arith, ap (λ (i : ℕ). getD bytes i 0) e)
-
--- the loop that unpacks: the first i marks are those of the set
-pub record Unpacking (s bytes₀ bytes : List ℕ) (i : ℕ) : Type 0 where
-  pub within : i ≤ length bytes₀
-  pub kept : length bytes ≡ length bytes₀
-  pub done : (j : ℕ) → j < i → getD bytes j 0 ≡ getD (quarters s) j 0
-
-pub none-unpacked : (s bytes : List ℕ) → Unpacking s bytes bytes 0
-none-unpacked s bytes = record { within = omega arith; kept = refl; done = λ j h. absurd (omega arith) }
-
-module _ {s bytes₀ bytes : List ℕ} {i : ℕ} (o : Unpacking s bytes₀ bytes i) where
-  pub one-unpacked : {m : ℕ} → i < length bytes → m ≡ quarter (getD s (i / 4) 0) (i % 4) → Unpacking s bytes₀ (set bytes i m) (i + 1)
-  one-unpacked {m} h is = record { within = omega (arith, o .kept); kept = length-set bytes i m ∙ o .kept; done = λ j g. at j g (ℕ-discrete j i) }
-    where
-      at : (j : ℕ) → j < i + 1 → Dec (j ≡ i) → getD (set bytes i m) j 0 ≡ getD (quarters s) j 0
-      at j g (yes e) = rw e (getD-set-same bytes i m 0 h ∙ is ∙ sym (quarters-at s i))
-      at j g (no d) = getD-set-other bytes i j m 0 d ∙ o .done j (omega (arith, d))
-
-  pub all-unpacked : length bytes₀ ≤ 4 * length s → length bytes ≤ i → bytes ≡ take (length bytes₀) (quarters s)
-  all-unpacked room h =
-      ext-getD 0 bytes (take (length bytes₀) (quarters s)) (o .kept ∙ sym (length-take-le (length bytes₀) (quarters s) (omega (arith, room, quarters-size s))))
-      (λ j g. o .done j (omega arith) ∙ sym (getD-take (length bytes₀) (quarters s) j 0 (omega (arith, o .kept))))
 
 -- a byte set that passes test 6
 pub byte-set : (n : ℕ) (bytes : List ℕ) → isByteSet n bytes ≡ true → ByteSet n bytes

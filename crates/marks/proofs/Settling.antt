@@ -15,14 +15,15 @@ use Rattle.lengths.specs.Instance.{admission}
 use Rattle.lengths.specs.declared.instance.Admission.the-variants.{OutOfRange}
 use Rattle.lengths.specs.declared.instance.Instance.{Instance}
 use Rattle.lengths.proofs.Instances.{Admits, out-of-range}
-use Rattle.lengths.proofs.Limits.{limit-each}
+use Rattle.lengths.proofs.Limits.{limit-each, each-limit}
 use Rattle.marks.specs.Mark.{markAt, openMark, pendingMark, nonePending}
-use Rattle.marks.specs.Packed.{quarter, quarters, packedBytes, byteOf, packed, wellPacked, marksOf, repacked}
-use Rattle.marks.specs.Pending.{settledAnswer, settledMark, settledMarks, SettledAs}
+use Rattle.marks.specs.Packed.{ByteSet, quarter, quarters, packedBytes, byteOf, packed, wellPacked, marksOf, repacked}
+use Rattle.marks.specs.Pending.{settledAnswer, settledMark, settledMarks, settledLeft, SettledAs}
 use Rattle.marks.specs.asks.Packed.{SetWithin}
 use Rattle.marks.specs.asks.Pending.{settledByte}
+use Rattle.marks.specs.declared.pending.Settled.{Settled}
 use Rattle.marks.specs.declared.pending.Settled.the-variants.{Done, Refused}
-use Rattle.marks.proofs.PackedSets.{each-limit, quarter-small, quarters-byte, quarters-at, packed-as, well-packed, marks-are, marks-size, marks-quarter, repacked-same, marks-none, some-edges}
+use Rattle.marks.proofs.PackedSets.{quarter-small, quarters-byte, quarters-at, packed-as, well-packed, marks-are, marks-size, marks-quarter, repacked-same, marks-none, some-edges}
 use Rattle.marks.proofs.PendingMarks.{settled-size, settled-at}
 
 -- a settled mark has two bits
@@ -129,3 +130,14 @@ module _ {n : ℕ} (s : List ℕ) where
       done {to} l w e q =
           let d : settledAnswer n (marksOf n s) ≡ Done = answer false (sym (within-held n s well openMark) ∙ sym (w .tested) ∙ e) in
           record { answered = sym d; set-left = q ∙ settled-packed n s well to l ∙ sym (rw (d, well)) }
+
+-- what is left of marks of p points are marks of p points
+pub settled-byte-set : (mark : ℕ) {p : ℕ} {marks : List ℕ} → mark ≤ pendingMark → ByteSet p marks → (r : Settled) → ByteSet p (settledLeft r mark marks)
+unfolding markAt
+settled-byte-set mark {p} {marks} l b (Refused k rec) = b
+settled-byte-set mark {p} {marks} l b Done =
+    record { size = settled-size mark marks ∙ b .size; are = each-limit pendingMark (settledMarks mark marks) (λ i h. omega (arith, settled-at mark marks i, small i (eqb (markAt marks i) pendingMark))) }
+  where
+    small : (i : ℕ) (t : Bool) → cond t mark (markAt marks i) ≤ pendingMark
+    small i true = l
+    small i false = limit-each pendingMark marks (b .are) i

@@ -1,6 +1,6 @@
 -- The parts of a file: its coordinates, and the text of its records once they are marked from fresh marks on. Assumes nothing.
 use Prim.Native.Nat.{ℕ, _+_, _-_, _*_, _≤_}
-use mathlib.Core.Path.{_≡_, refl, _∙_, ap, subst}
+use mathlib.Core.Path.{_≡_, sym, _∙_, ap, subst}
 use mathlib.Core.List.{List}
 use native.Mathlib.Omega.{arith}
 use lib.ListN.{length, take, drop, length-drop}
@@ -15,8 +15,10 @@ use Rattle.lengths.specs.Edge.{edgeCount}
 use Rattle.marks.specs.Fresh.{freshMarks}
 use Rattle.marks.specs.Mark.{struckMark}
 use Rattle.marks.specs.Packed.{packed, marksOf}
+use Rattle.marks.proofs.FreshMarks.{fresh-byte-set}
 use Rattle.marking.specs.Mark.{markSheet, markPacked}
-use Rattle.marking.proofs.PackedSheets.{fresh-byte-set, mark-byte-set, mark-held}
+use Rattle.marking.proofs.MarkingSheets.{result-marks}
+use Rattle.marking.proofs.PackedSheets.{mark-byte-set, mark-held}
 use Rattle.text.specs.Words.{Wrote}
 use Rattle.report.specs.Header.{coordinatesIn, headerBytes, pointBytes}
 use Rattle.report.specs.Report.{markedText}
@@ -42,11 +44,7 @@ module _ (n : ℕ) (table records : List ℕ) (v : Verdict) (left : List ℕ) {s
   marked-held = mark-held struckMark table records (fresh-byte-set n) v left (omega arith) (is ∙ ap (λ (l : List ℕ). markPacked n table l records) fresh)
 
   pub marked-size : length (marksOf n left) ≡ edgeCount n
-  marked-size = result-size v ∙ ap (λ (r : Result (List ℕ)). length (r .marks)) marked-held ∙ mark-byte-set struckMark n table records (omega arith) (fresh-byte-set n) .size
-    where
-      result-size : (v : Verdict) → length (marksOf n left) ≡ length (resultOf v (marksOf n left) .marks)
-      result-size (Accepted lines) = refl
-      result-size (Refused number rec lines) = refl
+  marked-size = ap length (sym (result-marks v (marksOf n left))) ∙ ap (λ (r : Result (List ℕ)). length (r .marks)) marked-held ∙ mark-byte-set struckMark n table records (omega arith) (fresh-byte-set n) .size
 
   pub marked-wrote : {r : ℕ} {out done : List ℕ} → Wrote out 0 (markedText n (resultOf v (marksOf n left))) r done → Wrote out 0 (markedText n (markSheet n table (freshMarks n) records)) r done
   marked-wrote {r} {out} {done} w = subst (λ (x : Result (List ℕ)). Wrote out 0 (markedText n x) r done) marked-held w

@@ -1,12 +1,13 @@
 -- "Mark a sheet" and "ask a sheet" for C: the number of a verdict. Assumes nothing.
 use Prim.Native.Nat.{ℕ, _+_, _*_}
-use mathlib.Core.Path.{_≡_, refl, sym, _∙_, ap}
+use mathlib.Core.Path.{_≡_, sym, _∙_, ap}
 use mathlib.Core.List.{List}
 use Rattle.argument.specs.Sheet.{Result}
 use Rattle.sheets.specs.Verdict.{resultOf}
 use Rattle.sheets.specs.declared.verdict.Verdict.{Verdict}
 use Rattle.sheets.specs.declared.verdict.Verdict.the-variants as verdict
 use Rattle.endian.specs.Bytes.{whole16, whole32}
+use Rattle.marking.proofs.MarkingSheets.{result-marks}
 use Rattle.marking.specs.Mark.{markPackedBy}
 use Rattle.revosti.specs.Mark.{resultNumber, MarkedInC}
 use Rattle.revosti.specs.asks.Mark.{MarkNumber}
@@ -21,13 +22,8 @@ module _ {v : Verdict} {lines r : ℕ} where
   unfolding resultNumber
   refused-number h e = record { number = λ left. rw (resultNumber, h) e }
 
--- the marks of a result are those that are left
-marks-of : (v : Verdict) (left : List ℕ) → resultOf v left .marks ≡ left
-marks-of (verdict.Accepted lines) left = refl
-marks-of (verdict.Refused number rec lines) left = refl
-
 -- what the function for C returns, from what its callees ensure
 pub marked-in-c : (by n : ℕ) (table set s : List ℕ) {v : Verdict} {r : ℕ} {left : List ℕ} → resultOf v left ≡ markPackedBy by n (whole32 table) set (whole16 s)
     → MarkNumber v r → MarkedInC by n table set s r left
 marked-in-c by n table set s {v} {r} {left} h k =
-    record { answered = k .number left ∙ ap resultNumber h; set-left = sym (marks-of v left) ∙ ap (λ (x : Result (List ℕ)). x .marks) h }
+    record { answered = k .number left ∙ ap resultNumber h; set-left = sym (result-marks v left) ∙ ap (λ (x : Result (List ℕ)). x .marks) h }

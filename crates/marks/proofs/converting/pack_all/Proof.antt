@@ -4,18 +4,19 @@ use native.Mathlib.Omega.{arith}
 use lib.ListN.{length}
 use borrow.Author.Needs.{needs}
 use Rattle.marks.specs.Packed.{packedBytes}
-use Rattle.marks.proofs.Packing.{Packing, none-packed, one-packed, all-packed}
+use Rattle.marks.specs.asks.Converting.{byteAt}
+use Rattle.marks.proofs.Packing.{Filling, none-filled, one-filled, all-packed}
 use Rattle.marks.proofs.converting.pack_all.Statement.{statement}
 use Rattle.marks.proofs.converting.pack_all.Tie as tie
 
 abbrev Inv-loop : tie.InvT-loop
-Inv-loop bytes set₀ k₀ set k = Packing bytes set₀ set k
+Inv-loop bytes set₀ k₀ set k = Filling (byteAt bytes) set₀ set k
 
 abbrev μ-loop : tie.MeasureT-loop
 μ-loop bytes set₀ k₀ set k = length set₀ - k
 
 loop-holds : tie.Need-loop-holds Inv-loop μ-loop
-loop-holds c = none-packed _ _
+loop-holds c = none-filled _ _
 
 packed-byte-requires : tie.Need-packed-byte-requires Inv-loop μ-loop
 unfolding packedBytes
@@ -31,13 +32,13 @@ loop-less : tie.Need-loop-less Inv-loop μ-loop
 loop-less c = search needs
 
 loop-again : tie.Need-loop-again Inv-loop μ-loop
-loop-again c = one-packed (c .before .before .loop .inv) (c .before .loop-test .taken) (c .packed-byte .ensures)
+loop-again c = one-filled (c .before .before .loop .inv) (c .before .loop-test .taken) (c .packed-byte .ensures)
 
 same-length : tie.Need-same-length Inv-loop μ-loop
 same-length c = search needs
 
 returns : tie.Need-returns Inv-loop μ-loop
-returns c = all-packed (c .before .loop .inv) (c .before .before .before .before .pre .room) (c .loop-test .left)
+returns c = all-packed _ (c .before .loop .inv) (c .before .before .before .before .pre .room) (c .loop-test .left)
 
 pub pack-all-spec : {M : Type 1} → statement M
 pack-all-spec =

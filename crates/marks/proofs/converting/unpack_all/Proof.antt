@@ -1,20 +1,23 @@
 -- `marks::converting::unpack_all` meets its contract: at the loop's head the first i marks are those of the set. Assumes nothing.
-use Prim.Native.Nat.{_-_}
+use Prim.Native.Nat.{ℕ, _-_}
+use mathlib.Core.Path.{sym, _∙_}
 use native.Mathlib.Omega.{arith}
-use lib.ListN.{length}
+use lib.ListN.{length, getD}
 use borrow.Author.Needs.{needs}
-use Rattle.marks.proofs.Packing.{Unpacking, none-unpacked, one-unpacked, all-unpacked}
+use Rattle.marks.specs.Packed.{quarters}
+use Rattle.marks.proofs.PackedSets.{quarters-at}
+use Rattle.marks.proofs.Packing.{Filling, none-filled, one-filled, all-unpacked}
 use Rattle.marks.proofs.converting.unpack_all.Statement.{statement}
 use Rattle.marks.proofs.converting.unpack_all.Tie as tie
 
 abbrev Inv-loop : tie.InvT-loop
-Inv-loop set bytes₀ i₀ bytes i = Unpacking set bytes₀ bytes i
+Inv-loop set bytes₀ i₀ bytes i = Filling (λ (j : ℕ). getD (quarters set) j 0) bytes₀ bytes i
 
 abbrev μ-loop : tie.MeasureT-loop
 μ-loop set bytes₀ i₀ bytes i = length bytes₀ - i
 
 loop-holds : tie.Need-loop-holds Inv-loop μ-loop
-loop-holds c = none-unpacked _ _
+loop-holds c = none-filled _ _
 
 shared-slice-read-quarter : tie.Need-shared-slice-read-quarter Inv-loop μ-loop
 shared-slice-read-quarter c = omega (arith, c .before .before .before .before .before .pre, c .before .before .loop .inv .kept, c .before .loop-test .taken)
@@ -32,13 +35,13 @@ loop-less : tie.Need-loop-less Inv-loop μ-loop
 loop-less c = search needs
 
 loop-again : tie.Need-loop-again Inv-loop μ-loop
-loop-again c = one-unpacked (c .before .before .before .loop .inv) (c .before .before .loop-test .taken) (c .quarter .ensures)
+loop-again c = one-filled (c .before .before .before .loop .inv) (c .before .before .loop-test .taken) (c .quarter .ensures ∙ sym (quarters-at _ _))
 
 same-length : tie.Need-same-length Inv-loop μ-loop
 same-length c = search needs
 
 returns : tie.Need-returns Inv-loop μ-loop
-returns c = all-unpacked (c .before .loop .inv) (c .before .before .before .before .pre) (c .loop-test .left)
+returns c = all-unpacked _ (c .before .loop .inv) (c .before .before .before .before .pre) (c .loop-test .left)
 
 pub unpack-all-spec : {M : Type 1} → statement M
 unpack-all-spec =

@@ -4,7 +4,7 @@ use denote.Ref.{now}
 use Rattle.endian.specs.Bytes.{whole16, whole32}
 use Rattle.marks.specs.Fresh.{freshMarks}
 use Rattle.marks.specs.Packed.{packed}
-use Rattle.marking.proofs.PackedSheets.{fresh-set-left}
+use Rattle.marks.proofs.FreshMarks.{fresh-set-left}
 use Rattle.report.proofs.Sheets.{marked-size, marked-wrote}
 use Rattle.report.proofs.Reports.{lines-asked}
 use borrow.Author.Needs.{needs}
