@@ -1,16 +1,18 @@
 -- The closing's test is exact: `threeOptOutcome` answers Settled exactly when the closing settles K, NoMoves (refusal 15) exactly when
 -- no ends make the edge and the centres a 3-opt closing, and NoSaving (refusal 16) in the cases left. Assumes nothing.
-use Prim.Native.Nat.{ℕ, _+_}
+use Prim.Native.Nat.{ℕ}
 use mathlib.Core.Path.{_≡_, refl, sym, _∙_}
 use mathlib.Core.Bool.{Bool, true, false, not, cond, false≢true}
 use mathlib.Core.List.{List}
 use mathlib.Core.Logic.{_⊎_, inl, inr, ⊎-elim, _↔_}
 use native.Mathlib.Omega.{arith}
-use lib.Dec.{eqb, ltb}
-use borrow.Author.Tests.{eqb-false, ne-eqb, ltb-true, lt-ltb, not-true}
+use lib.Dec.{eqb}
+use borrow.Author.Tests.{eqb-false, ne-eqb, not-true}
+use Rattle.lists.specs.Saving.{gains?}
 use Rattle.lengths.specs.Edge.{Edge}
 use Rattle.sets.specs.EdgeSet.{DegreeTwo}
-use Rattle.closings.specs.Closing.{Saves, ThreeOptMoves, Closes}
+use Rattle.closings.proofs.Savings.{label-test, crossing-test}
+use Rattle.closings.specs.Closing.{crossingSaving, Saves, ThreeOptMoves, Closes}
 use Rattle.sets.specs.Joined.{has?}
 use Rattle.sets.specs.Neighbours.{endsOf}
 use Rattle.closings.specs.ClosingTest.{saves?, labelling?, centresApart?, placed?, threeOptOutcome}
@@ -93,15 +95,11 @@ module _ (K : List Edge) (p q r s : ℕ) where
 
 module _ (l : ℕ → ℕ → ℕ) (p q r s : ℕ) where
   -- one labelling: the test and the record
-  saves-of : (x y z w : ℕ) → saves? l p q r s x y z w ≡ true → Saves l p q r s x y z w
-  unfolding saves?
-  saves-of x y z w h =
-      let a = and-true (ltb (l r s + l p x + l q w) (l p q + l r x + l s w)) (ltb (l r s + l p z + l q y) (l p q + l r y + l s z)) h in
-      record { first = ltb-true _ _ (a .0); second = ltb-true _ _ (a .1) }
+  saves-of : (x y z w : ℕ) → saves? l p q r s x y z w ≡ true → Saves l l p q r s x y z w
+  saves-of x y z w h = label-test l p q r s x y z w ∙ h
 
-  of-saves : {x y z w : ℕ} → Saves l p q r s x y z w → saves? l p q r s x y z w ≡ true
-  unfolding saves?
-  of-saves h = rw (saves?, lt-ltb _ _ (h .first), lt-ltb _ _ (h .second))
+  of-saves : (x y z w : ℕ) → Saves l l p q r s x y z w → saves? l p q r s x y z w ≡ true
+  of-saves x y z w h = sym (label-test l p q r s x y z w) ∙ h
 
   -- a labelling that saves is one of the four, in whichever order the ends are named
   labelled : (x y z w : ℕ) → saves? l p q r s x y z w ≡ true
@@ -118,8 +116,20 @@ module _ (l : ℕ → ℕ → ℕ) (p q r s : ℕ) where
         (inr (true-or (saves? l p q r s y x z w) _ (inr (true-or (saves? l p q r s x y w z) _ (inr h))))),
   )
 
+  -- so that one saves under all names or under none
+  renamed : (x y z w : ℕ) → labelling? l p q r s x y z w ≡ true
+      → (labelling? l p q r s x y w z ≡ true) × (labelling? l p q r s y x z w ≡ true) × (labelling? l p q r s y x w z ≡ true)
+  unfolding labelling?
+  renamed x y z w h =
+      ⊎-elim (λ e. let f = labelled x y z w e in (f .1, f .2, f .3))
+      (λ h. ⊎-elim (λ e. let f = labelled x y w z e in (f .0, f .3, f .2))
+      (λ h. ⊎-elim (λ e. let f = labelled y x z w e in (f .3, f .0, f .1)) (λ e. let f = labelled y x w z e in (f .2, f .1, f .0))
+      (or-true _ _ h))
+      (or-true _ _ h))
+      (or-true _ _ h)
+
   -- and the four labellings are the four ways to name the ends of a 3-opt closing
-  closes-of : {K : List Edge} (x y z w : ℕ) → labelling? l p q r s x y z w ≡ true → ThreeOptMoves K p q r s x y z w → Closes l K p q r s
+  closes-of : {K : List Edge} (x y z w : ℕ) → labelling? l p q r s x y z w ≡ true → ThreeOptMoves K p q r s x y z w → Closes l l K p q r s
   unfolding labelling?
   closes-of {K} x y z w h c =
       ⊎-elim (λ e. by x y z w (c .ends-r) (c .ends-s) e)
@@ -130,7 +140,7 @@ module _ (l : ℕ → ℕ → ℕ) (p q r s : ℕ) where
       (or-true _ _ h))
       (or-true _ _ h)
     where
-      by : (x y z w : ℕ) → DegreeTwo K r x y → DegreeTwo K s z w → saves? l p q r s x y z w ≡ true → Closes l K p q r s
+      by : (x y z w : ℕ) → DegreeTwo K r x y → DegreeTwo K s z w → saves? l p q r s x y z w ≡ true → Closes l l K p q r s
       by x y z w i j e =
           record {
             x = x;
@@ -159,7 +169,7 @@ pub record Unsaved (l : ℕ → ℕ → ℕ) (K : List Edge) (p q r s : ℕ) : T
   pub z : ℕ
   pub w : ℕ
   pub moves : ThreeOptMoves K p q r s x y z w
-  pub unsettled : Closes l K p q r s → ⊥
+  pub unsettled : Closes l l K p q r s → ⊥
 
 -- What the test finds: no 3-opt closing, or a 3-opt closing with its ends, whose labellings decide.
 data TestFinds (l : ℕ → ℕ → ℕ) (K : List Edge) (p q r s : ℕ) : Type 0 where
@@ -183,20 +193,20 @@ module _ (l : ℕ → ℕ → ℕ) (K : List Edge) (p q r s : ℕ) where
       go true h (Two x y) i (Two z w) j =
           some x y z w (moves-of K p q r s h (ends-sound K r x y i) (ends-sound K s z w j)) (both-ends l K p q r s h i j)
 
-  settled-closes : threeOptOutcome l K p q r s ≡ Settled → Closes l K p q r s
+  settled-closes : threeOptOutcome l K p q r s ≡ Settled → Closes l l K p q r s
   settled-closes h = go judged
     where
       saving : (t : Bool) → Settled ≡ cond t Settled NoSaving → t ≡ true
       saving true e = refl
       saving false e = absurd (settled-saves e)
 
-      go : TestFinds l K p q r s → Closes l K p q r s
+      go : TestFinds l K p q r s → Closes l l K p q r s
       go (none e n) = absurd (settled-not-unplaced (sym h ∙ e))
       go (some x y z w c e) = closes-of l p q r s x y z w (saving _ (sym h ∙ e)) c
 
-  closes-settled : Closes l K p q r s → threeOptOutcome l K p q r s ≡ Settled
+  closes-settled : Closes l l K p q r s → threeOptOutcome l K p q r s ≡ Settled
   closes-settled h =
-      let four = labelled l p q r s (h .x) (h .y) (h .z) (h .w) (of-saves l p q r s (h .saves)) in
+      let four = labelled l p q r s (h .x) (h .y) (h .z) (h .w) (of-saves l p q r s (h .x) (h .y) (h .z) (h .w) (h .saves)) in
       ⊎-elim (λ i. ⊎-elim (λ j. by i j (four .0)) (λ j. by i j (four .1)) ends-s)
       (λ i. ⊎-elim (λ j. by i j (four .2)) (λ j. by i j (four .3)) ends-s)
       (ends-complete K r (h .x) (h .y) (h .moves .ends-r))
@@ -208,8 +218,25 @@ module _ (l : ℕ → ℕ → ℕ) (K : List Edge) (p q r s : ℕ) where
       by i j e = sym (answer l K p q r s (placed-of K p q r s (h .moves)) i j e)
 
   -- Settled exactly when the closing settles K
-  pub settled-exact : (threeOptOutcome l K p q r s ≡ Settled) ↔ Closes l K p q r s
+  pub settled-exact : (threeOptOutcome l K p q r s ≡ Settled) ↔ Closes l l K p q r s
   settled-exact = (settled-closes, closes-settled)
+
+  -- A CROSSING shuts a case out exactly when its saving is above 0, whoever names the ends
+  pub crossing-shuts : (x y z w : ℕ) → ThreeOptMoves K p q r s x y z w → (threeOptOutcome l K p q r s ≡ Settled) ↔ (gains? (crossingSaving l l p q r s x y z w) ≡ true)
+  crossing-shuts x y z w m = (to, λ g. closes-settled (closes-of l p q r s x y z w (sym (crossing-test l p q r s x y z w) ∙ g) m))
+    where
+      saved : (t : Bool) → cond t Settled NoSaving ≡ Settled → t ≡ true
+      saved true e = refl
+      saved false e = absurd (settled-saves (sym e))
+
+      by : (a b c d : ℕ) → endsOf K r ≡ Two a b → endsOf K s ≡ Two c d → threeOptOutcome l K p q r s ≡ Settled → labelling? l p q r s a b c d ≡ true
+      by a b c d i j h = saved _ (sym (both-ends l K p q r s (placed-of K p q r s m) i j) ∙ h)
+
+      to : threeOptOutcome l K p q r s ≡ Settled → gains? (crossingSaving l l p q r s x y z w) ≡ true
+      to h = crossing-test l p q r s x y z w ∙ ⊎-elim
+          (λ i. ⊎-elim (λ j. by x y z w i j h) (λ j. renamed l p q r s x y w z (by x y w z i j h) .0) (ends-complete K s z w (m .ends-s)))
+          (λ i. ⊎-elim (λ j. renamed l p q r s y x z w (by y x z w i j h) .1) (λ j. renamed l p q r s y x w z (by y x w z i j h) .2) (ends-complete K s z w (m .ends-s)))
+          (ends-complete K r x y (m .ends-r))
 
   refused-no-moves : threeOptOutcome l K p q r s ≡ NoMoves → (x y z w : ℕ) → ThreeOptMoves K p q r s x y z w → ⊥
   refused-no-moves h = go judged

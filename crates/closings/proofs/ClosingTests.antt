@@ -1,4 +1,4 @@
--- Laws of the closing's test that the proofs of src/closing.rt cite: one labelling, the four labellings as a table of two swaps,
+-- Laws of the closing's test that the proofs of src/closing.rt cite: the four labellings as a table of two swaps,
 -- and each way out of `threeOptOutcome`. Assumes nothing.
 use Prim.Native.Nat.{ℕ, zero, suc, _+_, _≤_, _<_}
 use mathlib.Core.Path.{_≡_, sym, _∙_}
@@ -6,9 +6,8 @@ use mathlib.Core.Bool.{Bool, true, false, cond}
 use mathlib.Core.List.{List}
 use mathlib.Core.Logic.{inr}
 use native.Mathlib.Omega.{arith}
-use lib.Dec.{eqb, ltb}
+use lib.Dec.{eqb}
 use borrow.Author.Count.{below-more}
-use borrow.Author.Tests.{lt-ltb, le-ltb}
 use Rattle.lengths.specs.Edge.{Edge}
 use Rattle.lengths.specs.asks.Table.{Spans}
 use Rattle.sets.specs.Neighbours.{endsOf}
@@ -23,21 +22,6 @@ use Rattle.sets.proofs.Laws.Neighbours.{ends-sound}
 use Rattle.sets.proofs.Laws.Stored.{held-points}
 
 module _ (l : ℕ → ℕ → ℕ) (p q r s x y z w : ℕ) where
-  -- the first move saves: the second decides
-  pub first-saves : {a b c d : ℕ}
-      → a ≡ l r s + l p x + l q w
-      → b ≡ l p q + l r x + l s w
-      → a < b
-      → c ≡ l r s + l p z + l q y
-      → d ≡ l p q + l r y + l s z
-      → ltb c d ≡ saves? l p q r s x y z w
-  unfolding saves?
-  first-saves {a} {b} e f h g i = rw (saves?, ← e, ← f, ← g, ← i, lt-ltb a b h)
-
-  pub first-fails : {a b : ℕ} → a ≡ l r s + l p x + l q w → b ≡ l p q + l r x + l s w → b ≤ a → false ≡ saves? l p q r s x y z w
-  unfolding saves?
-  first-fails {a} {b} e f h = rw (saves?, ← e, ← f, le-ltb a b h)
-
   -- the labelling with x, y swapped where i is 1, and z, w where j is
   unfoldable pub cell : ℕ → ℕ → Bool
   cell i j = saves? l p q r s (pick i x y) (pick i y x) (pick j z w) (pick j w z)

@@ -1,2 +1,3 @@
 pub mod ClosingExact
 pub mod ClosingTests
+pub mod Savings

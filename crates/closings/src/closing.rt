@@ -1,14 +1,14 @@
 // The 3-opt closing (01, "Arguments": a crossing): its conditions, and the labelling that saves on both moves.
-use lengths::table::length_between;
+use lengths::saving::saving;
+use lengths::sums::length_of_three;
 use sets::edge_set::EdgeSet;
 use sets::neighbours::Ends;
 use sets::neighbours::ends_of;
 ghost use mathlib.Core.Path.{_≡_};
-ghost use Prim.Native.Nat.{_+_};
 ghost use Rattle.endian.specs.Bytes.{whole32};
 ghost use Rattle.lengths.specs.Table.{lengthOf};
 ghost use Rattle.closings.specs.ClosingTest.{centresApart?, placed?, saves?, labelling?, threeOptOutcome};
-ghost use Rattle.closings.specs.asks.ClosingTest.{ThreeEdges, Labelled, ThreeOptAsked, pick};
+ghost use Rattle.closings.specs.asks.ClosingTest.{Labelled, ThreeOptAsked, pick};
 ghost use Rattle.sets.specs.asks.Stored.{edgeList, Stored};
 
 // What a 3-opt closing (01's crossing) comes to. 01's refusals: NoMoves is 15, NoSaving is 16, and Settled is none.
@@ -18,15 +18,7 @@ pub enum ThreeOptOutcome {
     NoSaving,
 }
 
-// The length of the edges ab, cd and ef together.
-fn length_of_three(n: u16, table: &[u8], a: u16, b: u16, c: u16, d: u16, e: u16, f: u16) -> u64
-    requires { ⌜ ThreeEdges n (whole32 (now table)) a b c d e f ⌝ }
-    ensures { λ r. ⌜ r ≡ lengthOf n (whole32 (now (table .entry))) a b + lengthOf n (whole32 (now (table .entry))) c d + lengthOf n (whole32 (now (table .entry))) e f ⌝ }
-{
-    length_between(n, table, a, b) + length_between(n, table, c, d) + length_between(n, table, e, f)
-}
-
-// Do both moves save, by this labelling: rs, px, qw for pq, rx, sw, and rs, pz, qy for pq, ry, sz?
+// Do both moves save by this labelling, rs, px, qw for pq, rx, sw, and rs, pz, qy for pq, ry, sz? The second is looked at where the first does.
 fn both_moves_save(
     n: u16,
     table: &[u8],
@@ -42,9 +34,10 @@ fn both_moves_save(
     requires { ⌜ Labelled n (whole32 (now table)) p q r s x y z w ⌝ }
     ensures { λ b. ⌜ b ≡ saves? (lengthOf n (whole32 (now (table .entry)))) p q r s x y z w ⌝ }
 {
-    if length_of_three(n, table, r, s, p, x, q, w) < length_of_three(n, table, p, q, r, x, s, w) {
-        return length_of_three(n, table, r, s, p, z, q, y)
-            < length_of_three(n, table, p, q, r, y, s, z);
+    let old = length_of_three(n, table, p, q, r, x, s, w);
+    if saving(old, length_of_three(n, table, r, s, p, x, q, w)) > 0 {
+        let old = length_of_three(n, table, p, q, r, y, s, z);
+        return saving(old, length_of_three(n, table, r, s, p, z, q, y)) > 0;
     }
     false
 }

@@ -1,2 +1,3 @@
 // The closings of a case.
 pub mod closing;
+pub mod saving;

@@ -43,7 +43,7 @@ module _ {n : ℕ} (table : List ℕ) {t : List ℕ} (some : leastPoints ≤ n) 
   module _ (marks : List ℕ) (kept : Kept n t marks) where
     -- the tour's two neighbours of c are a feasible pair
     own : (K : List Edge) (c : ℕ) → InTour t K → OwnPair n (lengthOf n table) (openIn n marks) K t c
-        → (x : ℕ) × (y : ℕ) × FeasiblePair n (lengthOf n table) (openIn n marks) K c x y × InTour t (withPair K c x y)
+        → (x : ℕ) × (y : ℕ) × FeasiblePair n (lengthOf n table) (lengthOf n table) (openIn n marks) K c x y × InTour t (withPair K c x y)
     unfolding withPair
     own K c uses S =
         (S .x, S .y, S .feasible, inside-cons (edge c (S .y) ∷ K) (closedEdges t) c (S .x) (S .uses-x) (inside-cons K (closedEdges t) c (S .y) (S .uses-y) uses))

@@ -9,6 +9,8 @@ use native.Mathlib.Decide.{decLe}
 use native.Mathlib.Omega.{arith}
 use Rattle.lengths.specs.Edge.{Edge, edge, Point}
 use Rattle.sets.specs.EdgeSet.{Joins, Has, closedEdges, withPair, DegreeTwo}
+use Rattle.rules.proofs.Savings.{compatible-sum, move-sum}
+use Rattle.closings.proofs.Savings.{saves-sums}
 use Rattle.rules.specs.Pair.{Compatible, MoveSaves, FeasiblePair}
 use Rattle.closings.specs.Closing.{ThreeOptMoves, Closes}
 use Rattle.tours.specs.Tour.{total, Uses, Symmetric, ThreeOptimal}
@@ -25,19 +27,19 @@ use Rattle.tours.proofs.ThreeOptimal.{no-gain}
 -- If pq and xy are one edge, one of the two sums is that edge's length twice, which is l(pq) + l(xy). Otherwise one of the two exchanges of
 -- pq and xy makes a tour (`two-opt`), by px and qy or by py and qx. That tour is no shorter than t, so what was put in is no shorter
 -- than what was taken out: that sum is at least l(pq) + l(xy), and so is the larger of the two. Edges that touch are no special case.
-pub optimal-compatible : {n : ℕ} {l : ℕ → ℕ → ℕ} {t : List ℕ} → ThreeOptimal n l t → Symmetric l → (p q x y : ℕ) → Uses t p q → Uses t x y → Compatible l p q x y
+pub optimal-compatible : {n : ℕ} {l : ℕ → ℕ → ℕ} {t : List ℕ} → ThreeOptimal n l t → Symmetric l → (p q x y : ℕ) → Uses t p q → Uses t x y → Compatible l l p q x y
 unfolding total
 optimal-compatible {n} {l} {t} O s p q x y hp hx = go (joins-dec p q x y)
   where
-    equal : Joins (edge p q) x y → Compatible l p q x y
-    equal (inl e) = omega (arith, ap₂ l (e .0) (e .1), ap (l p) (e .1), ap (l q) (e .0), s p q)
-    equal (inr e) = omega (arith, ap₂ l (e .1) (e .0), ap (l p) (e .1), ap (l q) (e .0), s p q)
+    equal : Joins (edge p q) x y → Compatible l l p q x y
+    equal (inl e) = compatible-sum l l p q x y .1 (omega (arith, ap₂ l (e .0) (e .1), ap (l p) (e .1), ap (l q) (e .0), s p q))
+    equal (inr e) = compatible-sum l l p q x y .1 (omega (arith, ap₂ l (e .1) (e .0), ap (l p) (e .1), ap (l q) (e .0), s p q))
 
-    moved : Exchanged n t (edge p q ∷ edge x y ∷ []) (edge p x ∷ edge q y ∷ []) ⊎ Exchanged n t (edge p q ∷ edge x y ∷ []) (edge p y ∷ edge q x ∷ []) → Compatible l p q x y
-    moved (inl X) = omega (arith, no-gain O s (omega arith) X)
-    moved (inr X) = omega (arith, no-gain O s (omega arith) X)
+    moved : Exchanged n t (edge p q ∷ edge x y ∷ []) (edge p x ∷ edge q y ∷ []) ⊎ Exchanged n t (edge p q ∷ edge x y ∷ []) (edge p y ∷ edge q x ∷ []) → Compatible l l p q x y
+    moved (inl X) = compatible-sum l l p q x y .1 (omega (arith, no-gain O s (omega arith) X))
+    moved (inr X) = compatible-sum l l p q x y .1 (omega (arith, no-gain O s (omega arith) X))
 
-    go : Dec (Joins (edge p q) x y) → Compatible l p q x y
+    go : Dec (Joins (edge p q) x y) → Compatible l l p q x y
     go (yes j) = equal j
     go (no j) = moved (two-opt (O .tour) p q x y hp hx j)
 
@@ -45,7 +47,7 @@ optimal-compatible {n} {l} {t} O s p q x y hp hx = go (joins-dec p q x y)
 pub record OwnPair (n : ℕ) (l : ℕ → ℕ → ℕ) (open? : ℕ → ℕ → Bool) (K : List Edge) (t : List ℕ) (c : ℕ) : Type 0 where
   pub x : ℕ
   pub y : ℕ
-  pub feasible : FeasiblePair n l open? K c x y
+  pub feasible : FeasiblePair n l l open? K c x y
   pub uses-x : Uses t c x
   pub uses-y : Uses t c y
 
@@ -80,8 +82,8 @@ module _
         with-pair : Inside (withPair K c x y) (closedEdges t)
         with-pair = inside-cons (edge c y ∷ K) (closedEdges t) c x hx (inside-cons K (closedEdges t) c y hy uses)
 
-        five : (u v : ℕ) → Uses t u v → (u ≡ c → ⊥) → (v ≡ c → ⊥) → MoveSaves l c x y u v → ⊥
-        five u v h uc vc saves = omega (arith, no-gain O s (omega arith) (or-opt (O .tour) c x y u v hx hy (omega arith) h uc vc))
+        five : (u v : ℕ) → Uses t u v → (u ≡ c → ⊥) → (v ≡ c → ⊥) → MoveSaves l l c x y u v → ⊥
+        five u v h uc vc saves = omega (arith, move-sum l l c x y u v .0 saves, no-gain O s (omega arith) (or-opt (O .tour) c x y u v hx hy (omega arith) h uc vc))
 
     -- The tour has three points or more, so c has two different neighbours in it: name them x < y. They are points, and not c.
     --   1. cx and cy are edges of t, and those are open.
@@ -106,7 +108,7 @@ module _
 -- qw, or pq, ry and sz to rs, pz and qy. Which one it is depends on the tour, but a closing saves on both, so that tour is shorter than
 -- t by an exchange of three edges; and t is 3-optimal.
 pub optimal-not-closed :
-    {n : ℕ} {l : ℕ → ℕ → ℕ} {t : List ℕ} → ThreeOptimal n l t → Symmetric l → (K : List Edge) → ((a b : ℕ) → Has K a b → Uses t a b) → (p q r s : ℕ) → Closes l K p q r s → ⊥
+    {n : ℕ} {l : ℕ → ℕ → ℕ} {t : List ℕ} → ThreeOptimal n l t → Symmetric l → (K : List Edge) → ((a b : ℕ) → Has K a b → Uses t a b) → (p q r s : ℕ) → Closes l l K p q r s → ⊥
 unfolding total
 optimal-not-closed {n} {l} {t} O y K uses p q r s C =
     go (three-opt (O .tour) p q r s (C .x) (C .y) (C .z) (C .w) hp (X .r-not-p) (X .r-not-q) (X .s-not-p) (X .s-not-q) (X .centres) hx hy (R .apart) hz hw (S .apart) free)
@@ -146,5 +148,5 @@ optimal-not-closed {n} {l} {t} O y K uses p q r s C =
         Exchanged n t (edge p q ∷ edge r (C .x) ∷ edge s (C .w) ∷ []) (edge r s ∷ edge p (C .x) ∷ edge q (C .w) ∷ []) ⊎
         Exchanged n t (edge p q ∷ edge r (C .y) ∷ edge s (C .z) ∷ []) (edge r s ∷ edge p (C .z) ∷ edge q (C .y) ∷ []) →
         ⊥
-    go (inl E) = omega (arith, no-gain O y (omega arith) E, C .saves .first)
-    go (inr E) = omega (arith, no-gain O y (omega arith) E, C .saves .second)
+    go (inl E) = omega (arith, no-gain O y (omega arith) E, saves-sums l l p q r s (C .x) (C .y) (C .z) (C .w) .0 (C .saves) .0)
+    go (inr E) = omega (arith, no-gain O y (omega arith) E, saves-sums l l p q r s (C .x) (C .y) (C .z) (C .w) .0 (C .saves) .1)

@@ -6,6 +6,7 @@ mod fresh;
 mod measure;
 mod pairs;
 mod pending;
+mod savings;
 mod six;
 mod tour_checks;
 
@@ -20,5 +21,6 @@ fn main() {
     let t = pending::run(t);
     let t = six::run(t);
     let t = converting::run(t);
+    let t = savings::run(t);
     t.print();
 }

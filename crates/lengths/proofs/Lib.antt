@@ -10,5 +10,6 @@ pub mod Measuring
 pub mod Products
 pub mod RowFilling
 pub mod Searching
+pub mod SignedSavings
 pub mod Squares
 pub mod Tables

@@ -6,4 +6,6 @@ pub mod limit;
 pub mod measure;
 pub mod refusal;
 pub mod rows;
+pub mod saving;
+pub mod sums;
 pub mod table;

@@ -27,6 +27,15 @@ true-or true t h = refl
 true-or false t (inl h) = absurd (false≢true h)
 true-or false t (inr h) = h
 
+-- what is never true is false, and the other way round
+pub never-true : (t : Bool) → (t ≡ true → ⊥) → t ≡ false
+never-true true h = absurd (h refl)
+never-true false h = refl
+
+pub never-false : (t : Bool) → (t ≡ false → ⊥) → t ≡ true
+never-false true h = refl
+never-false false h = absurd (h refl)
+
 pub and-yes : (t : Bool) → t && true ≡ t
 and-yes true = refl
 and-yes false = refl

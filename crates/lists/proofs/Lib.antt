@@ -2,4 +2,5 @@ pub mod Bools
 pub mod Count
 pub mod CountFrom
 pub mod FirstFrom
+pub mod Savings
 pub mod Tests

@@ -1,4 +1,5 @@
 pub mod Count
 pub mod CountFrom
 pub mod FirstFrom
+pub mod Saving
 pub mod Test

@@ -1,9 +1,10 @@
--- The shared tests: `tested` at each way out of `test_instance`, and `ready` at each of `test_ready`. Assumes nothing.
+-- The shared tests: `testedTable` at each way out of `test_table`, `tested` at each of `test_instance`, and `ready` at each of `test_ready`. Assumes nothing.
 use Prim.Native.Nat.{ℕ}
 use mathlib.Core.Path.{_≡_, refl, sym, _∙_, ap}
 use mathlib.Core.Bool.{Bool, true, false}
 use mathlib.Core.List.{List}
 use native.Mathlib.Omega.{arith}
+use lib.Dec.{eqb}
 use lib.ListN.{length}
 use borrow.Author.Tests.{eq-eqb, ne-eqb}
 use Rattle.marks.specs.Mark.{openMark, areMarks, nonePending}
@@ -17,7 +18,8 @@ use Rattle.lists.specs.Test.{allAtMost, unless}
 use Rattle.lengths.specs.declared.instance.Admission.the-variants.{OutOfRange}
 use Rattle.lengths.specs.declared.instance.Instance.{Instance}
 use Rattle.lengths.proofs.Instances.{Admits, out-of-range}
-use Rattle.marking.proofs.Tested.{InstancePassed, passed}
+use Rattle.marking.proofs.Tested.{InstancePassed, TablePassed, not-points, passed}
+use Rattle.marking.specs.TableTests.{testedTable}
 use Rattle.marking.specs.Tests.{tested, untilPending, ready}
 use Rattle.marking.specs.declared.tests.Tested.{Tested}
 use Rattle.marking.specs.declared.tests.Tested.the-variants.{Points, Refused}
@@ -26,43 +28,48 @@ use Rattle.marking.specs.declared.tests.Tested.the-variants.{Points, Ref
 edges-of : {n size : ℕ} {i : Instance} → Admits n i → size ≡ edgeCount (i .points) → size ≡ edgeCount n
 edges-of a h = h ∙ ap edgeCount (a .points)
 
-module _ (n : ℕ) (table marks : List ℕ) where
-  pub refused-points : admission n ≡ OutOfRange → Refused 1 ≡ tested n table marks
-  unfolding tested
-  refused-points h = rw (tested, out-of-range n h)
+-- 1, 2 and 5
+module _ (n : ℕ) (table : List ℕ) where
+  pub refused-points : admission n ≡ OutOfRange → Refused 1 ≡ testedTable n table
+  unfolding testedTable
+  refused-points h = rw (testedTable, out-of-range n h)
 
   module _ {i : Instance} (a : Admits n i) where
-    pub refused-size : (length table ≡ edgeCount (i .points) → ⊥) → Refused 2 ≡ tested n table marks
-    unfolding tested
-    refused-size h = rw (tested, a .range, ne-eqb (length table) (edgeCount n) (λ e. h (e ∙ ap edgeCount (sym (a .points)))))
+    pub refused-size : (length table ≡ edgeCount (i .points) → ⊥) → Refused 2 ≡ testedTable n table
+    unfolding testedTable
+    refused-size h = rw (testedTable, a .range, ne-eqb (length table) (edgeCount n) (λ e. h (e ∙ ap edgeCount (sym (a .points)))))
 
     module _ (whole : length table ≡ edgeCount (i .points)) where
-      pub refused-length : allAtMost mostLength table ≡ false → Refused 5 ≡ tested n table marks
-      unfolding tested
-      refused-length h = rw (tested, a .range, eq-eqb (length table) (edgeCount n) (edges-of a whole), h)
+      pub refused-length : allAtMost mostLength table ≡ false → Refused 5 ≡ testedTable n table
+      unfolding testedTable
+      refused-length h = rw (testedTable, a .range, eq-eqb (length table) (edgeCount n) (edges-of a whole), h)
 
-      module _ (small : allAtMost mostLength table ≡ true) where
-        pub refused-marks : (length marks ≡ edgeCount (i .points) → ⊥) → Refused 6 ≡ tested n table marks
-        unfolding tested
-        refused-marks h = rw (
-          tested,
-          a .range,
-          eq-eqb (length table) (edgeCount n) (edges-of a whole),
-          small,
-          ne-eqb (length marks) (edgeCount n) (λ e. h (e ∙ ap edgeCount (sym (a .points)))),
-        )
+      pub passed-lengths : allAtMost mostLength table ≡ true → Points (i .points) ≡ testedTable n table
+      unfolding testedTable
+      passed-lengths h = ap Points (a .points) ∙ rw (testedTable, a .range, eq-eqb (length table) (edgeCount n) (edges-of a whole), h)
 
-        module _ (marked : length marks ≡ edgeCount (i .points)) where
-          pub passed-tests : areMarks marks ≡ true → Points (i .points) ≡ tested n table marks
-          unfolding tested
-          passed-tests h = ap Points (a .points) ∙ rw (
-            tested,
-            a .range,
-            eq-eqb (length table) (edgeCount n) (edges-of a whole),
-            small,
-            eq-eqb (length marks) (edgeCount n) (edges-of a marked),
-            h,
-          )
+-- and 6 behind them
+module _ (n : ℕ) (table marks : List ℕ) where
+  pub refused-table : {k : ℕ} → testedTable n table ≡ Refused k → Refused k ≡ tested n table marks
+  unfolding testedTable tested
+  refused-table {k} h = go (inRange n) (eqb (length table) (edgeCount n)) (allAtMost mostLength table) _ h
+    where
+      go : (a b c : Bool) (rest : Tested) → unless a (Refused 1) (unless b (Refused 2) (unless c (Refused 5) (Points n))) ≡ Refused k
+          → Refused k ≡ unless a (Refused 1) (unless b (Refused 2) (unless c (Refused 5) rest))
+      go false b c rest h = sym h
+      go true false c rest h = sym h
+      go true true false rest h = sym h
+      go true true true rest h = absurd (not-points (sym h))
+
+  module _ {m : ℕ} (p : TablePassed n table m) where
+    pub refused-marks : (length marks ≡ edgeCount m → ⊥) → Refused 6 ≡ tested n table marks
+    unfolding tested
+    refused-marks h = rw (tested, p .range, p .whole, p .small, ne-eqb (length marks) (edgeCount n) (λ e. h (e ∙ ap edgeCount (sym (p .same)))))
+
+    pub passed-tests : length marks ≡ edgeCount m → areMarks marks ≡ true → Points m ≡ tested n table marks
+    unfolding tested
+    passed-tests e h =
+        ap Points (p .same) ∙ rw (tested, p .range, p .whole, p .small, eq-eqb (length marks) (edgeCount n) (e ∙ ap edgeCount (p .same)), h)
 
 -- test 6 of a packed set, as facts of the marks that it holds
 module _ {n : ℕ} (s : List ℕ) {i : Instance} (a : Admits n i) {r : Bool} (is : r ≡ wellPacked (i .points) s) where

@@ -16,6 +16,7 @@ use Rattle.lists.specs.Test.{allAtMost}
 use Rattle.lengths.proofs.Instances.{Admits, admitted}
 use Rattle.lengths.proofs.Limits.{limit-each}
 use Rattle.lengths.specs.Table.{Lengths}
+use Rattle.marking.specs.TableTests.{testedTable}
 use Rattle.marking.specs.Tests.{tested, ready}
 use Rattle.marking.specs.declared.tests.Tested.{Tested}
 use Rattle.marking.specs.declared.tests.Tested.the-variants.{Points, Refused}
@@ -30,13 +31,40 @@ pub record InstancePassed (n : ℕ) (table marks : List ℕ) (m : ℕ) : Type 0 
   pub marked : length marks ≡ edgeCount m
   pub bytes : areMarks marks ≡ true
 
-not-points : {k m : ℕ} → Refused k ≡ Points m → ⊥
+pub not-points : {k m : ℕ} → Refused k ≡ Points m → ⊥
 not-points e = let z : _≡_ {A = ℕ} 0 1 = cc in omega arith
 
 -- test 1 says that n is within the limits
 pub range-admits : (n : ℕ) → inRange n ≡ true → Admits n (record { points = n })
 unfolding admission
 range-admits n h = admitted (rw (admission, h))
+
+-- the tests of a table pass one of n points, and answer n
+pub record TablePassed (n : ℕ) (table : List ℕ) (m : ℕ) : Type 0 where
+  pub range : inRange n ≡ true
+  pub whole : eqb (length table) (edgeCount n) ≡ true
+  pub small : allAtMost mostLength table ≡ true
+  pub same : m ≡ n
+
+pub table-passed : {n : ℕ} {table : List ℕ} {m : ℕ} → testedTable n table ≡ Points m → TablePassed n table m
+unfolding testedTable
+table-passed {n} {table} {m} h =
+    let p1 = answered (inRange n) _ _ (Points m) not-points h in
+    let p2 = answered (eqb (length table) (edgeCount n)) _ _ (Points m) not-points (p1 .1) in
+    let p3 = answered (allAtMost mostLength table) _ _ (Points m) not-points (p2 .1) in
+    let q : Points n ≡ Points m = p3 .1 in
+    record { range = p1 .0; whole = p2 .0; small = p3 .0; same = cc }
+
+-- so it has n points, and the table is one of lengths
+pub table-admits : {n : ℕ} {table : List ℕ} {m : ℕ} → TablePassed n table m → Admits n (record { points = m })
+table-admits {n} p = let a = range-admits n (p .range) in record { range = p .range; points = p .same; least = a .least; most = a .most }
+
+pub table-lengths : {n : ℕ} {table : List ℕ} {m : ℕ} → TablePassed n table m → Lengths m table
+table-lengths {n} {table} p = record {
+  few = omega (arith, p .same, table-admits p .most);
+  whole = rw (p .same) (eqb-true (length table) (edgeCount n) (p .whole));
+  small = limit-each mostLength table (p .small);
+}
 
 pub passed : {n : ℕ} {table marks : List ℕ} {m : ℕ} → tested n table marks ≡ Points m → InstancePassed n table marks m
 unfolding tested

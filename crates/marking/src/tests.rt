@@ -1,9 +1,5 @@
 // The tests that the operations share: 1, 2, 5 and 6, in 01's order, and 20 behind them, of marking and asking.
-use endian::bytes::count32;
-use lengths::edge;
-use lengths::instance::Admission;
-use lengths::instance::Instance;
-use lengths::limit::all_at_most;
+use crate::table_tests::test_table;
 use lengths::refusal;
 use marks::mark;
 use marks::packed::marks_within;
@@ -19,21 +15,15 @@ pub enum Tested {
     Refused(u8),
 }
 
-// Tests 1, 2, 5 and 6: the number of points, the table's size and its entries, the packed set of marks.
+// Tests 1, 2, 5 and 6: the table, and the packed set of marks.
 pub fn test_instance(n: u32, table: &[u8], marks: &[u8]) -> Tested
     ensures { λ r. ⌜ r ≡ tested n (whole32 (now (table .entry))) (marksOf n (now (marks .entry))) ⌝ }
 {
-    let Admission::Admitted(instance) = Instance::admit(n) else {
-        return Tested::Refused(refusal::POINTS);
+    let tested = test_table(n, table);
+    let points = match tested {
+        Tested::Points(points) => points,
+        Tested::Refused(number) => return Tested::Refused(number),
     };
-    let points = instance.points;
-    let edges = edge::count(points);
-    if count32(table) != edges {
-        return Tested::Refused(refusal::SIZE);
-    }
-    if !all_at_most(table, Instance::MOST_LENGTH) {
-        return Tested::Refused(refusal::LENGTH);
-    }
     if !well_packed(points, marks) {
         return Tested::Refused(refusal::MARKS);
     }

@@ -4,4 +4,5 @@ pub mod ListAnswers
 pub mod MarkAnswers
 pub mod MeasureAnswers
 pub mod PendingAnswers
+pub mod SavedNumbers
 pub mod TourAnswers

@@ -5,4 +5,5 @@ pub mod Listing
 pub mod Mark
 pub mod Measure
 pub mod Pending
+pub mod Saved
 pub mod Tour

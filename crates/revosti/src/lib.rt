@@ -1,8 +1,9 @@
-// The functions for C, one to a file: each is its operation over the same bytes, with the answer as one 64-bit number.
+// The functions for C, one subject to a file: each is its operation over the same bytes, with the answer as one 64-bit number.
 pub mod converting;
 pub mod fresh;
 pub mod listing;
 pub mod mark;
 pub mod measure;
 pub mod pending;
+pub mod saved;
 pub mod tour;

@@ -2,3 +2,4 @@ pub mod LegLoops
 pub mod LegsAndBound
 pub mod PairLists
 pub mod PairTests
+pub mod Savings

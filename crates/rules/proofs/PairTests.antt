@@ -8,11 +8,13 @@ use mathlib.Core.List.{List, [], _∷_}
 use native.Mathlib.Omega.{arith}
 use lib.Dec.{eqb, ltb}
 use borrow.Author.Tests.{ne-eqb, eqb-true, eqb-false, le-leb, leb-true, ltb-true, ltb-false}
+use Rattle.lists.specs.Saving.{gains?}
 use Rattle.lengths.specs.Edge.{Edge, edge}
 use Rattle.lengths.specs.asks.Edge.{IsEdgeUp}
-use Rattle.lists.proofs.Bools.{and-both, and-true}
+use Rattle.lists.proofs.Bools.{and-both, and-true, never-true, never-false}
 use Rattle.sets.specs.EdgeSet.{Has, AtMostTwo, NoShortCycle, withPair}
-use Rattle.rules.specs.Pair.{Compatible, MoveSaves, FeasiblePair}
+use Rattle.rules.proofs.Savings.{compatible-sum, move-sum}
+use Rattle.rules.specs.Pair.{exchangeSaving, moveSaving, Compatible, MoveSaves, FeasiblePair}
 use Rattle.rules.specs.PairTest.{every, compatible?, leg?, stays?, unmoved?, feasible?}
 use Rattle.rules.specs.Pairs.{feasiblePairs}
 use Rattle.sets.specs.Rising.{Among}
@@ -37,44 +39,60 @@ unfolding every
 has-every t [] h = refl
 has-every t (edge p q ∷ es) h = and-both _ _ (h p q (inl (inl (refl, refl)))) (has-every t es (λ a b k. h a b (inr k)))
 
-pub compatible-iff : (l : ℕ → ℕ → ℕ) (p q x y : ℕ) → (compatible? l p q x y ≡ true) ↔ Compatible l p q x y
+pub compatible-iff : (l : ℕ → ℕ → ℕ) (p q x y : ℕ) → (compatible? l p q x y ≡ true) ↔ Compatible l l p q x y
 unfolding compatible?
-compatible-iff l p q x y =
-    (leb-true (l p q + l x y) (max (l p x + l q y) (l p y + l q x)), le-leb (l p q + l x y) (max (l p x + l q y) (l p y + l q x)))
+compatible-iff l p q x y = (
+  λ h. compatible-sum l l p q x y .1 (leb-true (l p q + l x y) (max (l p x + l q y) (l p y + l q x)) h),
+  λ h. le-leb (l p q + l x y) (max (l p x + l q y) (l p y + l q x)) (compatible-sum l l p q x y .0 h),
+)
 
 -- the edge uv does not save, or it touches c
-pub stays-iff : (l : ℕ → ℕ → ℕ) (c x y u v : ℕ) → (stays? l c x y u v ≡ true) ↔ ((u ≡ c → ⊥) → (v ≡ c → ⊥) → MoveSaves l c x y u v → ⊥)
+pub stays-iff : (l : ℕ → ℕ → ℕ) (c x y u v : ℕ) → (stays? l c x y u v ≡ true) ↔ ((u ≡ c → ⊥) → (v ≡ c → ⊥) → MoveSaves l l c x y u v → ⊥)
 unfolding stays?
 stays-iff l c x y u v = go (eqb u c) (eqb v c) (ltb (l x y + l u c + l v c) (l u v + l x c + l y c)) refl refl refl
   where
     go : (r s t : Bool) → eqb u c ≡ r → eqb v c ≡ s → ltb (l x y + l u c + l v c) (l u v + l x c + l y c) ≡ t
-        → ((r || (s || not t)) ≡ true) ↔ ((u ≡ c → ⊥) → (v ≡ c → ⊥) → MoveSaves l c x y u v → ⊥)
+        → ((r || (s || not t)) ≡ true) ↔ ((u ≡ c → ⊥) → (v ≡ c → ⊥) → MoveSaves l l c x y u v → ⊥)
     go true s t eu ev et = ((λ _ nu nv m. nu (eqb-true u c eu)), λ _. refl)
     go false true t eu ev et = ((λ _ nu nv m. nv (eqb-true v c ev)), λ _. refl)
     go false false true eu ev et = (
       (λ e nu nv m. true≢false (sym e)),
-      λ h. absurd (h (eqb-false u c eu) (eqb-false v c ev) (ltb-true (l x y + l u c + l v c) (l u v + l x c + l y c) et)),
+      λ h. absurd (h (eqb-false u c eu) (eqb-false v c ev) (move-sum l l c x y u v .1 (ltb-true (l x y + l u c + l v c) (l u v + l x c + l y c) et))),
     )
     go false false false eu ev et =
-        ((λ _ nu nv m. omega (arith, m, ltb-false (l x y + l u c + l v c) (l u v + l x c + l y c) et)), λ _. refl)
+        ((λ _ nu nv m. omega (arith, move-sum l l c x y u v .0 m, ltb-false (l x y + l u c + l v c) (l u v + l x c + l y c) et)), λ _. refl)
+
+-- EXCHANGING TWO EDGES shuts a case out exactly when its saving is above 0
+pub exchange-shuts : (l : ℕ → ℕ → ℕ) (p q x y : ℕ) → (compatible? l p q x y ≡ false) ↔ (gains? (exchangeSaving l l p q x y) ≡ true)
+exchange-shuts l p q x y = (
+  λ h. never-false _ (λ e. true≢false (sym (compatible-iff l p q x y .1 e) ∙ h)),
+  λ h. never-true _ (λ e. true≢false (sym h ∙ compatible-iff l p q x y .0 e)),
+)
+
+-- MOVING A POINT to an edge without it shuts a case out exactly when its saving is above 0
+pub move-shuts : (l : ℕ → ℕ → ℕ) (c x y u v : ℕ) → (u ≡ c → ⊥) → (v ≡ c → ⊥) → (stays? l c x y u v ≡ false) ↔ (gains? (moveSaving l l c x y u v) ≡ true)
+move-shuts l c x y u v nu nv = (
+  λ h. never-false _ (λ e. true≢false (sym (stays-iff l c x y u v .1 (λ _ _ m. true≢false (sym m ∙ e))) ∙ h)),
+  λ h. never-true _ (λ e. stays-iff l c x y u v .0 e nu nv h),
+)
 
 module _ (l : ℕ → ℕ → ℕ) (symmetric : (a b : ℕ) → l a b ≡ l b a) where
   compatible-turn : (c x p q : ℕ) → compatible? l c x p q ≡ true → compatible? l c x q p ≡ true
   compatible-turn c x p q h =
-      compatible-iff l c x q p .1 (omega (arith, compatible-iff l c x p q .0 h, symmetric p q))
+      compatible-iff l c x q p .1 (compatible-sum l l c x q p .1 (omega (arith, compatible-sum l l c x p q .0 (compatible-iff l c x p q .0 h), symmetric p q)))
 
   stays-turn : (c x y u v : ℕ) → stays? l c x y u v ≡ true → stays? l c x y v u ≡ true
   stays-turn c x y u v h =
-      stays-iff l c x y v u .1 (λ nv nu m. stays-iff l c x y u v .0 h nu nv (omega (arith, m, symmetric u v)))
+      stays-iff l c x y v u .1 (λ nv nu m. stays-iff l c x y u v .0 h nu nv (move-sum l l c x y u v .1 (omega (arith, move-sum l l c x y v u .0 m, symmetric u v))))
 
   -- conditions 1 and 4 of one leg
   pub leg-iff : (open? : ℕ → ℕ → Bool) (K : List Edge) (c x : ℕ)
-      → (leg? l open? K c x ≡ true) ↔ ((x ≡ c → ⊥) × (open? c x ≡ true) × ((p q : ℕ) → Has K p q → Compatible l c x p q))
+      → (leg? l open? K c x ≡ true) ↔ ((x ≡ c → ⊥) × (open? c x ≡ true) × ((p q : ℕ) → Has K p q → Compatible l l c x p q))
   unfolding leg?
   leg-iff open? K c x = (to, from)
     where
       to : not (eqb x c) && (open? c x && every (compatible? l c x) K) ≡ true
-          → (x ≡ c → ⊥) × (open? c x ≡ true) × ((p q : ℕ) → Has K p q → Compatible l c x p q)
+          → (x ≡ c → ⊥) × (open? c x ≡ true) × ((p q : ℕ) → Has K p q → Compatible l l c x p q)
       to e =
           let a = and-true (not (eqb x c)) (open? c x && every (compatible? l c x) K) e in
           let b = and-true (open? c x) (every (compatible? l c x) K) (a .1) in (
@@ -83,7 +101,7 @@ module _ (l : ℕ → ℕ → ℕ) (symmetric : (a b : ℕ) → l a b ≡ l b a)
             λ p q h. compatible-iff l c x p q .0 (every-has (compatible? l c x) (compatible-turn c x) K (b .1) p q h),
           )
 
-      from : (x ≡ c → ⊥) × (open? c x ≡ true) × ((p q : ℕ) → Has K p q → Compatible l c x p q)
+      from : (x ≡ c → ⊥) × (open? c x ≡ true) × ((p q : ℕ) → Has K p q → Compatible l l c x p q)
           → not (eqb x c) && (open? c x && every (compatible? l c x) K) ≡ true
       from h = and-both _ _
           (ap not (ne-eqb x c (h .0)))
@@ -91,7 +109,7 @@ module _ (l : ℕ → ℕ → ℕ) (symmetric : (a b : ℕ) → l a b ≡ l b a)
 
   -- condition 5
   pub unmoved-iff : (K : List Edge) (c x y : ℕ)
-      → (unmoved? l K c x y ≡ true) ↔ ((u v : ℕ) → Has K u v → (u ≡ c → ⊥) → (v ≡ c → ⊥) → MoveSaves l c x y u v → ⊥)
+      → (unmoved? l K c x y ≡ true) ↔ ((u v : ℕ) → Has K u v → (u ≡ c → ⊥) → (v ≡ c → ⊥) → MoveSaves l l c x y u v → ⊥)
   unfolding unmoved?
   unmoved-iff K c x y = (
     (λ e u v h. stays-iff l c x y u v .0 (every-has (stays? l c x y) (stays-turn c x y) K e u v h)),
@@ -101,11 +119,11 @@ module _ (l : ℕ → ℕ → ℕ) (symmetric : (a b : ℕ) → l a b ≡ l b a)
   -- the test of a pair x < y of 1 to n is true exactly when the pair is feasible, given that `shape?` decides conditions 2 and 3
   pub feasible-iff : (n : ℕ) (open? : ℕ → ℕ → Bool) (K : List Edge) (c x y : ℕ) → IsEdgeUp n x y
       → ((x ≡ c → ⊥) → (y ≡ c → ⊥) → (shape? n K c x y ≡ true) ↔ (AtMostTwo (withPair K c x y) × NoShortCycle n (withPair K c x y)))
-      → (feasible? n l open? K c x y ≡ true) ↔ FeasiblePair n l open? K c x y
+      → (feasible? n l open? K c x y ≡ true) ↔ FeasiblePair n l l open? K c x y
   unfolding feasible?
   feasible-iff n open? K c x y e shape = (to, from)
     where
-      to : leg? l open? K c x && (leg? l open? K c y && (unmoved? l K c x y && shape? n K c x y)) ≡ true → FeasiblePair n l open? K c x y
+      to : leg? l open? K c x && (leg? l open? K c y && (unmoved? l K c x y && shape? n K c x y)) ≡ true → FeasiblePair n l l open? K c x y
       to h =
           let a = and-true (leg? l open? K c x) (leg? l open? K c y && (unmoved? l K c x y && shape? n K c x y)) h in
           let b = and-true (leg? l open? K c y) (unmoved? l K c x y && shape? n K c x y) (a .1) in
@@ -126,7 +144,7 @@ module _ (l : ℕ → ℕ → ℕ) (symmetric : (a b : ℕ) → l a b ≡ l b a)
             five = unmoved-iff K c x y .0 (d .0);
           }
 
-      from : FeasiblePair n l open? K c x y → leg? l open? K c x && (leg? l open? K c y && (unmoved? l K c x y && shape? n K c x y)) ≡ true
+      from : FeasiblePair n l l open? K c x y → leg? l open? K c x && (leg? l open? K c y && (unmoved? l K c x y && shape? n K c x y)) ≡ true
       from f = and-both _ _
           (leg-iff open? K c x .1 (f .apart-x, f .one .0, λ p q k. f .four p q k .0))
           (and-both _ _
@@ -136,15 +154,15 @@ module _ (l : ℕ → ℕ → ℕ) (symmetric : (a b : ℕ) → l a b ≡ l b a)
   -- the list has exactly the feasible pairs
   pub feasiblePairs-iff : (n : ℕ) (open? : ℕ → ℕ → Bool) (K : List Edge) (c x y : ℕ)
       → ((x ≡ c → ⊥) → (y ≡ c → ⊥) → IsEdgeUp n x y → (shape? n K c x y ≡ true) ↔ (AtMostTwo (withPair K c x y) × NoShortCycle n (withPair K c x y)))
-      → Among (feasiblePairs n l open? K c) x y ↔ FeasiblePair n l open? K c x y
+      → Among (feasiblePairs n l open? K c) x y ↔ FeasiblePair n l l open? K c x y
   feasiblePairs-iff n open? K c x y shape = (to, from)
     where
-      to : Among (feasiblePairs n l open? K c) x y → FeasiblePair n l open? K c x y
+      to : Among (feasiblePairs n l open? K c) x y → FeasiblePair n l l open? K c x y
       to m =
           let r = in-feasiblePairs n l open? K c x y .0 m in
           feasible-iff n open? K c x y (r .0) (λ nx ny. shape nx ny (r .0)) .0 (r .1)
 
-      from : FeasiblePair n l open? K c x y → Among (feasiblePairs n l open? K c) x y
+      from : FeasiblePair n l l open? K c x y → Among (feasiblePairs n l open? K c) x y
       from f =
           let e : IsEdgeUp n x y = record { low = f .point-x .low; up = f .rising; high = f .point-y .high } in
           in-feasiblePairs n l open? K c x y .1 (e, feasible-iff n open? K c x y e (λ nx ny. shape nx ny e) .1 f)

@@ -1,21 +1,33 @@
 -- Feasible pairs (01, "Standing pairs": 01's term for a feasible pair is "the pair stands").
-use Prim.Native.Nat.{ℕ, _+_, _≤_, _<_, max}
+use Prim.Native.Nat.{ℕ, _+_, _<_, max}
 use mathlib.Core.Path.{_≡_}
-use mathlib.Core.Bool.{Bool, true}
+use mathlib.Core.Bool.{Bool, true, false}
 use mathlib.Core.List.{List}
 use Rattle.lengths.specs.Edge.{Edge, Point}
+use lib.IntN.{ℤ}
+use Rattle.lists.specs.Saving.{saving, gains?}
 use Rattle.sets.specs.EdgeSet.{Has, AtMostTwo, NoShortCycle, withPair}
 
--- the larger of l(px) + l(qy) and l(py) + l(qx) is at least l(pq) + l(xy)
-abbrev pub Compatible : (ℕ → ℕ → ℕ) → ℕ → ℕ → ℕ → ℕ → Type 0
-Compatible l p q x y = l p q + l x y ≤ max (l p x + l q y) (l p y + l q x)
+-- Savings (02, Paper 5), by the lengths of what is taken out and of what is put in; one table is both.
 
--- moving c from between x and y to between u and v makes the sum smaller
-abbrev pub MoveSaves : (ℕ → ℕ → ℕ) → ℕ → ℕ → ℕ → ℕ → ℕ → Type 0
-MoveSaves l c x y u v = l x y + l u c + l v c < l u v + l x c + l y c
+-- "for two edges, their sum less the larger of the two exchanges"
+unfoldable pub exchangeSaving : (out put : ℕ → ℕ → ℕ) → ℕ → ℕ → ℕ → ℕ → ℤ
+exchangeSaving out put p q x y = saving (out p q + out x y) (max (put p x + put q y) (put p y + put q x))
+
+-- "for moving a point, old less new": c from between x and y to between u and v
+unfoldable pub moveSaving : (out put : ℕ → ℕ → ℕ) → ℕ → ℕ → ℕ → ℕ → ℕ → ℤ
+moveSaving out put c x y u v = saving (out u v + out x c + out y c) (put x y + put u c + put v c)
+
+-- pq and xy are compatible: exchanging them saves nothing
+abbrev pub Compatible : (out put : ℕ → ℕ → ℕ) → ℕ → ℕ → ℕ → ℕ → Type 0
+Compatible out put p q x y = gains? (exchangeSaving out put p q x y) ≡ false
+
+-- moving c from between x and y to between u and v saves
+abbrev pub MoveSaves : (out put : ℕ → ℕ → ℕ) → ℕ → ℕ → ℕ → ℕ → ℕ → Type 0
+MoveSaves out put c x y u v = gains? (moveSaving out put c x y u v) ≡ true
 
 -- the pair x < y stands at the split point c under K: `one` to `five` are 01's conditions
-pub record FeasiblePair (n : ℕ) (l : ℕ → ℕ → ℕ) (open? : ℕ → ℕ → Bool) (K : List Edge) (c x y : ℕ) : Type 0 where
+pub record FeasiblePair (n : ℕ) (out put : ℕ → ℕ → ℕ) (open? : ℕ → ℕ → Bool) (K : List Edge) (c x y : ℕ) : Type 0 where
   pub rising : x < y
   pub point-x : Point n x
   pub point-y : Point n y
@@ -24,5 +36,5 @@ pub record FeasiblePair (n : ℕ) (l : ℕ → ℕ → ℕ) (open? : ℕ → ℕ
   pub one : (open? c x ≡ true) × (open? c y ≡ true)
   pub two : AtMostTwo (withPair K c x y)
   pub three : NoShortCycle n (withPair K c x y)
-  pub four : (p q : ℕ) → Has K p q → Compatible l c x p q × Compatible l c y p q
-  pub five : (u v : ℕ) → Has K u v → (u ≡ c → ⊥) → (v ≡ c → ⊥) → MoveSaves l c x y u v → ⊥
+  pub four : (p q : ℕ) → Has K p q → Compatible out put c x p q × Compatible out put c y p q
+  pub five : (u v : ℕ) → Has K u v → (u ≡ c → ⊥) → (v ≡ c → ⊥) → MoveSaves out put c x y u v → ⊥

@@ -1,3 +1,4 @@
-// The rules of feasible pairs: the legs at a split point, and how much a pair may cost.
+// The rules of feasible pairs: the legs at a split point, how much a pair may cost, and how much an exchange and a move save.
 pub mod bound;
 pub mod legs;
+pub mod saving;

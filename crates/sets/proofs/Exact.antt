@@ -7,13 +7,13 @@ use Prim.Native.Nat.{ℕ, _-_, _≤_, _<_}
 use native.Mathlib.Omega.{arith}
 use native.Mathlib.Decide.{ℕ-discrete, decLe}
 use mathlib.Core.Path.{_≡_, refl, sym, ap, _∙_, subst}
-use mathlib.Core.Bool.{Bool, true, false, not, false≢true, true≢false}
+use mathlib.Core.Bool.{true, false, not, false≢true, true≢false}
 use mathlib.Core.List.{List, [], _∷_}
 use mathlib.Core.Logic.{inl, inr, ⊎-elim, by-cases, _↔_}
 use lib.ListN.{length}
 use borrow.Author.Tests.{not-true}
 use Rattle.lengths.specs.Edge.{Edge, edge}
-use Rattle.lists.proofs.Bools.{and-both, and-true}
+use Rattle.lists.proofs.Bools.{and-both, and-true, never-true}
 use Rattle.sets.specs.EdgeSet.{Has, AtMostTwo, Cycle, NoShortCycle, closedEdges, withPair}
 use Rattle.sets.specs.Neighbours.{neighboursOf, beyond, within?}
 use Rattle.sets.specs.Shape.{Shape, reaches?, shuts?, shape?}
@@ -27,10 +27,6 @@ use Rattle.sets.proofs.Laws.Joined.{has-sym}
 use Rattle.sets.proofs.Laws.Neighbours.{Leads, Onward, Forks}
 use Rattle.sets.proofs.Laws.Points.{In, in-dec}
 use Rattle.sets.proofs.Laws.Trail.{Trail}
-
-not-true-false : (t : Bool) → (t ≡ true → ⊥) → t ≡ false
-not-true-false true h = absurd (h refl)
-not-true-false false h = refl
 
 stop-or-fork : (K : List Edge) (v from : ℕ) → ((u : ℕ) → Has K v u → u ≡ from) → Forks K v from → ⊥
 stop-or-fork K v from h f = f .a-from (h (f .a) (f .has-a))
@@ -132,7 +128,7 @@ module _ (n : ℕ) (K : List Edge) (c x y : ℕ) (shape : Shape n K) (apart : Ap
   unseen two long (On v) Fork hx hy = absurd (room-of-two K c x y apart two .at-y hy)
   unseen two long (On v) Stop hx hy = refl
   unseen two long (On v) (On u) hx hy =
-      not-true-false (reaches? (n - 3) K x v y) (found K c x y two pair-plain n (n - 3) v x (c ∷ []) (start v hx) long (omega arith))
+      never-true (reaches? (n - 3) K x v y) (found K c x y two pair-plain n (n - 3) v x (c ∷ []) (start v hx) long (omega arith))
 
   shape-sound : shape? n K c x y ≡ true → AtMostTwo (withPair K c x y) × NoShortCycle n (withPair K c x y)
   unfolding shape?

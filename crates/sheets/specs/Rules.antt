@@ -16,8 +16,8 @@ abbrev pub rulesWhere : ℕ → List ℕ → (open? : ℕ → ℕ → Bool) → 
 rulesWhere n table open? =
     record {
       n = n;
-      Feasible = FeasiblePair n (lengthOf n table) open?;
-      Settles = Closes (lengthOf n table);
+      Feasible = FeasiblePair n (lengthOf n table) (lengthOf n table) open?;
+      Settles = Closes (lengthOf n table) (lengthOf n table);
       pairs = feasiblePairs n (lengthOf n table) open?;
       closing = λ K p q r s. refusalOf (threeOptOutcome (lengthOf n table) K p q r s);
     }

@@ -21,6 +21,11 @@ use Rattle.closings.specs.ClosingTest.{saves?, labelling?, centresApart?, place
 use Rattle.sets.specs.Joined.{joins?, has?}
 use Rattle.marks.specs.Mark.{openUpTo, markAt}
 use Rattle.sets.specs.Neighbours.{withPoint, seen, neighboursOf, bothOf, endsOf, within?, either?, beyond}
+use lib.IntN.{pos}
+use Rattle.lists.specs.Saving.{smaller, larger}
+use Rattle.closings.specs.Closing.{firstSaving, secondSaving, labelSaving, crossingSaving}
+use Rattle.closings.proofs.Savings.{saves-sums}
+use Rattle.rules.proofs.Savings.{compatible-sum, move-sum}
 use Rattle.rules.specs.Pair.{FeasiblePair}
 use Rattle.rules.specs.PairTest.{every, compatible?, leg?, stays?, unmoved?, feasible?}
 use Rattle.rules.specs.Pairs.{keep, feasiblePairs}
@@ -44,11 +49,11 @@ distances-hold dx dy S euc2d ceil2d att man2d max2d h sum one two three four fiv
 
 incompatible-hold : (p q x y exchange both : ℕ) → exchange < both → max (square p x + square q y) (square p y + square q x) ≡ exchange
     → square p q + square x y ≡ both → Claim (incompatible p q x y exchange both)
-incompatible-hold p q x y exchange both h one two = (one, two, λ k. omega arith)
+incompatible-hold p q x y exchange both h one two = (one, two, λ k. omega (arith, compatible-sum square square p q x y .0 k))
 
 compares-hold : (c x y u v new old : ℕ) → old ≤ new → square x y + square u c + square v c ≡ new → square u v + square x c + square y c ≡ old
     → Claim (compares c x y u v new old)
-compares-hold c x y u v new old h one two = (one, two, λ k. omega arith)
+compares-hold c x y u v new old h one two = (one, two, λ k. omega (arith, move-sum square square c x y u v .0 k))
 
 -- the list that the test computes has exactly the feasible pairs, since {ab} has the shape that conditions 2 and 3 go by
 feasible-hold : (a b c : ℕ) (pairs : List Edge) → (a ≡ b → ⊥) → feasiblePairs 4 square allOpen (edge a b ∷ []) c ≡ pairs → Claim (feasible a b c pairs)
@@ -56,7 +61,7 @@ unfolding square
 feasible-hold a b c pairs apart e x y =
     let r = feasiblePairs-iff square (length-symmetric 4 _) 4 allOpen (edge a b ∷ []) c x y
     (λ xc yc e. shape-exact 4 (edge a b ∷ []) c x y (single-shape 4 a b apart) (record { x-y = λ q. omega (arith, e .up); x-c = xc; y-c = yc })) in
-    subst (λ (es : List Edge). List·Memᴰ (edge x y) es ↔ FeasiblePair 4 square allOpen (edge a b ∷ []) c x y) e r
+    subst (λ (es : List Edge). List·Memᴰ (edge x y) es ↔ FeasiblePair 4 square square allOpen (edge a b ∷ []) c x y) e r
 
 -- the ends of a centre, named the other way round
 ends-swap : {K : List Edge} {r x y : ℕ} → DegreeTwo K r x y → DegreeTwo K r y x
@@ -95,13 +100,14 @@ eight-lengths rs = record {
   rs = refl;
 }
 
-saves-hold : (rs difference : ℕ) → 1 ≤ difference → 30 ≡ rs + 18 + difference → Claim (saves rs 30 (rs + 18) difference)
-saves-hold rs difference h e =
+saves-hold : (rs difference : ℕ) → 1 ≤ difference → 30 ≡ rs + 18 + difference → crossingSaving (eight rs) (eight rs) 1 2 3 4 5 6 7 8 ≡ pos difference → Claim (saves rs 30 (rs + 18) difference)
+saves-hold rs difference h e best =
     let l = eight-lengths rs in (
       (l, are-moves),
       record { first-taken = omega arith; first-put = omega arith; second-taken = omega arith; second-put = omega arith },
       e,
-      record { x = 5; y = 6; z = 7; w = 8; moves = are-moves; saves = record { first = omega arith; second = omega arith } },
+      best,
+      record { x = 5; y = 6; z = 7; w = 8; moves = are-moves; saves = saves-sums (eight rs) (eight rs) 1 2 3 4 5 6 7 8 .1 (omega arith, omega arith) },
     )
 
 unsaved-hold : (rs : ℕ) → 12 ≤ rs → threeOptOutcome (eight rs) centres 1 2 3 4 ≡ NoSaving → Claim (unsaved rs)
@@ -109,10 +115,10 @@ unsaved-hold rs h e =
     let l = eight-lengths rs in (
       (l, are-moves),
       record {
-        as-named = λ s. omega arith;
-        swapped-zw = λ s. omega arith;
-        swapped-xy = λ s. omega arith;
-        swapped-both = λ s. omega arith;
+        as-named = λ s. omega (arith, saves-sums (eight rs) (eight rs) 1 2 3 4 5 6 7 8 .0 s);
+        swapped-zw = λ s. omega (arith, saves-sums (eight rs) (eight rs) 1 2 3 4 5 6 8 7 .0 s);
+        swapped-xy = λ s. omega (arith, saves-sums (eight rs) (eight rs) 1 2 3 4 6 5 7 8 .0 s);
+        swapped-both = λ s. omega (arith, saves-sums (eight rs) (eight rs) 1 2 3 4 6 5 8 7 .0 s);
       },
       no-saving-exact (eight rs) centres 1 2 3 4 .0 e .unsettled,
     )
@@ -131,7 +137,7 @@ each (d ∷ es) (h & hs) e m = ⊎-elim (λ q. subst (λ (x : Example). Claim x)
 proved : Proved starred
 unfolding starred distanceBy bisect passes square allOpen eight centres lengthOf measuredTable edgeDistance gapDistance squares xOf yOf xGap yGap gapOf
     edgeCount place placeUp tri edges rows row openUpTo markAt feasiblePairs keep feasible? leg? unmoved? stays? every compatible? shape? shuts? reaches? goesOn
-    neighboursOf seen withPoint within? either? beyond threeOptOutcome placed? has? joins? centresApart? endsOf bothOf settledBy labelling? saves?
+    neighboursOf seen withPoint within? either? beyond threeOptOutcome placed? has? joins? centresApart? endsOf bothOf settledBy labelling? saves? crossingSaving labelSaving firstSaving secondSaving smaller larger
 proved =
     distances-hold 1 1 2 1 2 1 2 1 (omega arith) refl refl refl refl refl refl &
     distances-hold 1 2 5 2 3 1 3 2 (omega arith) refl refl refl refl refl refl &
@@ -144,7 +150,7 @@ proved =
     feasible-hold 1 2 3 (edge 1 4 ∷ edge 2 4 ∷ []) (λ e. omega arith) refl &
     compares-hold 3 1 4 1 2 34 34 (omega arith) refl refl &
     feasible-hold 1 3 2 [] (λ e. omega arith) refl &
-    saves-hold 9 3 (omega arith) refl &
+    saves-hold 9 3 (omega arith) refl refl &
     unsaved-hold 12 (omega arith) refl &
     done
 

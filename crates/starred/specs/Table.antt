@@ -12,8 +12,9 @@ use Rattle.lengths.specs.Measure.{measuredTable}
 use Rattle.lengths.specs.Table.{lengthOf}
 use Rattle.lengths.specs.declared.distance.Root.the-variants.{Euc2d}
 use Rattle.lengths.specs.declared.distance.Rule.the-variants.{Rooted}
-use Rattle.closings.specs.Closing.{Saves, ThreeOptMoves, Closes}
+use Rattle.closings.specs.Closing.{crossingSaving, Saves, ThreeOptMoves, Closes}
 use Rattle.marks.specs.Mark.{openIn}
+use lib.IntN.{pos}
 use Rattle.rules.specs.Pair.{Compatible, MoveSaves, FeasiblePair}
 use Rattle.sets.specs.Rising.{Among}
 
@@ -104,10 +105,10 @@ pub record Moves (l : ℕ → ℕ → ℕ) (p q r s x y z w taken put : ℕ) : T
 
 -- none of the four labellings saves: x, y swapped or not, z, w swapped or not
 pub record NoneSaves (l : ℕ → ℕ → ℕ) (p q r s x y z w : ℕ) : Type 0 where
-  pub as-named : Saves l p q r s x y z w → ⊥
-  pub swapped-zw : Saves l p q r s x y w z → ⊥
-  pub swapped-xy : Saves l p q r s y x z w → ⊥
-  pub swapped-both : Saves l p q r s y x w z → ⊥
+  pub as-named : Saves l l p q r s x y z w → ⊥
+  pub swapped-zw : Saves l l p q r s x y w z → ⊥
+  pub swapped-xy : Saves l l p q r s y x z w → ⊥
+  pub swapped-both : Saves l l p q r s y x w z → ⊥
 
 abbrev pub Claim : Example → Type 0
 Claim (distances dx dy S euc2d ceil2d att man2d max2d) =
@@ -120,16 +121,17 @@ Claim (distances dx dy S euc2d ceil2d att man2d max2d) =
 Claim (incompatible p q x y exchange both) =
     (max (square p x + square q y) (square p y + square q x) ≡ exchange)
     × (square p q + square x y ≡ both)
-    × (Compatible square p q x y → ⊥)
-Claim (compatible p q x y) = Compatible square p q x y
-Claim (feasible a b c pairs) = (x y : ℕ) → Among pairs x y ↔ FeasiblePair 4 square allOpen (edge a b ∷ []) c x y
+    × (Compatible square square p q x y → ⊥)
+Claim (compatible p q x y) = Compatible square square p q x y
+Claim (feasible a b c pairs) = (x y : ℕ) → Among pairs x y ↔ FeasiblePair 4 square square allOpen (edge a b ∷ []) c x y
 Claim (compares c x y u v new old) =
     (square x y + square u c + square v c ≡ new)
     × (square u v + square x c + square y c ≡ old)
-    × (MoveSaves square c x y u v → ⊥)
+    × (MoveSaves square square c x y u v → ⊥)
 Claim (saves rs taken put difference) =
     Given rs
     × Moves (eight rs) 1 2 3 4 5 6 7 8 taken put
     × (taken ≡ put + difference)
-    × Closes (eight rs) centres 1 2 3 4
-Claim (unsaved rs) = Given rs × NoneSaves (eight rs) 1 2 3 4 5 6 7 8 × (Closes (eight rs) centres 1 2 3 4 → ⊥)
+    × (crossingSaving (eight rs) (eight rs) 1 2 3 4 5 6 7 8 ≡ pos difference)
+    × Closes (eight rs) (eight rs) centres 1 2 3 4
+Claim (unsaved rs) = Given rs × NoneSaves (eight rs) 1 2 3 4 5 6 7 8 × (Closes (eight rs) (eight rs) centres 1 2 3 4 → ⊥)

@@ -11,12 +11,6 @@ use Rattle.sets.specs.declared.edge_set.EdgeSet.{EdgeSet}
 unfoldable pub pick : ℕ → ℕ → ℕ → ℕ
 pick swap a b = cond (eqb swap 0) a b
 
--- ab, cd and ef join points, and the table is one of n points
-pub record ThreeEdges (n : ℕ) (table : List ℕ) (a b c d e f : ℕ) : Type 0 where
-  pub one : Spans n table a b
-  pub two : Spans n table c d
-  pub three : Spans n table e f
-
 -- the edge, the centres and their ends are points, and the table is one of n points
 pub record Labelled (n : ℕ) (table : List ℕ) (p q r s x y z w : ℕ) : Type 0 where
   pub edge : Spans n table p q

@@ -1,5 +1,9 @@
 -- `closings::closing::both_moves_save` meets its contract: the first move decides whether the second is looked at. Assumes nothing.
-use Rattle.closings.proofs.ClosingTests.{first-saves, first-fails}
+use mathlib.Core.Path.{sym, _∙_, ap}
+use Rattle.lists.specs.Saving.{gains?}
+use Rattle.lists.proofs.Savings.{gains-above}
+use Rattle.lengths.proofs.SignedSavings.{kept}
+use Rattle.closings.proofs.Savings.{first-made, second-made, both-test, first-fails}
 use borrow.Author.Needs.{needs}
 use Rattle.closings.proofs.closing.both_moves_save.Statement.{statement}
 use Rattle.closings.proofs.closing.both_moves_save.Tie as tie
@@ -10,21 +14,32 @@ length-of-three-requires c κs = search needs
 length-of-three-requires-2 : tie.Need-length-of-three-requires-2
 length-of-three-requires-2 c κs = search needs
 
+saving-requires : tie.Need-saving-requires
+saving-requires c κs = search needs
+
 length-of-three-requires-3 : tie.Need-length-of-three-requires-3
 length-of-three-requires-3 c κs = search needs
 
 length-of-three-requires-4 : tie.Need-length-of-three-requires-4
 length-of-three-requires-4 c κs = search needs
 
+saving-requires-2 : tie.Need-saving-requires-2
+saving-requires-2 c κs = search needs
+
 returns : tie.Need-returns
 returns c =
-    let d = c .before .before .before in
-    first-saves _ _ _ _ _ _ _ _ _ (d .before .length-of-three .ensures) (d .length-of-three2 .ensures) (c .before .before .if1 .taken)
-    (c .before .length-of-three3 .ensures) (c .length-of-three4 .ensures)
+    let f = c .before .before .before .before in
+    gains-above _ ∙ ap gains? (kept (c .saving2 .ok)) ∙ both-test _ _ _ _ _ _ _ _ _
+    (first-made _ _ _ _ _ _ _ _ (f .before .before .length-of-three .ensures .at) (f .before .length-of-three2 .ensures .at) (f .saving .ensures))
+    (ap gains? (sym (kept (f .saving .ok))) ∙ sym (gains-above _) ∙ c .before .before .before .if1 .taken)
+    (second-made _ _ _ _ _ _ _ _ (c .before .before .length-of-three3 .ensures .at) (c .before .length-of-three4 .ensures .at) (c .saving2 .ensures))
 
 returns-2 : tie.Need-returns-2
 returns-2 c =
-    first-fails _ _ _ _ _ _ _ _ _ (c .before .before .length-of-three .ensures) (c .before .length-of-three2 .ensures) (c .if1 .left)
+    let f = c .before in
+    first-fails _ _ _ _ _ _ _ _ _
+    (first-made _ _ _ _ _ _ _ _ (f .before .before .length-of-three .ensures .at) (f .before .length-of-three2 .ensures .at) (f .saving .ensures))
+    (ap gains? (sym (kept (f .saving .ok))) ∙ sym (gains-above _) ∙ c .if1 .left)
 
 pub both-moves-save-spec : {M : Type 1} → statement M
 both-moves-save-spec =
@@ -32,7 +47,9 @@ both-moves-save-spec =
     (tie.spec
     length-of-three-requires
     length-of-three-requires-2
+    saving-requires
     length-of-three-requires-3
     length-of-three-requires-4
+    saving-requires-2
     returns
     returns-2)

@@ -1,0 +1,56 @@
+-- `closings::saving::crossing_saving` meets its contract: the best of four. Assumes nothing.
+use mathlib.Core.Path.{_∙_, ap₂}
+use Rattle.lengths.proofs.SignedSavings.{kept}
+use Rattle.lists.specs.Saving.{larger}
+use borrow.Author.Needs.{needs}
+use Rattle.closings.proofs.Savings.{crossing-made}
+use Rattle.closings.proofs.saving.crossing_saving.Statement.{statement}
+use Rattle.closings.proofs.saving.crossing_saving.Tie as tie
+
+label-saving-requires : tie.Need-label-saving-requires
+label-saving-requires c κs = search needs
+
+label-saving-requires-2 : tie.Need-label-saving-requires-2
+label-saving-requires-2 c κs = search needs
+
+label-saving-requires-3 : tie.Need-label-saving-requires-3
+label-saving-requires-3 c κs = search needs
+
+label-saving-requires-4 : tie.Need-label-saving-requires-4
+label-saving-requires-4 c κs = search needs
+
+larger-requires : tie.Need-larger-requires
+larger-requires c κs = search needs
+
+larger-requires-2 : tie.Need-larger-requires-2
+larger-requires-2 c κs = search needs
+
+larger-requires-3 : tie.Need-larger-requires-3
+larger-requires-3 c κs = search needs
+
+returns : tie.Need-returns
+returns c =
+    let l = c .before .before .before in
+    let first = l .before .before .before .label-saving in
+    let second = l .before .before .label-saving2 in
+    let third = l .before .label-saving3 in
+    let fourth = l .label-saving4 in
+    let two = c .before .before .larger in
+    let three = c .before .larger2 in
+    kept (c .larger3 .ok) ∙ crossing-made _ _ _ _ _ _ _ _ _ _ (first .ensures) (second .ensures) (third .ensures) (fourth .ensures)
+    (two .ensures ∙ ap₂ larger (kept (third .ok)) (kept (fourth .ok)))
+    (three .ensures ∙ ap₂ larger (kept (second .ok)) (kept (two .ok)))
+    (c .larger3 .ensures ∙ ap₂ larger (kept (first .ok)) (kept (three .ok)))
+
+pub crossing-saving-spec : {M : Type 1} → statement M
+crossing-saving-spec =
+    tie.close
+    (tie.spec
+    label-saving-requires
+    label-saving-requires-2
+    label-saving-requires-3
+    label-saving-requires-4
+    larger-requires
+    larger-requires-2
+    larger-requires-3
+    returns)

@@ -1,0 +1,2 @@
+pub mod EdgeSpans
+pub mod SavedAnswers
