@@ -1,6 +1,6 @@
 /*
  * How a tour solver uses Revosti: a board is measured, a strike sheet written from lists of standing pairs, asked, withdrawn, asked again
- * and confirmed, and a search looks at open edges only. At the end its marks go to a byte set and back.
+ * and confirmed, and a search looks at open edges only. Then it asks how much the rules save, and its marks go to a byte set and back.
  *
  *   cc -Iinclude examples/solver.c target/staticlib/librevosti.a -o solver && ./solver
  *
@@ -24,6 +24,16 @@ static void expect(const char *what, uint64_t got, uint64_t want)
     printf("%s: %llu\n", what, (unsigned long long)got);
     if (got != want) {
         printf("  expected %llu\n", (unsigned long long)want);
+        faults++;
+    }
+}
+
+/* Prints a saving, which has a sign, beside what it should be. A refused call has none. */
+static void expect_saving(const char *what, int64_t answer, int64_t want)
+{
+    printf("%s saves %lld\n", what, (long long)revosti_saving(answer));
+    if (revosti_refusal(answer) != REVOSTI_ACCEPTED || revosti_saving(answer) != want) {
+        printf("  expected %lld, answer %lld\n", (long long)want, (long long)answer);
         faults++;
     }
 }
@@ -180,6 +190,36 @@ static void find_tour(void)
     expect("tour found, all edges open", (uint64_t)revosti_tour_open(answer), 1);
 }
 
+/* Savings on the square: 1-3 and 2-4 are not compatible, 1-2 and 3-4 are; the pair 1, 4 at 3 is a tie for condition 5. */
+static void savings(void)
+{
+    expect_saving("exchanging 1-3 and 2-4", revosti_exchange_saving(N, table, sizeof table, 1, 3, 2, 4), 8);
+    expect_saving("exchanging 1-2 and 3-4", revosti_exchange_saving(N, table, sizeof table, 1, 2, 3, 4), -8);
+    expect_saving("moving 3 from between 1 and 4 to between 1 and 2", revosti_move_saving(N, table, sizeof table, 3, 1, 4, 1, 2), 0);
+    expect("exchanging 1-1, refusal", revosti_refusal(revosti_exchange_saving(N, table, sizeof table, 1, 1, 2, 4)), REVOSTI_POINT);
+    expect("moving 3 to between 1 and 5, refusal", revosti_refusal(revosti_move_saving(N, table, sizeof table, 3, 1, 4, 1, 5)),
+           REVOSTI_POINT);
+}
+
+/* The crossing of 1-2 with centres 3 and 4, whose other ends are 5, 6 and 7, 8: it settles its case if the centres are near enough. */
+enum { P = 1, Q, R, S, X, Y, Z, W, EIGHT = 8 };
+static uint8_t crossing[2 * EIGHT * (EIGHT - 1)];
+
+static void join(unsigned a, unsigned b, uint32_t length) { put32(crossing + 4 * revosti_place(EIGHT, a, b), length); }
+
+static void crossing_saves(uint32_t centres, int64_t want)
+{
+    static const unsigned tens[][2] = {{P, Q}, {R, X}, {R, Y}, {S, Z}, {S, W}}, nines[][2] = {{P, X}, {Q, W}, {P, Z}, {Q, Y}};
+    for (unsigned a = 1; a <= EIGHT; a++) {
+        for (unsigned b = a + 1; b <= EIGHT; b++) join(a, b, 20);
+    }
+    for (size_t i = 0; i < 5; i++) join(tens[i][0], tens[i][1], 10);
+    for (size_t i = 0; i < 4; i++) join(nines[i][0], nines[i][1], 9);
+    join(R, S, centres);
+    printf("centres %u apart: ", (unsigned)centres);
+    expect_saving("the crossing", revosti_crossing_saving(EIGHT, crossing, sizeof crossing, P, Q, R, S, X, Y, Z, W), want);
+}
+
 /* The marks as a byte set, as an older program holds them, and back: 1-3 and 2-4 are struck, and the packed set is the same. */
 static void convert(void)
 {
@@ -265,6 +305,10 @@ int main(void)
     hand_in(lines);
     mark_directly(lines);
     find_tour();
+    savings();
+    crossing_saves(9, 3);
+    crossing_saves(12, 0);
+    crossing_saves(14, -2);
     convert();
     refusals(lines);
     return faults != 0;

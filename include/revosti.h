@@ -1,6 +1,6 @@
 /*
  * Revosti for C: measure a board, make fresh marks, mark a strike sheet, ask one and confirm or withdraw it, list standing pairs, check a
- * tour; convert sets of marks.
+ * tour; tell how much an exchange, a move or a crossing saves; convert sets of marks.
  *
  * Link with librevosti.a (`rt staticlib revosti` writes target/staticlib/librevosti.a).
  *
@@ -33,9 +33,9 @@
  * Marks are refused by 6 where the packed set has not its size, has a mark of 3 or has one of the unused bits of its last byte set. Of a
  * set that is only written (fresh marks, the conversions) the size alone is tested, and what it holds is not read.
  *
- * Within an asked sheet a pending edge counts as struck; the pair list and the tour check count it as open.
+ * Within an asked sheet a pending edge counts as struck; the pair list and the tour check count it as open. Savings read no marks.
  *
- * docs/RULES.md has the rules that they keep to, and what the words here mean (standing pair, split, crossing, labelling).
+ * docs/RULES.md has the rules that they keep to, and what the words here mean (standing pair, split, crossing, saving).
  * What is proved of them: demands 1 to 3 of README.md. In particular, whatever sheets are marked, asked, confirmed and withdrawn from fresh
  * marks over one table, provided that nobody else writes the table or the marks meanwhile (open is REVOSTI_OPEN here):
  *
@@ -91,7 +91,7 @@ enum {
     REVOSTI_INDEX_ABOVE = 8,     /* an index above the record count; names the record that has the index */
     REVOSTI_INDEX_NOT_ABOVE = 9, /* an index not above the highest record entered; names the record that has the index */
     REVOSTI_KIND = 10,           /* wrong kind for its chain, or u or v not 0 in kinds 1 and 2 */
-    REVOSTI_POINT = 11,          /* a point outside 1 to n, or a = b */
+    REVOSTI_POINT = 11,          /* a point outside 1 to n, or a = b; of a saving, an edge taken out with both ends the same */
     REVOSTI_EDGE_STRUCK = 12,    /* the edge is struck already, or pending where a sheet is asked */
     REVOSTI_SEVENTH_SPLIT = 13,  /* more than six splits one inside another */
     REVOSTI_PAIR = 14,           /* the pair is not the next standing one, or the chain ends with standing pairs left */
@@ -178,13 +178,59 @@ uint64_t revosti_check_tour(uint32_t n, const uint8_t *table, size_t table_len, 
 uint64_t revosti_list_pairs(uint32_t n, const uint8_t *table, size_t table_len, const uint8_t *marks, size_t marks_len,
                             uint16_t a, uint16_t b, uint16_t c, uint8_t *list, size_t list_len);
 
-/* The parts of an answer. */
+/*
+ * Savings: how much a rule takes out less how much it puts in, a signed number. l(ab) is the length of a-b in the table, l(aa) is 0. A
+ * rule shuts a case out exactly when its saving is above 0: at 0, a tie, it does not.
+ *
+ * The three functions refuse in this order: 1, 2, 5; 11, if an edge taken out is none: an end is outside 1 to n, or both are the same.
+ * Nothing else is tested. Edges may touch. Whether an edge or a pair lies in some K is the caller's matter.
+ * Answer, with a sign: the refusal number alone, or 65,536 * the saving, below 0 too. A saving of 0 is answered by 0: look at
+ * revosti_refusal first, then at revosti_saving. They read the table alone and change nothing.
+ */
+
+/*
+ * The saving of exchanging p-q and x-y (2-opt): their sum less the larger of the two exchanges,
+ *
+ *   l(pq) + l(xy) - max(l(px) + l(qy), l(py) + l(qx)).
+ *
+ * The edges taken out are p-q and x-y. It is above 0 exactly when the two edges are not compatible: no shortest tour has both.
+ */
+int64_t revosti_exchange_saving(uint32_t n, const uint8_t *table, size_t table_len, uint16_t p, uint16_t q, uint16_t x, uint16_t y);
+
+/*
+ * The saving of moving the point c from between x and y to between u and v (or-opt): old less new,
+ *
+ *   (l(uv) + l(xc) + l(yc)) - (l(xy) + l(uc) + l(vc)).
+ *
+ * The edges taken out are x-c, y-c and u-v. For an edge u-v of K that does not touch c, it is above 0 exactly when condition 5 shuts the
+ * pair x, y out at the split point c.
+ */
+int64_t revosti_move_saving(uint32_t n, const uint8_t *table, size_t table_len, uint16_t c, uint16_t x, uint16_t y, uint16_t u, uint16_t v);
+
+/*
+ * The saving of the crossing of p-q with the centres r and s (3-opt), x and y the other ends of r, z and w those of s. That of one labelling
+ * is the smaller of its two moves,
+ *
+ *   l(pq) + l(rx) + l(sw) - l(rs) - l(px) - l(qw)    and    l(pq) + l(ry) + l(sz) - l(rs) - l(pz) - l(qy),
+ *
+ * and that of the crossing is the largest of the four labellings: x and y swapped or not, z and w swapped or not. The edges taken out are
+ * p-q, r-x, s-w, r-y and s-z. For a crossing that is not refused by 15, it is above 0 exactly when the crossing settles its case; else
+ * that is refused by 16.
+ */
+int64_t revosti_crossing_saving(uint32_t n, const uint8_t *table, size_t table_len, uint16_t p, uint16_t q, uint16_t r, uint16_t s,
+                                uint16_t x, uint16_t y, uint16_t z, uint16_t w);
+
+/*
+ * The parts of an answer. revosti_refusal takes that of a saving, too: made a uint64_t it keeps its lowest byte, which is 0 where the
+ * saving is below 0. revosti_saving is exact, since such an answer is a multiple of 65,536; of a refusal it is 0.
+ */
 static inline unsigned revosti_refusal(uint64_t answer) { return (unsigned)(answer & 0xff); }
 static inline unsigned revosti_record(uint64_t answer) { return (unsigned)(answer >> 8 & 0xffff); }
 static inline unsigned revosti_lines(uint64_t answer) { return (unsigned)(answer >> 24 & 0xffff); }
 static inline size_t revosti_pairs(uint64_t answer) { return (size_t)(answer >> 16); }
 static inline uint64_t revosti_tour_length(uint64_t answer) { return answer >> 16; }
 static inline int revosti_tour_open(uint64_t answer) { return (int)(answer >> 8 & 1); }
+static inline int64_t revosti_saving(int64_t answer) { return answer / 65536; }
 
 /* How many edges n points have, and the place of the edge a-b (a and b different, in either order). */
 static inline size_t revosti_edges(uint32_t n) { return (size_t)n * (n - 1) / 2; }
