@@ -1,4 +1,5 @@
-"""The inline functions for packed sets in include/revosti.h, compiled as C99 and as C++, against sets made by another way."""
+"""The inline functions for packed sets in include/revosti.h, compiled as C99 and as C++, against sets made by another way; and those for
+the answer of a saving."""
 
 import ctypes
 import shutil
@@ -20,8 +21,12 @@ extern "C" {
 #endif
 size_t size(uint32_t n);
 unsigned mark(uint32_t n, const uint8_t *marks, uint32_t a, uint32_t b);
+int64_t saving(int64_t answer);
+unsigned refusal(int64_t answer);
 size_t size(uint32_t n) { return revosti_marks_size(n); }
 unsigned mark(uint32_t n, const uint8_t *marks, uint32_t a, uint32_t b) { return revosti_mark_of(n, marks, a, b); }
+int64_t saving(int64_t answer) { return revosti_saving(answer); }
+unsigned refusal(int64_t answer) { return revosti_refusal((uint64_t)answer); }
 #ifdef __cplusplus
 }
 #endif
@@ -36,6 +41,8 @@ def compiled(folder, *words):
     subprocess.run([*words, first, second, *STRICT, "-I", ROOT / "include", "-o", out], check=True)
     functions = ctypes.CDLL(str(out))
     functions.size.restype = ctypes.c_size_t
+    functions.saving.restype = ctypes.c_int64
+    functions.saving.argtypes = functions.refusal.argtypes = (ctypes.c_int64,)
     return functions
 
 
@@ -58,6 +65,17 @@ class Inline:
             for edge in every:
                 data = bytes(packed([2 if other == edge else 1 for other in every]))
                 self.assertEqual([other for other in every if self.functions.mark(n, data, *other) == 2], [edge])
+
+    def test_answers_of_a_saving(self):
+        for saving in (0, 1, -1, 8, -8, 255, -255, -256, 65535, -65535, 65536, -65536, 6_000_000, -6_000_000):
+            answer = 65536 * saving
+            self.assertEqual((self.functions.refusal(answer), self.functions.saving(answer)), (0, saving))
+        for number in (1, 2, 5, 11):
+            self.assertEqual((self.functions.refusal(number), self.functions.saving(number)), (number, 0))
+
+    def test_refusal_of_other_answers(self):
+        for answer, number in ((21, 21), (18, 18), (16 + 256 * 3, 16), (14 + 256 * 4000 + 16_777_216 * 7, 14), (65536 * 40 + 256, 0)):
+            self.assertEqual(self.functions.refusal(answer), number)
 
 
 class Compiled(unittest.TestCase):

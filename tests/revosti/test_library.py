@@ -1,6 +1,7 @@
 """The shared object: when it is made, from what, and what is told. Stand-ins for rt and gcc write files that say what they are of."""
 
 import contextlib
+import inspect
 import io
 import os
 import re
@@ -145,12 +146,12 @@ class Load(unittest.TestCase):
             return library.library.__wrapped__()
 
     def test_answers_of_64_bits(self):
-        names = list(library.ARGUMENTS)
+        names = [*library.ARGUMENTS, *library.SAVINGS]
         loaded = self.load("".join(f"unsigned long {name}() {{ return -{place}ul; }}\n" for place, name in enumerate(names, 1)))
         for place, name in enumerate(names, 1):
             function = getattr(loaded, name)
             nothing = [None if form is library.BUFFER[0] else 0 for form in function.argtypes]
-            self.assertEqual(function(*nothing), 2**64 - place)
+            self.assertEqual(function(*nothing), -place if name in library.SAVINGS else 2**64 - place, name)
 
     def test_a_function_is_missing(self):
         with self.assertRaisesRegex(NoLibrary, "cannot load .*librevosti.so: .*undefined symbol: revosti_fresh_marks"):
@@ -168,8 +169,16 @@ class Header(unittest.TestCase):
         return self.FORMS["*" if "*" in argument else argument.split()[0]]
 
     def test_arguments(self):
-        declared = dict(re.findall(r"^uint64_t (revosti_\w+)\(([^)]*)\);", self.TEXT, re.M))
-        self.assertEqual({name: tuple(map(self.form, words.split(","))) for name, words in declared.items()}, library.ARGUMENTS)
+        for answer, wanted in (("uint64_t", library.ARGUMENTS), ("int64_t", library.SAVINGS)):
+            declared = dict(re.findall(rf"^{answer} (revosti_\w+)\(([^)]*)\);", self.TEXT, re.M))
+            self.assertEqual({name: tuple(map(self.form, words.split(","))) for name, words in declared.items()}, wanted)
+
+    def test_points_of_a_saving(self):
+        for name in library.SAVINGS:
+            function = getattr(revosti, name.removeprefix("revosti_"))
+            words = re.search(rf"^int64_t {name}\(([^)]*)\);", self.TEXT, re.M)[1]
+            given = [word.split()[-1].lstrip("*") for word in words.split(",")]
+            self.assertEqual([word for word in given if word != "table_len"], list(inspect.signature(function).parameters))
 
     def test_numbers(self):
         groups = [{name: int(number) for name, number in re.findall(r"REVOSTI_(\w+) = (\d+)", group)}

@@ -19,6 +19,8 @@ from sheetlib.read import pack
 
 HAND_IN = (revosti.mark_sheet, revosti.ask_sheet)
 SETTLE = (revosti.confirm, revosti.withdraw)
+SAVINGS = ((revosti.exchange_saving, (1, 3, 2, 4)), (revosti.move_saving, (3, 1, 4, 1, 2)),
+           (revosti.crossing_saving, (1, 3, 2, 4, 1, 3, 3, 1)))
 
 
 def verdict(call, *arguments):
@@ -332,6 +334,8 @@ class Refusals(Operations):
                 (3, "The rule is outside 1 to 5.", lambda: revosti.measure(N, 9, POINTS)),
                 (6, "The packed set has not n(n − 1)/8 bytes, rounded up, or has a mark of 3 or an unused bit set; in a conversion also, "
                     "the byte set has not n(n − 1)/2 bytes or has a byte above 2.", lambda: revosti.confirm(N, packed([3] * 6))),
+                (11, "A point is outside 1 to n, or a = b; for a saving also, both ends of an edge taken out are the same.",
+                 lambda: revosti.exchange_saving(N, TABLE, 1, 3, 2, 2)),
                 (12, "The edge is struck already.", lambda: revosti.list_pairs(N, TABLE, bytes(2), 1, 2, 3)),
                 (20, "Something is pending: confirm or withdraw it first.",
                  lambda: revosti.mark_sheet(N, TABLE, packed([2] * 6), LINES)),
@@ -370,7 +374,8 @@ class Numbers(unittest.TestCase):
                                  (revosti.ask_sheet, (N, 32), (TABLE, 32), (marks, 8), (LINES, 16)),
                                  (revosti.confirm, (N, 32), (marks, 8)), (revosti.withdraw, (N, 32), (marks, 8)),
                                  (revosti.list_pairs, (N, 32), (TABLE, 32), (marks, 8), (1, 16), (2, 16), (3, 16)),
-                                 (revosti.check_tour, (N, 32), (TABLE, 32), (marks, 8), ([1, 2, 3, 4], 16))):
+                                 (revosti.check_tour, (N, 32), (TABLE, 32), (marks, 8), ([1, 2, 3, 4], 16)),
+                                 *((call, (N, 32), (TABLE, 32), *((point, 16) for point in points)) for call, points in SAVINGS)):
             plain = [argument for argument, _ in arguments]
             for at, (argument, bits) in enumerate(arguments):
                 for wrong in cut_to(argument, bits):

@@ -1,4 +1,5 @@
-"""The examples in docs/FORMATS.md, sets of marks among them, and the distances in docs/RULES.md are true, and both have each refusal."""
+"""The examples in docs/FORMATS.md, sets of marks among them, and the distances and savings in docs/RULES.md are true, and both have each
+refusal."""
 
 import re
 import unittest
@@ -94,6 +95,18 @@ class Distances(unittest.TestCase):
         self.assertEqual({int(row[0]): row[1] for row in self.rules}, RULES)
         for rule, row in enumerate(self.rules, 1):
             self.assertEqual(numbers(*row[3:]), [length_of(rule, (0, 0), d) for d in self.differences], row)
+
+
+class Savings(unittest.TestCase):
+    """The numbers of the examples in RULES.md."""
+
+    def test_differences(self):
+        section = RULES_PAGE.partition("## Savings")[2].partition("\n## ")[0]
+        found = [tuple(int(number.replace("−", "-")) for number in row) for row in re.findall(r"(\d+)\s−\s(\d+)\s=\s(−?\d+)", section)]
+        self.assertEqual(found, [(28, 20, 8), (20, 28, -8), (34, 34, 0), (30, 27, 3), (30, 30, 0), (30, 32, -2)])
+
+    def test_answers(self):
+        self.assertIn(f"exchanging 1-3 and 2-4: {8 * 65536:,}; 1-2 and 3-4: −{8 * 65536:,} |", RULES_PAGE)
 
 
 class Refusals(unittest.TestCase):

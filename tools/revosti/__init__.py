@@ -8,6 +8,8 @@ confirm      strikes what is pending
 withdraw     opens it again
 list_pairs   the standing pairs of a split
 check_tour   a tour's length, and whether its edges are open
+exchange_saving, move_saving, crossing_saving
+             how much a rule saves, below 0 too: it shuts a case out exactly when that is above 0
 pack_marks   a byte set to a packed set
 unpack_marks a packed set to a byte set
 
@@ -24,10 +26,11 @@ The first call makes the library where it is missing, or raises NoLibrary.
 """
 
 from .library import NoLibrary
-from .operations import (LEAST_POINTS, MOST_POINTS, OPEN, PENDING, STRUCK, Tour, ask_sheet, check_tour, confirm, fresh_marks, list_pairs,
-                         mark_of, mark_sheet, marks_size, measure, pack_marks, place, unpack_marks, withdraw)
+from .operations import (LEAST_POINTS, MOST_POINTS, OPEN, PENDING, STRUCK, Tour, ask_sheet, check_tour, confirm, crossing_saving,
+                         exchange_saving, fresh_marks, list_pairs, mark_of, mark_sheet, marks_size, measure, move_saving, pack_marks, place,
+                         unpack_marks, withdraw)
 from .refusal import Refusal, meaning
 
 __all__ = ["LEAST_POINTS", "MOST_POINTS", "NoLibrary", "OPEN", "PENDING", "Refusal", "STRUCK", "Tour", "ask_sheet", "check_tour", "confirm",
-           "fresh_marks", "list_pairs", "mark_of", "mark_sheet", "marks_size", "meaning", "measure", "pack_marks", "place", "unpack_marks",
-           "withdraw"]
+           "crossing_saving", "exchange_saving", "fresh_marks", "list_pairs", "mark_of", "mark_sheet", "marks_size", "meaning", "measure",
+           "move_saving", "pack_marks", "place", "unpack_marks", "withdraw"]

@@ -27,6 +27,11 @@ ARGUMENTS = {
     "revosti_list_pairs": (WORD, *BUFFER, *BUFFER, HALF, HALF, HALF, *BUFFER),
     "revosti_check_tour": (WORD, *BUFFER, *BUFFER, *BUFFER),
 }
+SAVINGS = {  # their answers have a sign
+    "revosti_exchange_saving": (WORD, *BUFFER, *[HALF] * 4),
+    "revosti_move_saving": (WORD, *BUFFER, *[HALF] * 5),
+    "revosti_crossing_saving": (WORD, *BUFFER, *[HALF] * 8),
+}
 
 
 class NoLibrary(Exception):
@@ -39,12 +44,18 @@ def library():
     path = make(ROOT)
     try:
         loaded = ctypes.CDLL(str(path))
-        for name, arguments in ARGUMENTS.items():
-            function = getattr(loaded, name)
-            function.argtypes, function.restype = arguments, ctypes.c_uint64
+        declare(loaded, ARGUMENTS, ctypes.c_uint64)
+        declare(loaded, SAVINGS, ctypes.c_int64)
     except (OSError, AttributeError) as error:
         raise NoLibrary(f"cannot load {path}: {error}") from error
     return loaded
+
+
+def declare(loaded, functions, answer):
+    """Says what these functions take, and how they answer."""
+    for name, arguments in functions.items():
+        function = getattr(loaded, name)
+        function.argtypes, function.restype = arguments, answer
 
 
 def make(root):

@@ -87,6 +87,22 @@ def check_tour(n, table, marks, tour):
     return Tour(answer >> 16, bool(answer >> 8 & 1))
 
 
+def exchange_saving(n, table, p, q, x, y):
+    """What exchanging the edges pq and xy saves. It is above 0 exactly when they are not compatible."""
+    return saving(library().revosti_exchange_saving, n, table, p, q, x, y)
+
+
+def move_saving(n, table, c, x, y, u, v):
+    """What moving the point c from between x and y to between u and v saves. It is above 0 exactly when condition 5 fails for uv."""
+    return saving(library().revosti_move_saving, n, table, c, x, y, u, v)
+
+
+def crossing_saving(n, table, p, q, r, s, x, y, z, w):
+    """What the crossing of pq with the centres r and s saves, by its best labelling; x and y are the other ends of r, z and w those of s.
+    It is above 0 exactly when the crossing settles its case."""
+    return saving(library().revosti_crossing_saving, n, table, p, q, r, s, x, y, z, w)
+
+
 def place(n, a, b):
     """The place of the edge ab, in either order, in edge order (01, Points, lengths, marks)."""
     a, b = min(a, b), max(a, b)
@@ -110,6 +126,13 @@ def hand_in(function, n, table, marks, sheet):
     lines = answer >> 24
     refuse(answer, record=answer >> 8 & 0xffff, lines=lines)
     return lines
+
+
+def saving(function, n, table, *points):
+    """The saving that a function answers for these points."""
+    answer = function(fit(WORD, n), *lend(array(WORD, table)), *(fit(HALF, point) for point in points))
+    refuse(answer)
+    return answer >> 16  # exact below 0, too
 
 
 def edges(n):

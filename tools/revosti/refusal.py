@@ -13,7 +13,7 @@ REFUSALS = {
     8: "An index of the record is above the record count.",
     9: "An index of the record is not above the highest record entered.",
     10: "The record has the wrong kind for its chain, or u or v is not 0 in kinds 1 and 2.",
-    11: "A point is outside 1 to n, or a = b.",
+    11: "A point is outside 1 to n, or a = b; for a saving also, both ends of an edge taken out are the same.",
     12: "The edge is struck already.",
     13: "The case opens a seventh split; at most six splits lie one inside another.",
     14: "The pair is not the next standing one, or the chain ends with standing pairs left.",

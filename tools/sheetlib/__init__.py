@@ -9,6 +9,7 @@ answer   running `mark` and reading its lines
 marks    the marks of a board, and sets of marks taken apart
 archive  packed sets in files: handing in over one, settling, the two conversions
 board    lengths, K and standing pairs
+saving   what a rule takes out and puts in, in words
 words    numbers in sentences
 fault    what a file itself shows about its refusal
 explain  the verdict in words

@@ -11,8 +11,9 @@ from .archive import bytes_of, hand_in, packed_of, settle, start
 from .draw import BadTour, draw, read_tour
 from .explain import explain, kept
 from .marks import BadMarks, marks_left, packed_points, read_marks, show
-from .parts import join, split
+from .parts import MAX_16, join, split
 from .read import Sheet, pack
+from .saving import SAVINGS, tell
 from .scan import BadText
 from .write import unpack
 
@@ -51,9 +52,10 @@ def complain(message, status):
 def parser():
     """All commands and their options."""
     top = argparse.ArgumentParser(
-        prog="sheet", description="Write, read, explain, draw and hand in strike sheets; show and convert sets of marks.")
+        prog="sheet", description="Write, read, explain, draw and hand in strike sheets; tell savings; show and convert sets of marks.")
     commands = top.add_subparsers(required=True, metavar="COMMAND")
     add_sheets(commands)
+    add_saving(commands)
     add_hand_in(commands)
     add_sets(commands)
     return top
@@ -71,6 +73,37 @@ def add_sheets(commands):
         command.add_argument("--form", choices=("text", "binary"), help="do not detect the form")
     command.add_argument("--marks", metavar="MARKS", help="draw the packed set in this file, not the marks that mark leaves")
     command.add_argument("--tour", metavar="1,2,3,..", help="a tour to draw, all points in order")
+
+
+def add_saving(commands):
+    """The command for a saving."""
+    command = add(commands, "saving", run_saving, "how much a rule saves on a board", files=False)
+    command.add_argument("file", metavar="BOARD", help="a sheet of either form, - for standard input; its records are not read")
+    command.add_argument("rule", choices=SAVINGS, help="exchange of two edges, move of a point, or crossing")
+    command.add_argument("points", metavar="POINT", nargs="+", type=point, action=Named,
+                         help="; ".join(f"{name}: {rule.points}" for name, rule in SAVINGS.items()))
+    command.add_argument("--form", choices=("text", "binary"), help="do not detect the form")
+
+
+class Named(argparse.Action):
+    """The points that a rule names, as many as it takes."""
+
+    def __call__(self, parser, options, points, _=None):
+        wanted = SAVINGS[options.rule].points
+        count = len(wanted.split())
+        if len(points) != count:
+            raise argparse.ArgumentError(self, f"{options.rule} takes {count} points, {wanted}, found {len(points)}")
+        options.points = points
+
+
+def point(text):
+    """A point on the command line. Whether the board has it is for the call to say."""
+    if not (text.isascii() and text.isdigit()):
+        raise argparse.ArgumentTypeError(f'expected a point, found "{text}"')
+    digits = text.lstrip("0") or "0"
+    if len(digits) > 5 or int(digits) > MAX_16:
+        raise argparse.ArgumentTypeError(f"expected a point from 0 to {MAX_16}, found {digits}")
+    return int(digits)
 
 
 def add_hand_in(commands):
@@ -174,6 +207,11 @@ def run_draw(options):
         marks = read_marks(Path(options.marks).read_bytes(), parts.n)
     tour = read_tour(options.tour, parts.n) if options.tour is not None else []
     write(options, draw(parts, marks, tour).encode("utf-8"))
+
+
+def run_saving(options):
+    """sheet saving"""
+    say(options, tell(load(options).parts, options.rule, options.points))
 
 
 def run_fresh(options):

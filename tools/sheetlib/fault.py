@@ -1,7 +1,7 @@
 """What a file itself shows about its refusal. A sentence, or None where the
 file does not settle it: nothing here is a guess."""
 
-from revosti import LEAST_POINTS, MOST_POINTS
+from revosti import LEAST_POINTS, MOST_POINTS, NoLibrary, Refusal, crossing_saving, measure
 
 from .board import Board, RULES, degree, edge
 from .nest import holds_split, nest
@@ -15,7 +15,7 @@ def detail(parts, answer):
     if not 1 <= answer.record <= len(parts.records):
         return None
     find = {8: above_count, 9: not_rising, 10: wrong_shape, 11: wrong_points,
-            12: struck_before, 14: due_pair, 15: broken_conditions}.get(answer.refusal)
+            12: struck_before, 14: due_pair, 15: broken_conditions, 16: best_saving}.get(answer.refusal)
     return find(Sight(parts, answer)) if find else None
 
 
@@ -212,12 +212,44 @@ def due(pair):
 
 def broken_conditions(sight):
     """Refusal 15: the conditions that are broken."""
-    record = sight.record
-    if sight.place is None or record.kind != CROSSING or not sight.place.shaped:
+    k = crossed(sight)
+    wrong = broken(sight.record, k) if k else []
+    return f"Here {'; '.join(wrong)}." if wrong else None
+
+
+def best_saving(sight):
+    """Refusal 16: what the best labelling saves."""
+    saving = saving_of(sight)
+    return None if saving is None or saving > 0 else f"Its best labelling saves {saving}."
+
+
+def saving_of(sight):
+    """What a crossing saves, or None: it breaks a condition, the board is refused, or the library cannot be made."""
+    k = crossed(sight)
+    if not k or broken(sight.record, k):
         return None
-    k = sight.edges(sight.number)
-    if k is None:
+    (_, _, _, u, v, c, d, _), board = sight.record, sight.board
+    try:
+        table = measure(board.n, board.rule, board.points)
+        return crossing_saving(board.n, table, u, v, c, d, *ends(k, c), *ends(k, d))
+    except (NoLibrary, Refusal):
         return None
+
+
+def crossed(sight):
+    """K at a crossing, its own pair in it, or None."""
+    if sight.place is None or sight.record.kind != CROSSING or not sight.place.shaped:
+        return None
+    return sight.edges(sight.number)
+
+
+def ends(k, point):
+    """The other ends of the edges of K at a point."""
+    return [a if b == point else b for a, b in k if point in (a, b)]
+
+
+def broken(record, k):
+    """The conditions of a crossing that are broken."""
     _, _, _, u, v, c, d, _ = record
     tests = [
         (edge(u, v) not in k, f"{u}-{v} is not in K"),
@@ -228,5 +260,4 @@ def broken_conditions(sight):
         (degree(k, d) != 2, f"centre {d} has {degree(k, d)} edges in K"),
         (edge(c, d) in k, f"{c}-{d} is in K"),
     ]
-    broken = list(dict.fromkeys(text for wrong, text in tests if wrong))
-    return f"Here {'; '.join(broken)}." if broken else None
+    return list(dict.fromkeys(text for wrong, text in tests if wrong))
