@@ -2,7 +2,7 @@
 
 use crate::marking::{self, Marked};
 use crate::refusal::Refusal;
-use crate::{lengths, listing, marks, packed, tour};
+use crate::{lengths, listing, marks, packed, saving, tour};
 
 /// 32-bit entries; a length that is no whole number of entries becomes a wrong size.
 pub fn entries(bytes: &[u8]) -> Vec<u32> {
@@ -94,4 +94,24 @@ pub fn withdraw(n: u32, marks: &mut [u8]) -> u64 {
 pub fn check_tour(n: u32, table: &[u8], marks: &[u8], tour: &[u8]) -> u64 {
     let checked = tour::check_tour(n, &entries(table), marks, &numbers(tour));
     number(checked.map(|answer| 65_536 * answer.length + 256 * u64::from(answer.all_open)))
+}
+
+/// A saving for C: the refusal number alone, or 65,536 × the saving.
+fn saving_number(answer: Result<i64, Refusal>) -> i64 {
+    answer.map_or_else(|refusal| i64::from(refusal.number()), |saving| 65_536 * saving)
+}
+
+/// The saving of an exchange for C.
+pub fn exchange_saving(n: u32, table: &[u8], pqxy: [u16; 4]) -> i64 {
+    saving_number(saving::exchange_saving(n, &entries(table), pqxy))
+}
+
+/// The saving of a move for C.
+pub fn move_saving(n: u32, table: &[u8], cxyuv: [u16; 5]) -> i64 {
+    saving_number(saving::move_saving(n, &entries(table), cxyuv))
+}
+
+/// The saving of a crossing for C.
+pub fn crossing_saving(n: u32, table: &[u8], pqrsxyzw: [u16; 8]) -> i64 {
+    saving_number(saving::crossing_saving(n, &entries(table), pqrsxyzw))
 }

@@ -4,6 +4,9 @@ use crate::edge_set::EdgeSet;
 use crate::lengths::Lengths;
 use crate::refusal::Refusal;
 
+/// The other ends of a centre's two edges.
+type Ends = (u16, u16);
+
 /// An edge pq and two centres.
 #[derive(Clone, Copy, Debug, PartialEq, Eq)]
 pub struct Crossing {
@@ -41,12 +44,29 @@ impl Crossing {
     }
 
     /// l(pq) + l(rx) + l(sw) > l(rs) + l(px) + l(qw), and
-    /// l(pq) + l(ry) + l(sz) > l(rs) + l(pz) + l(qy).
-    pub fn labelling_saves(&self, l: &Lengths, (x, y): (u16, u16), (z, w): (u16, u16)) -> bool {
+    /// l(pq) + l(ry) + l(sz) > l(rs) + l(pz) + l(qy). That is, `labelling_saving` is above 0; the second is often spared.
+    pub fn labelling_saves(&self, l: &Lengths, (x, y): Ends, (z, w): Ends) -> bool {
         let Crossing { p, q, r, s } = *self;
         let (pq, rs) = (l.between(p, q), l.between(r, s));
         pq + l.between(r, x) + l.between(s, w) > rs + l.between(p, x) + l.between(q, w)
             && pq + l.between(r, y) + l.between(s, z) > rs + l.between(p, z) + l.between(q, y)
+    }
+
+    /// Its saving (02, Paper 5): "of four labellings the best".
+    pub fn saving(&self, l: &Lengths, (x, y): Ends, (z, w): Ends) -> i64 {
+        let labelling = |xy, zw| self.labelling_saving(l, xy, zw);
+        let kept = labelling((x, y), (z, w)).max(labelling((x, y), (w, z)));
+        let swapped = labelling((y, x), (z, w)).max(labelling((y, x), (w, z)));
+        kept.max(swapped)
+    }
+
+    /// The smaller of l(pq) + l(rx) + l(sw) − l(rs) − l(px) − l(qw) and l(pq) + l(ry) + l(sz) − l(rs) − l(pz) − l(qy).
+    pub fn labelling_saving(&self, l: &Lengths, (x, y): Ends, (z, w): Ends) -> i64 {
+        let Crossing { p, q, r, s } = *self;
+        let both = l.between(p, q) - l.between(r, s);
+        let first = both + l.between(r, x) + l.between(s, w) - l.between(p, x) - l.between(q, w);
+        let second = both + l.between(r, y) + l.between(s, z) - l.between(p, z) - l.between(q, y);
+        i64::from(first.min(second))
     }
 
     /// Tests 15 and 16.

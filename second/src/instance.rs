@@ -24,9 +24,8 @@ impl Instance {
         }
     }
 
-    /// Tests 1, 2, 5 and 6, which marking, asking, listing and the tour check begin with. Answers n and whether a
-    /// mark is pending.
-    pub fn tests(n: u32, table: &[u32], marks: &[u8]) -> Result<(u16, bool), Refusal> {
+    /// Tests 1, 2 and 5, which the savings begin with. Answers n.
+    pub fn table_tests(n: u32, table: &[u32]) -> Result<u16, Refusal> {
         let n = Self::point_count(n)?;
         if table.len() != edge_count(n) {
             return Err(Refusal::TableSize);
@@ -34,6 +33,13 @@ impl Instance {
         if table.iter().fold(0, |most, &l| most.max(l)) > Self::MOST_LENGTH {
             return Err(Refusal::TableEntry);
         }
+        Ok(n)
+    }
+
+    /// Tests 1, 2, 5 and 6, which marking, asking, listing and the tour check begin with. Answers n and whether a
+    /// mark is pending.
+    pub fn tests(n: u32, table: &[u32], marks: &[u8]) -> Result<(u16, bool), Refusal> {
+        let n = Self::table_tests(n, table)?;
         Ok((n, some_pending(n, marks)?))
     }
 }

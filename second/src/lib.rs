@@ -16,5 +16,6 @@ pub mod packed;
 pub mod pairs;
 pub mod program;
 pub mod refusal;
+pub mod saving;
 pub mod sheet;
 pub mod tour;

@@ -60,28 +60,14 @@ fn standing_pairs() {
     assert!(pairs_on_square((1, 3), 2).is_empty());
 }
 
-/// Points p, q, r, s, x, y, z, w are 1 to 8.
 fn crossing_saves(rs: u32) -> bool {
     let [p, q, r, s, x, y, z, w] = [1, 2, 3, 4, 5, 6, 7, 8];
-    let mut table = vec![50; edge_count(8)];
-    let order = second::lengths::EdgeOrder::new(8);
-    let lengths = [
-        (10, vec![(p, q), (r, x), (r, y), (s, z), (s, w)]),
-        (9, vec![(p, x), (q, w), (p, z), (q, y)]),
-        (20, vec![(p, y), (q, x), (p, w), (q, z)]),
-        (rs, vec![(r, s)]),
-    ];
-    for (length, edges) in lengths {
-        for (a, b) in edges {
-            table[order.place(a, b)] = length;
-        }
-    }
     let mut known = EdgeSet::one(p, q);
     known.add_pair(r, (x, y));
     known.add_pair(s, (z, w));
     let crossing = Crossing { p, q, r, s };
     assert!(crossing.in_place(&known));
-    crossing.saves(&known, &Lengths::new(8, &table))
+    crossing.saves(&known, &Lengths::new(8, &crossing_board(rs)))
 }
 
 #[test]

@@ -103,6 +103,43 @@ fn packed_sets_are_demanded() {
     }
 }
 
+/// Before the first case no saving has been met.
+#[test]
+fn savings_are_demanded() {
+    let missing = Coverage::default().missing();
+    let demanded = |unmet: String| assert!(missing.contains(&unmet), "{unmet}");
+    for saving in ["exchange saving", "move saving", "crossing saving"] {
+        for sign in ["below 0", "of 0", "above 0"] {
+            demanded(format!("{saving}: different points with a saving {sign}"));
+            demanded(format!("{saving}: a rule held against a saving {sign}"));
+        }
+        [1, 2, 5, 11].iter().for_each(|number| demanded(format!("{saving}: {number}")));
+        for two in ["1 before 2", "1 before 5", "1 before 11", "2 before 5", "2 before 11", "5 before 11"] {
+            demanded(format!("{saving}: refused by {two}"));
+        }
+        for fault in
+            ["n outside 4 to 180", "a table too short by 1", "a table too long by 4", "an entry above 2,000,000"]
+        {
+            demanded(format!("{saving}: refused for {fault}"));
+        }
+    }
+    let points = [("exchange saving", "pqxy"), ("move saving", "cxyuv"), ("crossing saving", "pqrsxyzw")];
+    for (saving, point) in points.iter().flat_map(|&(saving, points)| points.chars().map(move |v| (saving, v))) {
+        demanded(format!("{saving}: refused for {point} = 0"));
+        demanded(format!("{saving}: refused for {point} = n + 1"));
+        demanded(format!("{saving}: refused for {point} above 256"));
+    }
+    let edges = [("exchange", "pq xy"), ("move", "cx cy uv"), ("crossing", "pq rx ry sz sw")];
+    let touching = [("exchange", "px py qx qy"), ("move", "xy xu cu"), ("crossing", "pr rs px qw pz qy xz")];
+    let told = |edge: &str| edge.chars().map(String::from).collect::<Vec<_>>().join(" = ");
+    for (saving, edges) in edges {
+        edges.split(' ').for_each(|edge| demanded(format!("{saving} saving: refused for {}", told(edge))));
+    }
+    for (saving, edges) in touching {
+        edges.split(' ').for_each(|edge| demanded(format!("{saving} saving: a saving with {}", told(edge))));
+    }
+}
+
 /// Sheets until the comparison finds the slip.
 fn found_after(slip: Slip) -> Option<u64> {
     let naive = Naive { slip: Some(slip) };
@@ -165,6 +202,18 @@ fn slips_of_both_are_found_by_the_laws_of_packed_sets() {
     for (slip, fault) in faults {
         let what = found_in_both(slip);
         assert!(what.contains(fault), "{slip:?}: {what}");
+    }
+}
+
+/// Paper 5's law: a saving above 0 shuts out.
+#[test]
+fn slips_of_both_are_found_by_the_rules_that_savings_tell() {
+    assert_eq!(found_in_both(Slip::SmallerExchange), "list pairs by savings");
+    assert_eq!(found_in_both(Slip::LargerMove), "crossing by its saving");
+    assert_eq!(found_in_both(Slip::FirstLabelling), "crossing by its saving");
+    for slip in [Slip::EndsTheSame, Slip::EdgesBeforeLengths] {
+        let what = found_in_both(slip);
+        assert!(what.ends_with(" saving, refused"), "{slip:?}: {what}");
     }
 }
 

@@ -23,6 +23,12 @@ pub trait Checker {
     fn check_tour(&self, n: u32, table: &[u8], marks: &[u8], tour: &[u8]) -> u64;
     /// The refusal number, or 65,536 × the number of pairs.
     fn list_pairs(&self, n: u32, table: &[u8], marks: &[u8], abc: [u16; 3], list: &mut [u8]) -> u64;
+    /// The refusal number alone, or 65,536 × the saving; p, q, x, y.
+    fn exchange_saving(&self, n: u32, table: &[u8], pqxy: [u16; 4]) -> i64;
+    /// The same; c, x, y, u, v.
+    fn move_saving(&self, n: u32, table: &[u8], cxyuv: [u16; 5]) -> i64;
+    /// The same; p, q, r, s, x, y, z, w.
+    fn crossing_saving(&self, n: u32, table: &[u8], pqrsxyzw: [u16; 8]) -> i64;
     /// What `mark` prints for a file.
     fn program(&self, file: &[u8]) -> Vec<u8>;
     /// Whether every program text is compared, or a sample only because each starts a process.
@@ -77,6 +83,18 @@ impl Checker for Second {
 
     fn list_pairs(&self, n: u32, table: &[u8], marks: &[u8], abc: [u16; 3], list: &mut [u8]) -> u64 {
         crate::bytes::list_pairs(n, table, marks, abc, list)
+    }
+
+    fn exchange_saving(&self, n: u32, table: &[u8], pqxy: [u16; 4]) -> i64 {
+        crate::bytes::exchange_saving(n, table, pqxy)
+    }
+
+    fn move_saving(&self, n: u32, table: &[u8], cxyuv: [u16; 5]) -> i64 {
+        crate::bytes::move_saving(n, table, cxyuv)
+    }
+
+    fn crossing_saving(&self, n: u32, table: &[u8], pqrsxyzw: [u16; 8]) -> i64 {
+        crate::bytes::crossing_saving(n, table, pqrsxyzw)
     }
 
     fn program(&self, file: &[u8]) -> Vec<u8> {

@@ -3,6 +3,7 @@
 use std::fmt;
 
 use super::rules_met::RulesMet;
+use super::savings_met::SavingsMet;
 use super::sets_met::SetsMet;
 use crate::sheet::Sheet;
 
@@ -18,6 +19,9 @@ pub enum Operation {
     Withdraw,
     ListPairs,
     CheckTour,
+    ExchangeSaving,
+    MoveSaving,
+    CrossingSaving,
     Program,
 }
 
@@ -35,11 +39,14 @@ const DEMANDS: [(Operation, &str, &[usize]); Operation::COUNT] = [
     (Withdraw, "withdraw", &[0, 1, 6, 21]),
     (ListPairs, "list pairs", &[0, 1, 2, 5, 6, 11, 12, 18]),
     (CheckTour, "check a tour", &[0, 1, 2, 5, 6, 17]),
+    (ExchangeSaving, "exchange saving", &[0, 1, 2, 5, 11]),
+    (MoveSaving, "move saving", &[0, 1, 2, 5, 11]),
+    (CrossingSaving, "crossing saving", &[0, 1, 2, 5, 11]),
     (Program, "program", &[0, 1, 3, 4, 7, 8, 9, 10, 11, 12, 13, 14, 15, 16]),
 ];
 
 impl Operation {
-    pub const COUNT: usize = 11;
+    pub const COUNT: usize = 14;
 
     pub fn name(self) -> &'static str {
         DEMANDS.iter().find(|demand| demand.0 == self).unwrap().1
@@ -188,6 +195,7 @@ pub struct Coverage {
     pub measure_rules: RulesMet,
     pub program_rules: RulesMet,
     pub sets: SetsMet,
+    pub savings: SavingsMet,
     /// Accepted lines by the number of splits one inside another, from 1.
     depths: [u64; Sheet::MOST_SPLITS + 1],
     /// Accepted lines by the size of the board.
@@ -206,6 +214,7 @@ impl Default for Coverage {
             measure_rules: RulesMet::default(),
             program_rules: RulesMet::default(),
             sets: SetsMet::default(),
+            savings: SavingsMet::default(),
             depths: [0; Sheet::MOST_SPLITS + 1],
             sizes: [0; SIZES.len()],
         }
@@ -239,6 +248,7 @@ impl Coverage {
         missing.extend(self.measure_rules.missing().iter().map(|unmet| format!("measure: {unmet}")));
         missing.extend(self.program_rules.missing().iter().map(|unmet| format!("program: {unmet}")));
         missing.extend(self.sets.missing());
+        missing.extend(self.savings.missing());
         let unmet = (1..=Sheet::MOST_SPLITS).filter(|&depth| self.depths[depth] == 0);
         missing.extend(unmet.map(|depth| format!("accepted line at depth {depth}")));
         let unmet = SIZES.iter().zip(self.sizes).filter(|&(_, lines)| lines == 0);
@@ -252,7 +262,7 @@ impl fmt::Display for Coverage {
     fn fmt(&self, f: &mut fmt::Formatter) -> fmt::Result {
         write!(f, "{:>8}", "number")?;
         for (_, name, _) in DEMANDS {
-            write!(f, "{name:>14}")?;
+            write!(f, "{name:>16}")?;
         }
         writeln!(f)?;
         for number in 0..NUMBERS {
@@ -260,7 +270,7 @@ impl fmt::Display for Coverage {
             for (operation, _, numbers) in DEMANDS {
                 let times = self.numbers[operation as usize][number];
                 let cell = if times == 0 && !numbers.contains(&number) { "-".to_string() } else { times.to_string() };
-                write!(f, "{cell:>14}")?;
+                write!(f, "{cell:>16}")?;
             }
             writeln!(f)?;
         }
@@ -268,6 +278,7 @@ impl fmt::Display for Coverage {
             writeln!(f, "{name}: {}", self.events[event as usize])?;
         }
         writeln!(f, "measure: {}\nprogram: {}\n{}", self.measure_rules, self.program_rules, self.sets)?;
+        write!(f, "{}", self.savings)?;
         write!(f, "accepted lines by depth:")?;
         for depth in 1..=Sheet::MOST_SPLITS {
             write!(f, " {depth}: {}", self.depths[depth])?;

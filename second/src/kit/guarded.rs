@@ -67,6 +67,18 @@ impl<C: Checker> Checker for Guarded<C> {
         lend(list, |list| self.0.list_pairs(n, table, marks, abc, list))
     }
 
+    fn exchange_saving(&self, n: u32, table: &[u8], pqxy: [u16; 4]) -> i64 {
+        self.0.exchange_saving(n, table, pqxy)
+    }
+
+    fn move_saving(&self, n: u32, table: &[u8], cxyuv: [u16; 5]) -> i64 {
+        self.0.move_saving(n, table, cxyuv)
+    }
+
+    fn crossing_saving(&self, n: u32, table: &[u8], pqrsxyzw: [u16; 8]) -> i64 {
+        self.0.crossing_saving(n, table, pqrsxyzw)
+    }
+
     fn program(&self, file: &[u8]) -> Vec<u8> {
         self.0.program(file)
     }

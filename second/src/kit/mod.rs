@@ -14,6 +14,8 @@ pub mod naive;
 pub mod revosti;
 pub mod rng;
 pub mod rules_met;
+pub mod savings;
+pub mod savings_met;
 pub mod search;
 pub mod set_faults;
 pub mod sets;

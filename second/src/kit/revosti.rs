@@ -59,6 +59,21 @@ extern "C" {
         list: *mut u8,
         list_len: usize,
     ) -> u64;
+    fn revosti_exchange_saving(n: u32, table: *const u8, table_len: usize, p: u16, q: u16, x: u16, y: u16) -> i64;
+    fn revosti_move_saving(n: u32, table: *const u8, table_len: usize, c: u16, x: u16, y: u16, u: u16, v: u16) -> i64;
+    fn revosti_crossing_saving(
+        n: u32,
+        table: *const u8,
+        table_len: usize,
+        p: u16,
+        q: u16,
+        r: u16,
+        s: u16,
+        x: u16,
+        y: u16,
+        z: u16,
+        w: u16,
+    ) -> i64;
 }
 
 /// Revosti; `mark` is the program's path.
@@ -139,6 +154,18 @@ impl Checker for Revosti {
                 list.len(),
             )
         }
+    }
+
+    fn exchange_saving(&self, n: u32, table: &[u8], [p, q, x, y]: [u16; 4]) -> i64 {
+        unsafe { revosti_exchange_saving(n, table.as_ptr(), table.len(), p, q, x, y) }
+    }
+
+    fn move_saving(&self, n: u32, table: &[u8], [c, x, y, u, v]: [u16; 5]) -> i64 {
+        unsafe { revosti_move_saving(n, table.as_ptr(), table.len(), c, x, y, u, v) }
+    }
+
+    fn crossing_saving(&self, n: u32, table: &[u8], [p, q, r, s, x, y, z, w]: [u16; 8]) -> i64 {
+        unsafe { revosti_crossing_saving(n, table.as_ptr(), table.len(), p, q, r, s, x, y, z, w) }
     }
 
     /// Runs the program. It may stop reading early, so a broken pipe is no failure.

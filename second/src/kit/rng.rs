@@ -45,6 +45,14 @@ impl Rng {
         self.between(1, usize::from(n)) as u16
     }
 
+    /// So many different points of 1 to n.
+    pub fn points(&mut self, n: u16, count: usize) -> Vec<u16> {
+        let mut points: Vec<u16> = (1..=n).collect();
+        self.shuffle(&mut points);
+        points.truncate(count);
+        points
+    }
+
     pub fn shuffle<T>(&mut self, items: &mut [T]) {
         for i in (1..items.len()).rev() {
             items.swap(i, self.below(i + 1));

@@ -75,7 +75,7 @@ fn entry(rng: &mut Rng, table: &mut [u8]) {
 }
 
 /// One of the values at some whole entry.
-fn some_entry(rng: &mut Rng, bytes: &mut [u8], values: &[u32]) {
+pub fn some_entry(rng: &mut Rng, bytes: &mut [u8], values: &[u32]) {
     let value = rng.pick(values);
     if bytes.len() >= 4 {
         put(bytes, 4 * rng.below(bytes.len() / 4), value);

@@ -200,9 +200,7 @@ fn listing(n: usize) -> Workload {
 
 /// An edge and a point off it.
 fn some_split(rng: &mut Rng, n: u16) -> [u16; 3] {
-    let mut points: Vec<u16> = (1..=n).collect();
-    rng.shuffle(&mut points);
-    [points[0], points[1], points[2]]
+    rng.points(n, 3).try_into().unwrap()
 }
 
 fn measuring(name: &str, rule: u32) -> Workload {

@@ -1,7 +1,7 @@
 //! Small inputs that several tests use.
 #![allow(dead_code)]
 
-use second::lengths::measure;
+use second::lengths::{edge_count, measure, EdgeOrder};
 use second::marking::{mark_sheet, Marked};
 use second::marks::fresh_marks;
 use second::packed::packed_size;
@@ -14,6 +14,23 @@ pub const SQUARE: [u32; 8] = [0, 0, 10, 0, 10, 10, 0, 10];
 pub fn square() -> Vec<u32> {
     let mut table = vec![0; 6];
     measure(4, 1, &SQUARE, &mut table).unwrap();
+    table
+}
+
+/// 01's crossing: p, q, r, s, x, y, z, w are 1 to 8; every length that it does not tell is 50.
+pub fn crossing_board(rs: u32) -> Vec<u32> {
+    let [p, q, r, s, x, y, z, w] = [1, 2, 3, 4, 5, 6, 7, 8];
+    let mut table = vec![50; edge_count(8)];
+    let order = EdgeOrder::new(8);
+    let lengths = [
+        (10, vec![(p, q), (r, x), (r, y), (s, z), (s, w)]),
+        (9, vec![(p, x), (q, w), (p, z), (q, y)]),
+        (20, vec![(p, y), (q, x), (p, w), (q, z)]),
+        (rs, vec![(r, s)]),
+    ];
+    for (length, edges) in lengths {
+        edges.into_iter().for_each(|(a, b)| table[order.place(a, b)] = length);
+    }
     table
 }
 

@@ -3,6 +3,7 @@
 mod looks;
 mod packing;
 mod readings;
+mod savings;
 mod steps;
 
 use std::fmt::{self, Debug, Write};
@@ -28,7 +29,7 @@ type Checked = Result<(), Difference>;
 pub struct Comparison<'a> {
     one: &'a dyn Checker,
     other: &'a dyn Checker,
-    /// A third program, for packed sets: it reads them into byte sets.
+    /// A third program, for savings and for packed sets, which it reads into byte sets.
     naive: &'a dyn Checker,
     seed: u64,
     case: u64,
@@ -64,7 +65,7 @@ impl<'a> Comparison<'a> {
         Ok(())
     }
 
-    /// One instance with its sheets, listings, tours and files.
+    /// One instance with its sheets, listings, tours, files and savings.
     pub fn run_case(&mut self, case: u64) -> Checked {
         self.case = case;
         let mut rng = Rng::new(self.seed, case);
@@ -77,7 +78,7 @@ impl<'a> Comparison<'a> {
         for _ in 0..2 {
             self.round(&mut rng, &mut run)?;
         }
-        Ok(())
+        self.savings(&mut rng, &run.board)
     }
 
     /// Damaged sheets on copies of the marks; noise, lines for edges that are kept and the valid sheet on the marks

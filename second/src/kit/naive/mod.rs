@@ -6,6 +6,7 @@
 
 mod reader;
 mod rules;
+mod savings;
 mod sets;
 mod slip;
 
@@ -41,21 +42,32 @@ fn edge_count(n: u32) -> Result<usize, u64> {
     Ok(n as usize * (n as usize - 1) / 2)
 }
 
-/// Tests 1, 2, 5, 6; the byte set if all pass.
-fn first_tests(slip: Option<Slip>, n: u32, table: &[u32], table_whole: bool, marks: &[u8]) -> Result<Vec<u8>, u64> {
+/// Tests 1, 2, 5; the number of edges if all pass.
+fn table_tests(slip: Option<Slip>, n: u32, table: &[u32], table_whole: bool) -> Result<usize, u64> {
     let edges = edge_count(n)?;
     if !table_whole || table.len() != edges {
         Err(2)
     } else if table.iter().any(|&l| u64::from(l) > limit(2_000_000, slip, Slip::LengthLimit)) {
         Err(5)
     } else {
-        byte_set(slip, edges, marks)
+        Ok(edges)
     }
+}
+
+/// Tests 1, 2, 5, 6; the byte set if all pass.
+fn first_tests(slip: Option<Slip>, n: u32, table: &[u32], table_whole: bool, marks: &[u8]) -> Result<Vec<u8>, u64> {
+    let edges = table_tests(slip, n, table, table_whole)?;
+    byte_set(slip, edges, marks)
 }
 
 /// The refusal number, or the answer.
 fn number(answer: Result<u64, u64>) -> u64 {
     answer.unwrap_or_else(|refusal| refusal)
+}
+
+/// The same for a saving.
+fn saved(answer: Result<i64, u64>) -> i64 {
+    answer.unwrap_or_else(|refusal| refusal as i64)
 }
 
 fn table_of(bytes: &[u8]) -> (Vec<u32>, bool) {
@@ -315,6 +327,18 @@ impl Checker for Naive {
 
     fn list_pairs(&self, n: u32, table: &[u8], marks: &[u8], abc: [u16; 3], list: &mut [u8]) -> u64 {
         number(self.list(n, table, marks, abc, list))
+    }
+
+    fn exchange_saving(&self, n: u32, table: &[u8], pqxy: [u16; 4]) -> i64 {
+        saved(self.exchange(n, table, pqxy))
+    }
+
+    fn move_saving(&self, n: u32, table: &[u8], cxyuv: [u16; 5]) -> i64 {
+        saved(self.moved(n, table, cxyuv))
+    }
+
+    fn crossing_saving(&self, n: u32, table: &[u8], pqrsxyzw: [u16; 8]) -> i64 {
+        saved(self.crossed(n, table, pqrsxyzw))
     }
 
     fn program(&self, file: &[u8]) -> Vec<u8> {

@@ -49,6 +49,11 @@ pub fn other_ends(k: &[Edge], v: usize) -> Vec<usize> {
     k.iter().filter(|e| e.0 == v || e.1 == v).map(|e| if e.0 == v { e.1 } else { e.0 }).collect()
 }
 
+/// "x, y swapped or not, z, w swapped or not."
+pub fn labellings((x, y): Edge, (z, w): Edge) -> [(Edge, Edge); 4] {
+    [((x, y), (z, w)), ((x, y), (w, z)), ((y, x), (z, w)), ((y, x), (w, z))]
+}
+
 /// Whether some cycle through `start` has fewer than `limit` edges; `path` begins with `start`.
 pub fn short_cycle_from(k: &[Edge], path: &mut Vec<usize>, limit: usize) -> bool {
     let (start, at) = (path[0], path[path.len() - 1]);
@@ -132,9 +137,15 @@ impl<'a> Board<'a> {
         self.edges.iter().filter(both_not_c).filter(|e| self.stands(marks, k, c, e.0, e.1)).copied().collect()
     }
 
-    pub fn labelling_saves(&self, [p, q, r, s]: [usize; 4], (x, y): Edge, (z, w): Edge) -> bool {
+    /// What the two moves of a labelling save.
+    pub fn two_savings(&self, [p, q, r, s]: [usize; 4], (x, y): Edge, (z, w): Edge) -> [i64; 2] {
         let first = self.l(p, q) + self.l(r, x) + self.l(s, w) - self.l(r, s) - self.l(p, x) - self.l(q, w);
         let second = self.l(p, q) + self.l(r, y) + self.l(s, z) - self.l(r, s) - self.l(p, z) - self.l(q, y);
+        [first, second]
+    }
+
+    pub fn labelling_saves(&self, pqrs: [usize; 4], xy: Edge, zw: Edge) -> bool {
+        let [first, second] = self.two_savings(pqrs, xy, zw);
         match self.slip {
             Some(Slip::EqualSaves) => first >= 0 && second >= 0,
             Some(Slip::OneMove) => first > 0,
@@ -151,8 +162,7 @@ impl<'a> Board<'a> {
         if !names_edge || !centres || xy.len() != 2 || zw.len() != 2 || has(k, (r, s)) {
             return 15;
         }
-        let (x, y, z, w) = (xy[0], xy[1], zw[0], zw[1]);
-        let labellings = [((x, y), (z, w)), ((x, y), (w, z)), ((y, x), (z, w)), ((y, x), (w, z))];
+        let labellings = labellings((xy[0], xy[1]), (zw[0], zw[1]));
         let tried = if self.slip == Some(Slip::OneLabelling) { 1 } else { 4 };
         if labellings[..tried].iter().any(|&(xy, zw)| self.labelling_saves(pqrs, xy, zw)) {
             0

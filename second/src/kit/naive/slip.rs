@@ -98,10 +98,22 @@ pub enum Slip {
     PendingPackedOpen,
     /// The last mark is not unpacked.
     LastMarkDropped,
+    /// A saving by the smaller of the two exchanges.
+    SmallerExchange,
+    /// A crossing's saving by the larger of its two moves.
+    LargerMove,
+    /// A crossing's saving by one labelling only.
+    FirstLabelling,
+    /// A saving below 0 is told as 0.
+    LossIsNothing,
+    /// An edge taken out may have both ends the same.
+    EndsTheSame,
+    /// 11 before 2 and 5 in a saving.
+    EdgesBeforeLengths,
 }
 
 impl Slip {
-    pub const ALL: [Slip; 49] = [
+    pub const ALL: [Slip; 55] = [
         Slip::EqualShutsOut,
         Slip::EqualSaves,
         Slip::OneExchange,
@@ -151,5 +163,11 @@ impl Slip {
         Slip::WrittenSetTested,
         Slip::PendingPackedOpen,
         Slip::LastMarkDropped,
+        Slip::SmallerExchange,
+        Slip::LargerMove,
+        Slip::FirstLabelling,
+        Slip::LossIsNothing,
+        Slip::EndsTheSame,
+        Slip::EdgesBeforeLengths,
     ];
 }
