@@ -1,5 +1,6 @@
 /*
- * The fuzzing target over the functions for C. An input is a file of the program `mark`: rule, n, coordinates, records.
+ * The fuzzing target over the functions for C. An input is a file of the program `mark`: rule, n, coordinates, records. Its last
+ * 16 bytes are read as the eight points of a saving, too.
  *
  * Every buffer ends at a page that must not be touched, so a read or write past its end is a crash. The archive carries no
  * instrumentation; instead what a call answers (refusal, record, lines, strikes) is written into AFL's map, so that inputs with a new
@@ -280,6 +281,89 @@ static void try_ask(uint32_t n, const uint8_t *table, size_t table_len, const ui
     promise(memcmp(copy, asked, len) == 0, "20 changes no mark");
 }
 
+/* The length between two points, 0 from a point to itself. */
+static int64_t between(uint32_t n, const uint8_t *table, uint32_t a, uint32_t b)
+{
+    return a == b ? 0 : get32(table + 4 * revosti_place(n, a, b));
+}
+
+/* What tests 1, 2, 5 and 11 of a saving answer. The edges taken out are given by their ends. */
+static int64_t test_saving(uint32_t n, const uint8_t *table, size_t len, const uint16_t (*out)[2], size_t edges)
+{
+    if (no_points(n)) return REVOSTI_POINTS;
+    if (len != 4 * revosti_edges(n)) return REVOSTI_SIZE;
+    for (size_t i = 0; i < len; i += 4)
+        if (get32(table + i) > REVOSTI_MOST_LENGTH) return REVOSTI_LENGTH;
+    for (size_t i = 0; i < edges; i++)
+        if (out[i][0] < 1 || out[i][0] > n || out[i][1] < 1 || out[i][1] > n || out[i][0] == out[i][1]) return REVOSTI_POINT;
+    return 0;
+}
+
+static int64_t smaller(int64_t a, int64_t b) { return a < b ? a : b; }
+static int64_t larger(int64_t a, int64_t b) { return a < b ? b : a; }
+
+/* An answer that is the refusal number, or 65,536 times the saving. */
+static void saved(unsigned kind, int64_t answer, int64_t refusal, int64_t saving)
+{
+    promise(answer == (refusal ? refusal : 65536 * saving), "the saving, or its refusal");
+    seen(kind, (unsigned)refusal, refusal ? 0 : (unsigned)((saving > 0) - (saving < 0)));
+}
+
+#define L(a, b) between(n, table, a, b)
+
+static void try_exchange(uint32_t n, const uint8_t *table, size_t len, uint16_t p, uint16_t q, uint16_t x, uint16_t y)
+{
+    const uint16_t out[][2] = {{p, q}, {x, y}};
+    int64_t refusal = test_saving(n, table, len, out, 2);
+    saved(10, revosti_exchange_saving(n, table, len, p, q, x, y), refusal,
+          refusal ? 0 : L(p, q) + L(x, y) - larger(L(p, x) + L(q, y), L(p, y) + L(q, x)));
+}
+
+static void try_move(uint32_t n, const uint8_t *table, size_t len, uint16_t c, uint16_t x, uint16_t y, uint16_t u, uint16_t v)
+{
+    const uint16_t out[][2] = {{x, c}, {y, c}, {u, v}};
+    int64_t refusal = test_saving(n, table, len, out, 3);
+    saved(11, revosti_move_saving(n, table, len, c, x, y, u, v), refusal,
+          refusal ? 0 : L(u, v) + L(x, c) + L(y, c) - L(x, y) - L(u, c) - L(v, c));
+}
+
+/* The saving of one labelling of a crossing. */
+static int64_t labelling(uint32_t n, const uint8_t *table, const uint16_t *pqrs, uint16_t x, uint16_t y, uint16_t z, uint16_t w)
+{
+    uint16_t p = pqrs[0], q = pqrs[1], r = pqrs[2], s = pqrs[3];
+    return L(p, q) - L(r, s) + smaller(L(r, x) + L(s, w) - L(p, x) - L(q, w), L(r, y) + L(s, z) - L(p, z) - L(q, y));
+}
+
+static void try_crossing(uint32_t n, const uint8_t *table, size_t len, const uint16_t *pqrs, const uint16_t *ends)
+{
+    uint16_t p = pqrs[0], q = pqrs[1], r = pqrs[2], s = pqrs[3], x = ends[0], y = ends[1], z = ends[2], w = ends[3];
+    const uint16_t out[][2] = {{p, q}, {r, x}, {s, w}, {r, y}, {s, z}};
+    int64_t refusal = test_saving(n, table, len, out, 5), best = 0;
+    if (!refusal)
+        best = larger(larger(labelling(n, table, pqrs, x, y, z, w), labelling(n, table, pqrs, x, y, w, z)),
+                      larger(labelling(n, table, pqrs, y, x, z, w), labelling(n, table, pqrs, y, x, w, z)));
+    saved(12, revosti_crossing_saving(n, table, len, p, q, r, s, x, y, z, w), refusal, best);
+}
+
+/* All three savings of the first of eight points. */
+static void try_three(uint32_t n, const uint8_t *table, size_t len, const uint16_t *v)
+{
+    try_exchange(n, table, len, v[0], v[1], v[2], v[3]);
+    try_move(n, table, len, v[0], v[1], v[2], v[3], v[4]);
+    try_crossing(n, table, len, v, v + 4);
+}
+
+/* Savings of eight 16-bit points as they are, then brought to 1 to n, also with a table a byte too short. */
+static void try_savings(uint32_t n, const uint8_t *table, size_t len, const uint8_t *points)
+{
+    uint16_t v[8];
+    for (int i = 0; i < 8; i++) v[i] = (uint16_t)(points[2 * i] | points[2 * i + 1] << 8);
+    try_three(n, table, len, v);
+    for (int i = 0; n && i < 8; i++) v[i] = (uint16_t)(v[i] % n + 1);
+    try_three(n, table, len, v);
+    if (len) try_three(n, table + 1, len - 1, v);
+}
+
 static void run(const uint8_t *file, size_t size)
 {
     if (size < 8) return;
@@ -328,6 +412,7 @@ static void run(const uint8_t *file, size_t size)
     seen(1, refusal, record < 40 ? record : 40 + record / 64);
     seen(2, lines < 60 ? lines : 60, refusal);
     try_list(n, table + (4 * edges - table_len), table_len, marks, edges, rule);
+    if (size >= 16) try_savings(n, table + (4 * edges - table_len), table_len, file + size - 16);
     if (n == points && n >= 2) try_tour(n, table, 4 * edges, marks, edges);
 }
 
