@@ -20,6 +20,8 @@ use Rattle.closings.proofs.ClosingExact.{settled-exact}
 use Rattle.sets.proofs.Exact.{shape-exact, kept-shape, single-shape}
 use Rattle.rules.proofs.PairLists.{feasiblePairs-rising}
 use Rattle.rules.proofs.PairTests.{feasiblePairs-iff}
+use Rattle.rules.proofs.Unmoving.{single-unmovable}
+use Rattle.rules.specs.Pair.{Unmovable}
 use Rattle.argument.specs.Rules.{NamesFeasible, Reached, single, grown, Lawful}
 use Rattle.sheets.specs.Rules.{rulesWhere, rulesOf}
 
@@ -52,6 +54,11 @@ module _ (n : ℕ) (table : List ℕ) (open? : ℕ → ℕ → Bool) where
   reached-shape (grown {K} {c} {x} {y} r pc f) =
       kept-shape n K c x y (reached-shape r) (record { x-y = λ e. omega (arith, f .rising); x-c = f .apart-x; y-c = f .apart-y }) (f .two) (f .three)
 
+  -- no point of such a set can be moved: {ab} has none of degree two, and a feasible pair says so of the next
+  reached-unmovable : {K : List Edge} → Reached (rulesWhere n table open?) K → Unmovable (lengthOf n table) (lengthOf n table) K
+  reached-unmovable (single {a} {b} pa pb ne) = single-unmovable (lengthOf n table) (lengthOf n table) a b
+  reached-unmovable (grown {K} {c} {x} {y} r pc f) = f .five
+
   reached-within : {K : List Edge} → Reached (rulesWhere n table open?) K → Within n K
   unfolding withPair
   reached-within (single {a} {b} pa pb ne) = within-edge [] pa pb (λ u v h. absurd h)
@@ -64,7 +71,8 @@ module _ (n : ℕ) (table : List ℕ) (open? : ℕ → ℕ → Bool) where
         rising = feasiblePairs-rising n (lengthOf n table) open? K c;
         exactly = λ x y.
             feasiblePairs-iff (lengthOf n table) (length-symmetric n table) n open? K c x y
-            (λ xc yc e. shape-exact n K c x y (reached-shape r) (record { x-y = λ q. omega (arith, e .up); x-c = xc; y-c = yc }));
+            (λ xc yc e. shape-exact n K c x y (reached-shape r) (record { x-y = λ q. omega (arith, e .up); x-c = xc; y-c = yc }))
+            (reached-unmovable r);
       }
 
   pub lawful-where : Lawful (rulesWhere n table open?)

@@ -11,7 +11,7 @@ use Rattle.lengths.specs.Edge.{Edge, edge, Point}
 use Rattle.sets.specs.EdgeSet.{Joins, Has, closedEdges, withPair, DegreeTwo}
 use Rattle.rules.proofs.Savings.{compatible-sum, move-sum}
 use Rattle.closings.proofs.Savings.{saves-sums}
-use Rattle.rules.specs.Pair.{Compatible, MoveSaves, FeasiblePair}
+use Rattle.rules.specs.Pair.{Compatible, Unmovable, FeasiblePair}
 use Rattle.closings.specs.Closing.{ThreeOptMoves, Closes}
 use Rattle.tours.specs.Tour.{total, Uses, Symmetric, ThreeOptimal}
 use Rattle.tours.proofs.Count.{tour-once}
@@ -73,7 +73,7 @@ module _
                 two = at-most-two (withPair K c x y) t (tour-once (O .tour)) with-pair;
                 three = no-short-cycle (O .tour) (withPair K c x y) with-pair;
                 four = λ p q h. (optimal-compatible O s c x p q hx (uses p q h), optimal-compatible O s c y p q hy (uses p q h));
-                five = λ u v h uc vc saves. five u v (uses u v h) uc vc saves;
+                five = five;
               };
           uses-x = hx;
           uses-y = hy;
@@ -82,16 +82,21 @@ module _
         with-pair : Inside (withPair K c x y) (closedEdges t)
         with-pair = inside-cons (edge c y ∷ K) (closedEdges t) c x hx (inside-cons K (closedEdges t) c y hy uses)
 
-        five : (u v : ℕ) → Uses t u v → (u ≡ c → ⊥) → (v ≡ c → ⊥) → MoveSaves l l c x y u v → ⊥
-        five u v h uc vc saves = omega (arith, move-sum l l c x y u v .0 saves, no-gain O s (omega arith) (or-opt (O .tour) c x y u v hx hy (omega arith) h uc vc))
+        five : Unmovable l l (withPair K c x y)
+        five w p q u v d h uw vw saves =
+            omega (
+              arith,
+              move-sum l l w p q u v .0 saves,
+              no-gain O s (omega arith) (or-opt (O .tour) w p q u v (with-pair w p (d .has-x)) (with-pair w q (d .has-y)) (d .apart) (with-pair u v h) uw vw),
+            )
 
     -- The tour has three points or more, so c has two different neighbours in it: name them x < y. They are points, and not c.
     --   1. cx and cy are edges of t, and those are open.
     --   2. K with cx and cy is a set of edges of t, and no point has three edges in t (`at-most-two`).
     --   3. A cycle of edges of t has all n points (`no-short-cycle`).
     --   4. Any two edges of t are compatible (`optimal-compatible`).
-    --   5. An edge uv of K that does not touch c is an edge of t. Moving c from between x and y to between u and v makes a tour
-    --      (`or-opt`), which is no shorter: the move does not save.
+    --   5. A point of degree two in K with the pair has its two edges in t, and an edge uv of that set without it is an edge of t. Moving the
+    --      point to between u and v makes a tour (`or-opt`), which is no shorter: the move does not save.
     -- The exchanges take out two or three edges, so t need only be 3-optimal.
     pub optimal-feasible : 3 ≤ n → (c : ℕ) → Point n c → OwnPair n l open? K t c
     optimal-feasible three c p = go (decLe (N .x) (N .y))

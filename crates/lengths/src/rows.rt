@@ -1,9 +1,26 @@
 // Rows of lengths: the lengths from a point to all points, side by side.
 use crate::edge;
 use endian::bytes::number32;
-ghost use Prim.Native.Nat.{_+_};
+ghost use Prim.Native.Nat.{_+_, _*_, _<_};
+ghost use mathlib.Core.Path.{_≡_};
+ghost use lib.ListN.{length, getD};
 ghost use Rattle.endian.specs.Bytes.{whole32};
 ghost use Rattle.lengths.specs.asks.Rows.{RowFillable, RowPart, RowFilled, RowsFillable, RowsFilled};
+
+// Where the row of v begins among the rows of all points.
+pub fn row_start(n: u16, v: u16) -> usize
+    ensures { λ r. ⌜ r ≡ (n + 1) * v ⌝ }
+{
+    (n as usize + 1) * v as usize
+}
+
+// The length to x by the row that begins at `at`.
+pub fn length_in(rows: &[u32], at: usize, x: u16) -> u32
+    requires { ⌜ at + x < length (now rows) ⌝ }
+    ensures { λ r. ⌜ r ≡ getD (now (rows .entry)) (at + x) 0 ⌝ }
+{
+    rows[at + x as usize]
+}
 
 // The lengths from v to the points below it: the place of xv moves on by n - x - 1 as x does by 1, and `step` is n - x.
 fn fill_below(n: u16, table: &[u8], v: u16, rows: &mut [u32], at: usize)

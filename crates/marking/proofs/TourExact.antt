@@ -17,7 +17,7 @@ use Rattle.lists.specs.Count.{count}
 use Rattle.sets.specs.EdgeSet.{closedEdges}
 use Rattle.marks.specs.Mark.{pendingMark, openAt, openUpTo, unstruckIn}
 use Rattle.rules.specs.PairTest.{every}
-use Rattle.rules.proofs.PairTests.{every-has, has-every}
+use Rattle.rules.proofs.Every.{every-has, has-every}
 use Rattle.tours.specs.Tour.{Tour, Uses}
 use Rattle.tours.proofs.Count.{tour-length, points-only}
 use Rattle.marking.specs.Tour.{onceEach, isTour}

@@ -30,10 +30,10 @@ far-legs = record { size = length-replicate {A = ℕ} pointPlaces far; at-most-f
 
 -- storing a leg
 module _ {legs : List ℕ} (s : LegList legs) (x m : ℕ) (inside : x ≤ mostPoints) where
-  stored-here : getD (set legs x m) x 0 ≡ m
+  pub stored-here : getD (set legs x m) x 0 ≡ m
   stored-here = getD-set-same legs x m 0 (omega (arith, s .size))
 
-  stored-list : m ≤ far → LegList (set legs x m)
+  pub stored-list : m ≤ far → LegList (set legs x m)
   stored-list at-most-far = record { size = length-set legs x m ∙ s .size; at-most-far = below }
     where
       below : (i : ℕ) → getD (set legs x m) i 0 ≤ far
@@ -257,14 +257,14 @@ module _ {n : ℕ} {rows legs₀ : List ℕ} {ps qs pq cp cq : ℕ} {legs : List
   here : Point n x
   here = record { low = s .low; high = h }
 
-  pub narrowing-both : getD legs x 0 + pq ≤ 12000000
-  narrowing-both = omega (arith, s .list .at-most-far x, a .short .first)
+  pub narrowing-both : getD legs x 0 + pq ≤ 14000000
+  narrowing-both = omega (arith, s .list .at-most-far x, a .sums .first)
 
-  pub narrowing-one : cp + getD rows (qs + x) 0 ≤ 4000000
-  narrowing-one = omega (arith, a .row-q .small x here, a .short .second)
+  pub narrowing-one : cp + getD rows (qs + x) 0 ≤ 6000000
+  narrowing-one = omega (arith, a .row-q .small x here, a .sums .second)
 
-  pub narrowing-other : cq + getD rows (ps + x) 0 ≤ 4000000
-  narrowing-other = omega (arith, a .row-p .small x here, a .short .third)
+  pub narrowing-other : cq + getD rows (ps + x) 0 ≤ 6000000
+  narrowing-other = omega (arith, a .row-p .small x here, a .sums .third)
 
   pub narrowing-on : {m : ℕ} → m ≡ narrowedBy (getD legs x 0) (getD legs x 0 + pq) (cp + getD rows (qs + x) 0) (cq + getD rows (ps + x) 0)
       → Narrowing n rows legs₀ ps qs pq cp cq (set legs x m) (x + 1)

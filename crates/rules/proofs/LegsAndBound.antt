@@ -153,7 +153,7 @@ module _ (l : ℕ → ℕ → ℕ) (symmetric : (a b : ℕ) → l a b ≡ l b a)
       go false e = sym (le-leb (l c x + mostLength + l c y) (l x y + (l u c + l v c + mostLength - l u v))
           (omega (arith, ltb-false (l x y + l u c + l v c) (l u v + l x c + l y c) e, symmetric c x, symmetric c y, small u v)))
 
-  step-test : (u v b : ℕ) → stays? l c x y u v && leb (l c x + mostLength + l c y) (l x y + b) ≡ leb (l c x + mostLength + l c y) (l x y + tightened l c u v b)
+  step-test : (u v b : ℕ) → stays? l l c x y u v && leb (l c x + mostLength + l c y) (l x y + b) ≡ leb (l c x + mostLength + l c y) (l x y + tightened l c u v b)
   unfolding stays? tightened
   step-test u v b = go (eqb u c) (eqb v c)
     where
@@ -165,19 +165,15 @@ module _ (l : ℕ → ℕ → ℕ) (symmetric : (a b : ℕ) → l a b ≡ l b a)
           ∙ sym (min-test (l c x + mostLength + l c y) (l x y) (l u c + l v c + mostLength - l u v) b)
 
   -- condition 5 is one comparison with the bound
-  pub unmoved-bound : (K : List Edge) → unmoved? l K c x y ≡ leb (l c x + mostLength + l c y) (l x y + boundOf l K c)
+  pub unmoved-bound : (K : List Edge) → unmoved? l l K c x y ≡ leb (l c x + mostLength + l c y) (l x y + boundOf l K c)
   unfolding unmoved? every boundOf
   unmoved-bound [] = sym (le-leb (l c x + mostLength + l c y) (l x y + loose) (omega (arith, small c x, small c y)))
-  unmoved-bound (edge u v ∷ es) = ap (λ (t : Bool). stays? l c x y u v && t) (unmoved-bound es) ∙ step-test u v (boundOf l es c)
+  unmoved-bound (edge u v ∷ es) = ap (λ (t : Bool). stays? l l c x y u v && t) (unmoved-bound es) ∙ step-test u v (boundOf l es c)
 
-  -- conditions 1, 4 and 5 are one comparison of the legs with the bound
-  pub legs-bound : (open? : ℕ → ℕ → Bool) (K : List Edge)
-      → leb (legOf l open? K c x + mostLength + legOf l open? K c y) (l x y + boundOf l K c) ≡ leg? l open? K c x && (leg? l open? K c y && unmoved? l K c x y)
-  unfolding legOf
-  legs-bound open? K = go (leg? l open? K c x) (leg? l open? K c y)
-    where
-      go : (s t : Bool) → leb (cond s (l c x) far + mostLength + cond t (l c y) far) (l x y + boundOf l K c) ≡ s && (t && unmoved? l K c x y)
-      go true true = sym (unmoved-bound K)
-      go true false = lt-leb (l c x + mostLength + far) (l x y + boundOf l K c) (omega (arith, small x y, boundOf-le l K c))
-      go false true = lt-leb (far + mostLength + l c y) (l x y + boundOf l K c) (omega (arith, small x y, boundOf-le l K c))
-      go false false = lt-leb (far + mostLength + far) (l x y + boundOf l K c) (omega (arith, small x y, boundOf-le l K c))
+  -- conditions 1, 4 and 5 as far as they go by legs and by c: one comparison of the legs with the bound
+  pub legs-bound : (K : List Edge) (s t : Bool)
+      → leb (cond s (l c x) far + mostLength + cond t (l c y) far) (l x y + boundOf l K c) ≡ s && (t && unmoved? l l K c x y)
+  legs-bound K true true = sym (unmoved-bound K)
+  legs-bound K true false = lt-leb (l c x + mostLength + far) (l x y + boundOf l K c) (omega (arith, small x y, boundOf-le l K c))
+  legs-bound K false true = lt-leb (far + mostLength + l c y) (l x y + boundOf l K c) (omega (arith, small x y, boundOf-le l K c))
+  legs-bound K false false = lt-leb (far + mostLength + far) (l x y + boundOf l K c) (omega (arith, small x y, boundOf-le l K c))

@@ -1,5 +1,7 @@
+pub mod Every
 pub mod LegLoops
 pub mod LegsAndBound
 pub mod PairLists
 pub mod PairTests
 pub mod Savings
+pub mod Unmoving

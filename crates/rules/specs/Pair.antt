@@ -6,7 +6,7 @@ use mathlib.Core.List.{List}
 use Rattle.lengths.specs.Edge.{Edge, Point}
 use lib.IntN.{ℤ}
 use Rattle.lists.specs.Saving.{saving, gains?}
-use Rattle.sets.specs.EdgeSet.{Has, AtMostTwo, NoShortCycle, withPair}
+use Rattle.sets.specs.EdgeSet.{Has, AtMostTwo, NoShortCycle, DegreeTwo, withPair}
 
 -- Savings (02, Paper 5), by the lengths of what is taken out and of what is put in; one table is both.
 
@@ -26,6 +26,10 @@ Compatible out put p q x y = gains? (exchangeSaving out put p q x y) ≡ false
 abbrev pub MoveSaves : (out put : ℕ → ℕ → ℕ) → ℕ → ℕ → ℕ → ℕ → ℕ → Type 0
 MoveSaves out put c x y u v = gains? (moveSaving out put c x y u v) ≡ true
 
+-- no point of degree two can be moved to an edge of the set without it so that the sum becomes smaller (02, Paper 7)
+abbrev pub Unmovable : (out put : ℕ → ℕ → ℕ) → List Edge → Type 0
+Unmovable out put S = (w s t u v : ℕ) → DegreeTwo S w s t → Has S u v → (u ≡ w → ⊥) → (v ≡ w → ⊥) → MoveSaves out put w s t u v → ⊥
+
 -- the pair x < y stands at the split point c under K: `one` to `five` are 01's conditions
 pub record FeasiblePair (n : ℕ) (out put : ℕ → ℕ → ℕ) (open? : ℕ → ℕ → Bool) (K : List Edge) (c x y : ℕ) : Type 0 where
   pub rising : x < y
@@ -37,4 +41,4 @@ pub record FeasiblePair (n : ℕ) (out put : ℕ → ℕ → ℕ) (open? : ℕ �
   pub two : AtMostTwo (withPair K c x y)
   pub three : NoShortCycle n (withPair K c x y)
   pub four : (p q : ℕ) → Has K p q → Compatible out put c x p q × Compatible out put c y p q
-  pub five : (u v : ℕ) → Has K u v → (u ≡ c → ⊥) → (v ≡ c → ⊥) → MoveSaves out put c x y u v → ⊥
+  pub five : Unmovable out put (withPair K c x y)

@@ -19,14 +19,44 @@ compatible? l p q x y = leb (l p q + l x y) (max (l p x + l q y) (l p y + l q x)
 unfoldable pub leg? : (ℕ → ℕ → ℕ) → (ℕ → ℕ → Bool) → List Edge → ℕ → ℕ → Bool
 leg? l open? K c x = not (eqb x c) && (open? c x && every (compatible? l c x) K)
 
--- the edge uv touches c, or moving c between u and v does not make the sum smaller
-unfoldable pub stays? : (ℕ → ℕ → ℕ) → ℕ → ℕ → ℕ → ℕ → ℕ → Bool
-stays? l c x y u v = eqb u c || (eqb v c || not (ltb (l x y + l u c + l v c) (l u v + l x c + l y c)))
+-- the edge uv touches w, or moving w from between s and t to between u and v does not make the sum smaller
+unfoldable pub stays? : (out put : ℕ → ℕ → ℕ) → (w s t u v : ℕ) → Bool
+stays? out put w s t u v = eqb u w || (eqb v w || not (ltb (put s t + put u w + put v w) (out u v + out s w + out t w)))
 
--- condition 5
-unfoldable pub unmoved? : (ℕ → ℕ → ℕ) → List Edge → ℕ → ℕ → ℕ → Bool
-unmoved? l K c x y = every (stays? l c x y) K
+-- the split point, once it is between x and y, stays where the edges of K are
+unfoldable pub unmoved? : (out put : ℕ → ℕ → ℕ) → List Edge → (c x y : ℕ) → Bool
+unmoved? out put K c x y = every (stays? out put c x y) K
 
--- the pair x < y is feasible; 2 and 3 are last, since they are the dearest
+-- w, which K joins to s and to t, does not move between c and x, and is x only where one of the two is c: else cx would be its third edge
+unfoldable pub joint? : (out put : ℕ → ℕ → ℕ) → (c x w s t : ℕ) → Bool
+joint? out put c x w s t = stays? out put w s t c x && (not (eqb x w) || (eqb s c || eqb t c))
+
+-- the edges ws and zt: where they meet in w and z, which is not c, and are two
+unfoldable pub meeting? : (out put : ℕ → ℕ → ℕ) → (c x w z s t : ℕ) → Bool
+meeting? out put c x w z s t = not (eqb w z) || (eqb s t || (eqb w c || joint? out put c x w s t))
+
+-- the edges pq and uv, at each of their ends
+unfoldable pub apart? : (out put : ℕ → ℕ → ℕ) → (c x p q u v : ℕ) → Bool
+apart? out put c x p q u v = meeting? out put c x p u q v && (meeting? out put c x p v q u && (meeting? out put c x q u p v && meeting? out put c x q v p u))
+
+-- every two edges of K: no point of degree two of K moves between c and x, and none gets a third edge
+unfoldable pub settled? : (out put : ℕ → ℕ → ℕ) → List Edge → (c x : ℕ) → Bool
+settled? out put [] c x = true
+settled? out put (edge p q ∷ es) c x = every (apart? out put c x p q) es && settled? out put es c x
+
+-- x, where it is p: between c and q, it stays where the edges of K are
+unfoldable pub endAt? : (out put : ℕ → ℕ → ℕ) → List Edge → (c x p q : ℕ) → Bool
+endAt? out put K c x p q = not (eqb x p) || (eqb q c || every (stays? out put x c q) K)
+
+-- x, once it is between c and the other end of its edge in K, stays where the edges of K are. That it stays where the pair's other edge cy is needs no test: moving x there
+-- takes out and puts in what moving c from between x and y onto x's edge of K does.
+unfoldable pub endStays? : (out put : ℕ → ℕ → ℕ) → List Edge → (c x : ℕ) → Bool
+endStays? out put K c x = every (λ (p q : ℕ). endAt? out put K c x p q && endAt? out put K c x q p) K
+
+-- the edge cx of a pair meets conditions 1 and 4, and what condition 5 asks of it alone
+unfoldable pub candidateLeg? : (ℕ → ℕ → ℕ) → (ℕ → ℕ → Bool) → List Edge → (c x : ℕ) → Bool
+candidateLeg? l open? K c x = leg? l open? K c x && (settled? l l K c x && endStays? l l K c x)
+
+-- the pair x < y is feasible, where K is {ab} or a set that a pair was added to; 2 and 3 are last, since they are the dearest
 unfoldable pub feasible? : ℕ → (ℕ → ℕ → ℕ) → (ℕ → ℕ → Bool) → List Edge → ℕ → ℕ → ℕ → Bool
-feasible? n l open? K c x y = leg? l open? K c x && (leg? l open? K c y && (unmoved? l K c x y && shape? n K c x y))
+feasible? n l open? K c x y = candidateLeg? l open? K c x && (candidateLeg? l open? K c y && (unmoved? l l K c x y && shape? n K c x y))

@@ -2,7 +2,7 @@
 -- needs the rows of c, a and b alone. Assumes nothing.
 use Prim.Native.Nat.{ℕ, _+_, _-_, _*_, _≤_, _<_, min, max}
 use mathlib.Core.Path.{_≡_, refl, sym, _∙_, ap, subst}
-use mathlib.Core.Bool.{Bool, true, false, cond}
+use mathlib.Core.Bool.{Bool, true, false, cond, _&&_}
 use mathlib.Core.Logic.{_⊎_, inl, inr}
 use mathlib.Core.List.{List, [], _∷_}
 use native.Mathlib.Omega.{arith}
@@ -10,17 +10,20 @@ use native.Mathlib.Numerals.{add-one}
 use lib.Dec.{eqb, leb}
 use lib.ListN.{getD}
 use borrow.Author.Tests.{eq-eqb, le-leb}
-use Rattle.lists.proofs.Bools.{cond-same}
+use Rattle.lists.proofs.Bools.{cond-same, and-both, and-yes}
 use Rattle.lengths.specs.Edge.{Edge, edge, Point}
 use Rattle.lengths.specs.Table.{lengthOf, Lengths}
-use Rattle.lengths.specs.asks.Rows.{RowAt, RowFilled}
+use Rattle.lengths.specs.asks.Rows.{RowAt, Rows, RowFilled}
 use Rattle.lengths.proofs.Tables.{length-symmetric, length-small}
 use Rattle.lengths.specs.Instance.{mostLength, pointPlaces}
-use Rattle.rules.specs.asks.Legs.{legOf, narrowed, LegList, LegsOf, RowLent, rowOf, OpenAsked, OpenLegs, NarrowAsked, Narrowed, far}
+use Rattle.rules.specs.asks.Legs.{legOf, narrowed, LegList, LegsOf, LegsBy, RowLent, RowsLent, rowOf, OpenAsked, OpenLegs, NarrowAsked, Narrowed, far}
 use Rattle.rules.specs.asks.Bound.{tightened, tightenedBy, boundOf, Short, loose}
-use Rattle.search.specs.asks.Split.{Prepared, Bounded, TriangleAsked, TriangleIn, SplitAsked, SplitOf, TakeAsked, TakenIn, EdgeAsked, EdgeRowsAsked, EdgeRows, EdgeTriangle, EdgeLegsAsked, EdgeLegs, SingleAsked}
+use Rattle.search.specs.asks.Split.{TakenOf, Prepared, Bounded, AllTaken, TriangleAsked, TriangleIn, SplitAsked, SplitOf, TakeAsked, TakenIn, EdgeAsked, EdgeRowsAsked, EdgeRows, EdgeTriangle, EdgeLegsAsked, EdgeLegs, SingleAsked}
 use Rattle.marks.specs.Mark.{openMark, pendingMark, openUpTo, openIn, unstruckIn}
-use Rattle.rules.specs.PairTest.{leg?}
+use Rattle.rules.specs.PairTest.{leg?, settled?, endStays?, candidateLeg?}
+use Rattle.rules.proofs.Unmoving.{single-settled, single-end}
+use Rattle.or_opt.specs.asks.Ends.{EndsAsked, EndsTold}
+use Rattle.or_opt.specs.asks.Settled.{AllAsked, Settled}
 use Rattle.sets.specs.asks.Stored.{edgesOf, edgeList}
 use Rattle.sets.specs.declared.edge_set.EdgeSet.{EdgeSet}
 use Rattle.search.specs.declared.split.Triangle.{Triangle}
@@ -59,7 +62,7 @@ module _ {n : ℕ} {table rows : List ℕ} {c p q ps qs pq cp cq : ℕ} (h : AtH
   hand-short = short-of (h .lengths) p q c (h .is-pq) (h .is-cp) (h .is-cq)
 
   hand-asks : {legs : List ℕ} → LegList legs → NarrowAsked n rows legs ps qs pq cp cq
-  hand-asks l = record { few = h .lengths .few; list = l; row-p = row-lent (h .lengths) (h .row-p); row-q = row-lent (h .lengths) (h .row-q); short = hand-short }
+  hand-asks l = record { few = h .lengths .few; list = l; row-p = row-lent (h .lengths) (h .row-p); row-q = row-lent (h .lengths) (h .row-q); sums = record { first = omega (arith, hand-short .first); second = omega (arith, hand-short .second); third = omega (arith, hand-short .third) } }
 
   hand-narrowed : {legs r : List ℕ} → Narrowed n rows legs ps qs pq cp cq r → (x : ℕ) → Point n x
       → getD r x 0 ≡ narrowed (lengthOf n table) c p q x (getD legs x 0)
@@ -93,7 +96,7 @@ pub record Taking (n : ℕ) (table rows marks : List ℕ) (k : EdgeSet) (c : ℕ
   pub asked : SplitAsked n table rows marks k c
   pub within : i ≤ k .count
   pub bounded : Bounded legs bound
-  pub prepared : Prepared n (lengthOf n table) (openIn n marks) (edgesOf (k .from) (k .to) i) c legs bound
+  pub prepared : TakenOf n (lengthOf n table) (openIn n marks) (edgesOf (k .from) (k .to) i) c legs bound
 
 pub take-start : {n : ℕ} {table rows marks : List ℕ} {k : EdgeSet} {c at : ℕ} {legs : List ℕ} → SplitAsked n table rows marks k c → at ≡ (n + 1) * c
     → OpenLegs openMark n marks rows c at legs → Taking n table rows marks k c legs loose 0
@@ -186,7 +189,7 @@ module _ {n : ℕ} {table rows marks : List ℕ} {k : EdgeSet} {c : ℕ} {legs :
         bounded = record { list = w .list; tight = omega (arith, w .least, tightened-le (lengthOf n table) c u v bound, s .bounded .tight) };
         prepared =
             subst
-            (λ (j : ℕ). Prepared n (lengthOf n table) (openIn n marks) (edgesOf (k .from) (k .to) j) c legs′ bound′)
+            (λ (j : ℕ). TakenOf n (lengthOf n table) (openIn n marks) (edgesOf (k .from) (k .to) j) c legs′ bound′)
             (sym (add-one i))
             (record {
               each = w .each (openIn n marks) (edgesOf (k .from) (k .to) i) (s .prepared .each);
@@ -195,13 +198,59 @@ module _ {n : ℕ} {table rows marks : List ℕ} {k : EdgeSet} {c : ℕ} {legs :
       }
 
 pub take-end : {n : ℕ} {table rows marks : List ℕ} {k : EdgeSet} {c : ℕ} {legs : List ℕ} {bound i : ℕ}
-    → Taking n table rows marks k c legs bound i → k .count ≤ i → SplitOf openMark n table marks k c legs bound
+    → Taking n table rows marks k c legs bound i → k .count ≤ i → AllTaken n table marks k c legs bound
 unfolding edgeList
 take-end {n} {table} {rows} {marks} {k} {c} {legs} {bound} {i} s h =
     let e : i ≡ k .count = omega (arith, s .within) in
     record {
       bounded = s .bounded;
-      prepared = subst (λ (j : ℕ). Prepared n (lengthOf n table) (openIn n marks) (edgesOf (k .from) (k .to) j) c legs bound) e (s .prepared);
+      taken = subst (λ (j : ℕ). TakenOf n (lengthOf n table) (openIn n marks) (edgesOf (k .from) (k .to) j) c legs bound) e (s .prepared);
+    }
+
+-- and then its points of degree two
+
+leg-both : (l : ℕ → ℕ → ℕ) (open? : ℕ → ℕ → Bool) (K : List Edge) (c x : ℕ) → endStays? l l K c x && (settled? l l K c x && leg? l open? K c x) ≡ candidateLeg? l open? K c x
+unfolding candidateLeg?
+leg-both l open? K c x = go (endStays? l l K c x) (settled? l l K c x) (leg? l open? K c x)
+  where
+    go : (e s t : Bool) → e && (s && t) ≡ t && (s && e)
+    go true true true = refl
+    go true true false = refl
+    go true false true = refl
+    go true false false = refl
+    go false true true = refl
+    go false true false = refl
+    go false false true = refl
+    go false false false = refl
+
+pub rows-lent : {n : ℕ} {table rows : List ℕ} → Lengths n table → Rows n table rows → RowsLent n rows
+rows-lent l r = record { row = λ v p. row-lent l (r .row v p) }
+
+module _ {n : ℕ} {table rows marks : List ℕ} {k : EdgeSet} {c : ℕ} (a : SplitAsked n table rows marks k c) {legs : List ℕ} {bound : ℕ} (t : AllTaken n table marks k c legs bound) where
+  pub settle-asks : AllAsked n rows rows k c legs
+  settle-asks =
+      let lent = rows-lent (a .legs .lengths) (a .in-rows) in
+      record { lent = record { few = a .legs .lengths .few; centre = a .legs .centre; out-rows = lent; put-rows = lent; list = t .bounded .list }; held = a .held }
+
+  module _ {mid : List ℕ} (m : Settled n rows rows k c legs mid) where
+    pub ends-asks : EndsAsked n rows rows k c mid
+    ends-asks =
+        let lent = rows-lent (a .legs .lengths) (a .in-rows) in
+        record { lent = record { few = a .legs .lengths .few; out-rows = lent; put-rows = lent }; held = a .held; centre = a .legs .centre; list = m .list }
+
+    pub settled-split : {left : List ℕ} → EndsTold n rows rows k c mid left → SplitOf openMark n table marks k c left bound
+    unfolding legOf
+    settled-split s = record {
+      bounded = record { list = s .list; tight = t .bounded .tight };
+      prepared = record {
+        each = λ x p.
+            s .each table table (a .in-rows) (a .in-rows)
+            (λ (z : ℕ). settled? (lengthOf n table) (lengthOf n table) (edgeList k) c z && leg? (lengthOf n table) (openIn n marks) (edgeList k) c z)
+            (m .each table table (a .in-rows) (a .in-rows) (leg? (lengthOf n table) (openIn n marks) (edgeList k) c) (t .taken .each))
+            x p
+            ∙ ap (λ (b : Bool). cond b (lengthOf n table c x) far) (leg-both (lengthOf n table) (openIn n marks) (edgeList k) c x);
+        least = t .taken .least;
+      };
     }
 
 -- K = {ab}, by the rows of c, a and b alone
@@ -276,7 +325,18 @@ module _ {n : ℕ} {table marks : List ℕ} {k : EdgeSet} {c : ℕ} (g : SingleA
 
   pub single-split : {legs : List ℕ} {bound : ℕ} → EdgeLegs n table marks (getD (k .from) 0 0) (getD (k .to) 0 0) c legs
       → bound ≡ boundOf (lengthOf n table) (edge (getD (k .from) 0 0) (getD (k .to) 0 0) ∷ []) c → SplitOf pendingMark n table marks k c legs bound
+  unfolding legOf candidateLeg?
   single-split {legs} {bound} l b = record {
     bounded = record { list = l .list; tight = omega (arith, b, single-tight) };
-    prepared = subst (λ (K : List Edge). Prepared n (lengthOf n table) (unstruckIn n marks) K c legs bound) (sym single-list) (record { each = l .each; least = b });
+    prepared = subst (λ (K : List Edge). Prepared n (lengthOf n table) (unstruckIn n marks) K c legs bound) (sym single-list) (record { each = single-each; least = b });
   }
+    where
+      single-each : LegsBy n (lengthOf n table) c (λ (x : ℕ). leg? (lengthOf n table) (unstruckIn n marks) (edge (getD (k .from) 0 0) (getD (k .to) 0 0) ∷ []) c x && (settled? (lengthOf n table) (lengthOf n table) (edge (getD (k .from) 0 0) (getD (k .to) 0 0) ∷ []) c x && endStays? (lengthOf n table) (lengthOf n table) (edge (getD (k .from) 0 0) (getD (k .to) 0 0) ∷ []) c x)) legs
+      single-each x p =
+          let K = edge (getD (k .from) 0 0) (getD (k .to) 0 0) ∷ [] in
+          let both : settled? (lengthOf n table) (lengthOf n table) K c x && endStays? (lengthOf n table) (lengthOf n table) K c x ≡ true =
+          and-both (settled? (lengthOf n table) (lengthOf n table) K c x) (endStays? (lengthOf n table) (lengthOf n table) K c x)
+          (single-settled (lengthOf n table) (lengthOf n table) (getD (k .from) 0 0) (getD (k .to) 0 0) c x) (single-end (lengthOf n table) (lengthOf n table) (getD (k .from) 0 0) (getD (k .to) 0 0) c x) in
+          let e : leg? (lengthOf n table) (unstruckIn n marks) K c x && (settled? (lengthOf n table) (lengthOf n table) K c x && endStays? (lengthOf n table) (lengthOf n table) K c x) ≡ leg? (lengthOf n table) (unstruckIn n marks) K c x =
+          ap (λ (b : Bool). leg? (lengthOf n table) (unstruckIn n marks) K c x && b) both ∙ and-yes (leg? (lengthOf n table) (unstruckIn n marks) K c x) in
+          l .each x p ∙ ap (λ (b : Bool). cond b (lengthOf n table c x) far) (sym e)

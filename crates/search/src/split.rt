@@ -2,8 +2,12 @@
 use lengths::edge;
 use lengths::instance::Instance;
 use lengths::rows::fill_row;
+use lengths::rows::length_in;
+use lengths::rows::row_start;
 use lengths::table::length_between;
 use marks::mark;
+use or_opt::ends::settle_ends;
+use or_opt::settled::settle_all;
 use rules::bound;
 use rules::bound::tighten;
 use rules::legs;
@@ -13,10 +17,10 @@ use sets::edge_set::EdgeSet;
 ghost use Prim.Native.Nat.{_+_, _*_, _<_};
 ghost use mathlib.Core.Path.{_≡_};
 ghost use mathlib.Core.List.{[], _∷_};
-ghost use lib.ListN.{length, getD, replicate};
+ghost use lib.ListN.{replicate};
 ghost use Rattle.endian.specs.Bytes.{whole32};
 ghost use Rattle.rules.specs.asks.Legs.{far};
-ghost use Rattle.search.specs.asks.Split.{TakeAsked, TakenIn, TriangleAsked, TriangleIn, SingleAsked, SplitAsked, SplitOf, EdgeAsked, EdgeRowsAsked, EdgeRows, EdgeTriangle, EdgeLegsAsked, EdgeLegs};
+ghost use Rattle.search.specs.asks.Split.{TakeAsked, TakenIn, TriangleAsked, TriangleIn, SingleAsked, SplitAsked, AllTaken, SplitOf, EdgeAsked, EdgeRowsAsked, EdgeRows, EdgeTriangle, EdgeLegsAsked, EdgeLegs};
 ghost use Rattle.rules.specs.asks.Bound.{boundOf};
 ghost use Rattle.lengths.specs.Edge.{edge};
 ghost use Rattle.lengths.specs.Instance.{pointPlaces};
@@ -24,8 +28,8 @@ ghost use Rattle.lengths.specs.Table.{lengthOf};
 ghost use Rattle.marks.specs.Mark.{openMark, pendingMark};
 ghost use Rattle.marks.specs.Packed.{marksOf};
 
-// legs[x] is the length from the split point c to x where cx is open and compatible with every edge of K, else FAR.
-// A pair x, y meets conditions 1, 4 and 5 exactly when legs[x] + legs[y] + MOST_LENGTH is at most l(xy) + bound.
+// legs[x] is the length from the split point c to x where cx is open and compatible with every edge of K, no point of degree two of K moves
+// between c and x, and x itself stays; else FAR. A pair x, y meets conditions 1, 4 and 5 exactly when legs[x] + legs[y] + MOST_LENGTH is at most l(xy) + bound.
 pub struct Split {
     pub legs: [u32; Instance::PLACES],
     pub bound: u32,
@@ -38,21 +42,6 @@ struct Triangle {
     pq: u32,
     cp: u32,
     cq: u32,
-}
-
-// Where the row of v begins among the rows of all points.
-fn row_start(n: u16, v: u16) -> usize
-    ensures { λ r. ⌜ r ≡ (n + 1) * v ⌝ }
-{
-    (n as usize + 1) * v as usize
-}
-
-// The length to x by the row that begins at `at`.
-fn length_in(rows: &[u32], at: usize, x: u16) -> u32
-    requires { ⌜ at + x < length (now rows) ⌝ }
-    ensures { λ r. ⌜ r ≡ getD (now (rows .entry)) (at + x) 0 ⌝ }
-{
-    rows[at + x as usize]
 }
 
 // The triangle of c and the edge pq, by the rows of all points.
@@ -100,8 +89,36 @@ fn take_in(
     tighten(c, u, v, t.pq, t.cp, t.cq, bound)
 }
 
-// What the search looks up for k at c within a sheet, to which a pending edge is struck: writes the legs, which are all FAR when lent, and answers the bound.
+// Takes all edges of k into the legs, which are all FAR when lent, within a sheet, to which a pending edge is struck; and answers the bound.
 // The table is there to name the lengths: the rows hold them.
+fn take_in_all(
+    n: u16,
+    table: &[u8],
+    rows: &[u32],
+    marks: &[u8],
+    k: EdgeSet,
+    c: u16,
+    legs: &mut [u32; Instance::PLACES],
+) -> u32
+    requires { ⌜ SplitAsked n (whole32 (now table)) (now rows) (marksOf n (now marks)) k c ⌝ }
+    requires { ⌜ now legs ≡ replicate pointPlaces far ⌝ }
+    ensures { λ r. ⌜ AllTaken n (whole32 (now (table .entry))) (marksOf n (now (marks .entry))) k c (now (legs .exit)) r ⌝ }
+{
+    let from = k.from;
+    let to = k.to;
+    let count = k.count;
+    let at = row_start(n, c);
+    open_legs(n, marks, mark::OPEN, c, rows, at, legs);
+    let mut bound = bound::LOOSE;
+    let mut i = 0;
+    while i < count {
+        bound = take_in(n, table, rows, c, from[i], to[i], legs, bound);
+        i += 1;
+    }
+    bound
+}
+
+// What the search looks up for k at c within a sheet: writes the legs, which are all FAR when lent, and answers the bound.
 pub fn prepare(
     n: u16,
     table: &[u8],
@@ -115,17 +132,9 @@ pub fn prepare(
     requires { ⌜ now legs ≡ replicate pointPlaces far ⌝ }
     ensures { λ r. ⌜ SplitOf openMark n (whole32 (now (table .entry))) (marksOf n (now (marks .entry))) k c (now (legs .exit)) r ⌝ }
 {
-    let from = k.from;
-    let to = k.to;
-    let count = k.count;
-    let at = row_start(n, c);
-    open_legs(n, marks, mark::OPEN, c, rows, at, legs);
-    let mut bound = bound::LOOSE;
-    let mut i = 0;
-    while i < count {
-        bound = take_in(n, table, rows, c, from[i], to[i], legs, bound);
-        i += 1;
-    }
+    let bound = take_in_all(n, table, rows, marks, k, c, legs);
+    settle_all(n, rows, rows, k, c, legs);
+    settle_ends(n, rows, rows, k, c, legs);
     bound
 }
 

@@ -6,8 +6,8 @@ ghost use Rattle.sets.specs.asks.Stored.{mostKnown, edgeList, Stored, Si
 
 // The i-th edge taken in joins from[i] and to[i], for i below count. An edge may stand twice.
 pub struct EdgeSet {
-    pub from: [u16; EdgeSet::MOST],
-    pub to: [u16; EdgeSet::MOST],
+    pub from: [u16; EdgeSet::PLACES],
+    pub to: [u16; EdgeSet::PLACES],
     pub count: usize,
 }
 
@@ -27,16 +27,17 @@ fn joins(p: u16, q: u16, a: u16, b: u16) -> bool
 }
 
 impl EdgeSet {
-    // The most edges that a set holds: the edge to be struck, and two for each of six splits.
-    pub const MOST: usize = 1 + 2 * 6;
+    // The places of its arrays. A set holds 13 edges at most, the edge to be struck and two for each of six splits;
+    // 32 bytes are copied in two halves that do not overlap, which is faster than 26.
+    pub const PLACES: usize = 16;
 
     // The set of the one edge ab.
     pub fn single(a: u16, b: u16) -> EdgeSet
         ensures { λ r. ⌜ Single a b r ⌝ }
     {
         EdgeSet {
-            from: [a; EdgeSet::MOST],
-            to: [b; EdgeSet::MOST],
+            from: [a; EdgeSet::PLACES],
+            to: [b; EdgeSet::PLACES],
             count: 1,
         }
     }

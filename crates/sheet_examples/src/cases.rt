@@ -4,6 +4,7 @@ use crate::handing::five;
 use crate::handing::four;
 use crate::handing::one;
 use crate::handing::refused;
+use crate::handing::six;
 use crate::handing::struck;
 use crate::handing::under;
 use answers::data::begin;
@@ -116,23 +117,23 @@ fn six_splits(t: Tally) -> Tally {
     struck(t, sheet, 56, 0, 0)
 }
 
+// Six points with a 3-opt closing that saves: the lengths 4 4 1 1 3, 4 3 4 2, 3 1 3, 6 5 and 2, each as two numbers of 16 bits.
+fn six_points() -> [u8; 112] {
+    let table = begin([4, 0, 4, 0, 1, 0, 1, 0]);
+    let table = put(table, 1, [3, 0, 4, 0, 3, 0, 4, 0]);
+    let table = put(table, 2, [2, 0, 3, 0, 1, 0, 3, 0]);
+    put(table, 3, [6, 0, 5, 0, 2, 0, 0, 0])
+}
+
 // Two cases with a split, the second closed by 3-opt.
 fn a_three_opt(t: Tally) -> Tally {
-    let sheet = begin([1, 1, 2, 0, 0, 4, 2, 0]);
-    let sheet = put(sheet, 1, [2, 1, 5, 0, 0, 2, 0, 3]);
+    let sheet = begin([1, 1, 2, 0, 0, 6, 2, 0]);
+    let sheet = put(sheet, 1, [2, 2, 3, 0, 0, 4, 0, 3]);
     let sheet = put(sheet, 2, [2, 2, 5, 0, 0, 3, 4, 0]);
-    let sheet = put(sheet, 3, [3, 1, 5, 3, 5, 1, 4, 0]);
-    text(b"mark, 5 crossed,");
-    five(
-        t,
-        lengths_as_bytes(fixtures::THREE_OPT),
-        sheet,
-        32,
-        0,
-        0,
-        1,
-        [84, 85, 5],
-    )
+    let sheet = put(sheet, 3, [3, 4, 5, 1, 2, 3, 6, 0]);
+    text(b"mark, 6 crossed,");
+    let left = [84, 85, 85, 21];
+    six(t, six_points(), sheet, 32, 0, 0, 1, left)
 }
 
 fn accepted(t: Tally) -> Tally {

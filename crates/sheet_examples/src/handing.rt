@@ -25,17 +25,39 @@ fn sheet_text(sheet: &[u8]) {
 }
 
 // Writes an answer with the first so many bytes of the marks that are left.
-fn answer(number: u64, record: u64, lines: u64, left: [u8; 3], size: usize) {
+fn answer(number: u64, record: u64, lines: u64, left: &[u8], size: usize) {
     figure(b" ", number);
     figure(b" record ", record);
     figure(b" lines ", lines);
     text(b" marks");
-    let m = some_bytes(size, &left);
+    let m = some_bytes(size, left);
     marks(&left[..m]);
 }
 
 // Holds an answer and the marks that are left, of which so many bytes were lent, to what they should be.
 fn hold(
+    t: Tally,
+    got: u64,
+    found: &[u8],
+    size: usize,
+    number: u64,
+    record: u64,
+    lines: u64,
+    left: &[u8],
+) -> Tally {
+    let refusal = got % 256;
+    let at = got / 256 % 65_536;
+    let count = got / 16_777_216;
+    text(b":");
+    answer(refusal, at, count, found, size);
+    text(b", should be");
+    answer(number, record, lines, left, size);
+    let same_marks = same(found, left);
+    t.judged(refusal == number && at == record && count == lines && same_marks)
+}
+
+// The same of up to three bytes of marks.
+fn hold_three(
     t: Tally,
     got: u64,
     found: [u8; 3],
@@ -45,15 +67,20 @@ fn hold(
     lines: u64,
     left: [u8; 3],
 ) -> Tally {
-    let refusal = got % 256;
-    let at = got / 256 % 65_536;
-    let count = got / 16_777_216;
-    text(b":");
-    answer(refusal, at, count, found, size);
-    text(b", should be");
-    answer(number, record, lines, left, size);
-    let same_marks = same(&found, &left);
-    t.judged(refusal == number && at == record && count == lines && same_marks)
+    hold(t, got, &found, size, number, record, lines, &left)
+}
+
+// The same of four.
+fn hold_four(
+    t: Tally,
+    got: u64,
+    found: [u8; 4],
+    number: u64,
+    record: u64,
+    lines: u64,
+    left: [u8; 4],
+) -> Tally {
+    hold(t, got, &found, 4, number, record, lines, &left)
 }
 
 // Writes the operation.
@@ -93,7 +120,7 @@ pub fn hand_in(
     let k = some_bytes(4 * entries as usize, &table);
     let m = some_bytes(bytes, &found);
     let got = ask_or_mark(asks, n, &table[..k], &mut found[..m], sheet);
-    hold(t, got, found, bytes, number, record, lines, left)
+    hold_three(t, got, found, bytes, number, record, lines, left)
 }
 
 // The same with the first so many numbers of a sheet that was made.
@@ -183,6 +210,25 @@ pub fn five(
         lines,
         left,
     )
+}
+
+// The same on six points, whose fifteen lengths are the first sixty bytes of the table and whose marks are four bytes.
+pub fn six(
+    t: Tally,
+    table: [u8; 112],
+    sheet: [u8; 112],
+    size: u32,
+    number: u64,
+    record: u64,
+    lines: u64,
+    left: [u8; 4],
+) -> Tally {
+    let p = some_bytes(2 * size as usize, &sheet);
+    sheet_text(&sheet[..p]);
+    let k = some_bytes(60, &table);
+    let mut found = fixtures::FRESH_6;
+    let got = revosti_mark_sheet(6, &table[..k], &mut found, &sheet[..p]);
+    hold_four(t, got, found, number, record, lines, left)
 }
 
 // A sheet on the square that is refused at its first line: the marks stay fresh.

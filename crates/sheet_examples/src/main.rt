@@ -4,6 +4,7 @@ mod asking;
 mod cases;
 mod fixtures;
 mod handing;
+mod moved;
 mod records;
 mod sheet_checks;
 
@@ -13,6 +14,7 @@ fn main() {
     let t = sheet_checks::run(Tally::new());
     let t = records::run(t);
     let t = cases::run(t);
+    let t = moved::run(t);
     let t = asking::run(t);
     t.print();
 }

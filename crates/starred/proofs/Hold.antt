@@ -1,9 +1,9 @@
 -- Every entry of the table of starred examples holds. For each kind of entry a lemma proves the claim from equations between numbers
 -- or lists, which antt computes: the rules' answers, the lengths, the list of standing pairs, the ends of the centres. Assumes nothing.
-use Prim.Native.Nat.{ℕ, _+_, _≤_, _<_, max}
-use mathlib.Core.Path.{_≡_, refl, sym, _∙_, subst}
-use mathlib.Core.Bool.{false≢true}
-use mathlib.Core.Logic.{_↔_, inl, inr, ⊎-elim}
+use Prim.Native.Nat.{ℕ, zero, suc, _+_, _≤_, _<_, max}
+use mathlib.Core.Path.{_≡_, refl, sym, _∙_, ap, subst}
+use mathlib.Core.Bool.{true, false≢true}
+use mathlib.Core.Logic.{_↔_, _⊎_, inl, inr, ⊎-elim}
 use mathlib.Core.List.{List, [], _∷_, List·Memᴰ, List·Memᴰ·not-nil, List·Memᴰ·cases-cons}
 use native.Mathlib.Omega.{arith}
 use Rattle.lengths.specs.Distance.{squares, distanceBy, gapDistance, bisect, passes}
@@ -15,26 +15,27 @@ use Rattle.lengths.specs.declared.distance.Rule.the-variants.{Man2d, Max2d}
 use Rattle.lengths.specs.Instance.{mostSquares}
 use Rattle.lengths.proofs.Distances.{distance-euc2d, euc2d-only, distance-ceil2d, ceil2d-only, distance-att, att-only, distance-man2d, man2d-only, distance-max2d, max2d-only}
 use Rattle.lengths.proofs.Tables.{length-symmetric}
-use Rattle.sets.specs.EdgeSet.{DegreeTwo}
+use Rattle.sets.specs.EdgeSet.{Has, DegreeTwo, withPair}
 use Rattle.closings.specs.Closing.{ThreeOptMoves}
 use Rattle.closings.specs.ClosingTest.{saves?, labelling?, centresApart?, placed?, settledBy, threeOptOutcome}
 use Rattle.sets.specs.Joined.{joins?, has?}
 use Rattle.marks.specs.Mark.{openUpTo, markAt}
 use Rattle.sets.specs.Neighbours.{withPoint, seen, neighboursOf, bothOf, endsOf, within?, either?, beyond}
 use lib.IntN.{pos}
-use Rattle.lists.specs.Saving.{smaller, larger}
+use Rattle.lists.specs.Saving.{gains?, smaller, larger}
 use Rattle.closings.specs.Closing.{firstSaving, secondSaving, labelSaving, crossingSaving}
 use Rattle.closings.proofs.Savings.{saves-sums}
 use Rattle.rules.proofs.Savings.{compatible-sum, move-sum}
-use Rattle.rules.specs.Pair.{FeasiblePair}
-use Rattle.rules.specs.PairTest.{every, compatible?, leg?, stays?, unmoved?, feasible?}
+use Rattle.rules.specs.Pair.{moveSaving, FeasiblePair}
+use Rattle.rules.specs.PairTest.{every, compatible?, leg?, stays?, unmoved?, joint?, meeting?, apart?, settled?, endAt?, endStays?, candidateLeg?, feasible?}
 use Rattle.rules.specs.Pairs.{keep, feasiblePairs}
 use Rattle.sets.specs.Shape.{shape?, shuts?, reaches?, goesOn}
 use Rattle.closings.specs.declared.closing.ThreeOptOutcome.the-variants.{NoSaving}
 use Rattle.closings.proofs.ClosingExact.{no-saving-exact}
 use Rattle.sets.proofs.Exact.{has-exact, ends-sound, shape-exact, single-shape}
-use Rattle.rules.proofs.PairTests.{compatible-iff, feasiblePairs-iff}
-use Rattle.starred.specs.Table.{Example, distances, incompatible, feasible, compares, saves, unsaved, starred, square, allOpen, eight, centres, Eight, Claim}
+use Rattle.rules.proofs.PairTests.{compatible-iff, feasible-iff, feasiblePairs-iff}
+use Rattle.rules.proofs.Unmoving.{single-unmovable}
+use Rattle.starred.specs.Table.{Example, distances, incompatible, feasible, compares, saves, unsaved, starred, square, allOpen, eight, centres, Eight, Claim, moved, five, fiveOpen, second, by01?}
 
 distances-hold : (dx dy S euc2d ceil2d att man2d max2d : ℕ) → S ≤ mostSquares → squares dx dy ≡ S → distanceBy Euc2d S ≡ euc2d → distanceBy Ceil2d S ≡ ceil2d
     → distanceBy Att S ≡ att → gapDistance Man2d dx dy ≡ man2d → gapDistance Max2d dx dy ≡ max2d → Claim (distances dx dy S euc2d ceil2d att man2d max2d)
@@ -60,7 +61,8 @@ feasible-hold : (a b c : ℕ) (pairs : List Edge) → (a ≡ b → ⊥) → feas
 unfolding square
 feasible-hold a b c pairs apart e x y =
     let r = feasiblePairs-iff square (length-symmetric 4 _) 4 allOpen (edge a b ∷ []) c x y
-    (λ xc yc e. shape-exact 4 (edge a b ∷ []) c x y (single-shape 4 a b apart) (record { x-y = λ q. omega (arith, e .up); x-c = xc; y-c = yc })) in
+    (λ xc yc e. shape-exact 4 (edge a b ∷ []) c x y (single-shape 4 a b apart) (record { x-y = λ q. omega (arith, e .up); x-c = xc; y-c = yc }))
+    (single-unmovable square square a b) in
     subst (λ (es : List Edge). List·Memᴰ (edge x y) es ↔ FeasiblePair 4 square square allOpen (edge a b ∷ []) c x y) e r
 
 -- the ends of a centre, named the other way round
@@ -123,6 +125,40 @@ unsaved-hold rs h e =
       no-saving-exact (eight rs) centres 1 2 3 4 .0 e .unsettled,
     )
 
+-- the first pair is feasible by its test; the second is not, since 1 lies between 2 and 3 and would lie better between 4 and 5
+moved-hold : (saved : ℕ) → 1 ≤ saved → feasible? 5 five fiveOpen (edge 1 2 ∷ []) 1 2 3 ≡ true → by01? second 4 3 5 ≡ true → moveSaving five five 1 2 3 4 5 ≡ pos saved → Claim (moved saved)
+unfolding five second withPair gains?
+moved-hold (suc d) h first old gain = (
+  feasible-iff five (length-symmetric 5 _) 5 fiveOpen (edge 1 2 ∷ []) 1 2 3 (record { low = omega arith; up = omega arith; high = omega arith })
+      (λ xc yc. shape-exact 5 (edge 1 2 ∷ []) 1 2 3 (single-shape 5 1 2 (λ e. omega arith)) (record { x-y = λ e. omega arith; x-c = xc; y-c = yc }))
+      (single-unmovable five five 1 2) .0 first,
+  old,
+  gain,
+  λ f. f .five 1 2 3 4 5 between (inr (inl (inl (refl, refl)))) (λ e. omega arith) (λ e. omega arith) (ap gains? gain),
+)
+  where
+    between : DegreeTwo (edge 4 3 ∷ edge 4 5 ∷ edge 1 2 ∷ edge 1 3 ∷ edge 1 2 ∷ []) 1 2 3
+    between = record {
+      apart = λ e. omega arith;
+      has-x = inr (inr (inl (inl (refl, refl))));
+      has-y = inr (inr (inr (inl (inl (refl, refl)))));
+      only = λ v g. only v g;
+    }
+      where
+        only : (v : ℕ) → Has (edge 4 3 ∷ edge 4 5 ∷ edge 1 2 ∷ edge 1 3 ∷ edge 1 2 ∷ []) 1 v → (v ≡ 2) ⊎ (v ≡ 3)
+        only v (inl (inl e)) = absurd (omega (arith, e .0))
+        only v (inl (inr e)) = absurd (omega (arith, e .1))
+        only v (inr (inl (inl e))) = absurd (omega (arith, e .0))
+        only v (inr (inl (inr e))) = absurd (omega (arith, e .1))
+        only v (inr (inr (inl (inl e)))) = inl (sym (e .1))
+        only v (inr (inr (inl (inr e)))) = absurd (omega (arith, e .1))
+        only v (inr (inr (inr (inl (inl e))))) = inr (sym (e .1))
+        only v (inr (inr (inr (inl (inr e))))) = absurd (omega (arith, e .1))
+        only v (inr (inr (inr (inr (inl (inl e)))))) = inl (sym (e .1))
+        only v (inr (inr (inr (inr (inl (inr e)))))) = absurd (omega (arith, e .1))
+        only v (inr (inr (inr (inr (inr e))))) = absurd e
+moved-hold zero h first old gain = absurd (omega arith)
+
 -- a proof of each entry's claim
 infixr 67 _&_
 data Proved : List Example → Type 0 where
@@ -135,8 +171,8 @@ each (d ∷ es) (h & hs) e m = ⊎-elim (λ q. subst (λ (x : Example). Claim x)
 
 -- the square's numbers, the standing pairs and the 3-opt closing's answer are computed
 proved : Proved starred
-unfolding starred distanceBy bisect passes square allOpen eight centres lengthOf measuredTable edgeDistance gapDistance squares xOf yOf xGap yGap gapOf
-    edgeCount place placeUp tri edges rows row openUpTo markAt feasiblePairs keep feasible? leg? unmoved? stays? every compatible? shape? shuts? reaches? goesOn
+unfolding starred distanceBy bisect passes square allOpen five fiveOpen second by01? withPair moveSaving eight centres lengthOf measuredTable edgeDistance gapDistance squares xOf yOf xGap yGap gapOf
+    edgeCount place placeUp tri edges rows row openUpTo markAt feasiblePairs keep feasible? candidateLeg? leg? settled? apart? meeting? joint? unmoved? endStays? endAt? stays? every compatible? shape? shuts? reaches? goesOn
     neighboursOf seen withPoint within? either? beyond threeOptOutcome placed? has? joins? centresApart? endsOf bothOf settledBy labelling? saves? crossingSaving labelSaving firstSaving secondSaving smaller larger
 proved =
     distances-hold 1 1 2 1 2 1 2 1 (omega arith) refl refl refl refl refl refl &
@@ -152,6 +188,7 @@ proved =
     feasible-hold 1 3 2 [] (λ e. omega arith) refl &
     saves-hold 9 3 (omega arith) refl refl &
     unsaved-hold 12 (omega arith) refl &
+    moved-hold 4 (omega arith) refl refl refl &
     done
 
 pub starred-hold : (e : Example) → List·Memᴰ e starred → Claim e

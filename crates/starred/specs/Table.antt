@@ -2,7 +2,7 @@
 -- order, and `Claim` says what an entry claims, of the definitions that 01's sentences are stated by.
 use Prim.Native.Nat.{ℕ, _+_, max}
 use mathlib.Core.Path.{_≡_}
-use mathlib.Core.Bool.{Bool}
+use mathlib.Core.Bool.{Bool, true, _&&_}
 use mathlib.Core.Logic.{_↔_}
 use mathlib.Core.List.{List, [], _∷_}
 use lib.ListN.{replicate}
@@ -15,7 +15,10 @@ use Rattle.lengths.specs.declared.distance.Rule.the-variants.{Rooted}
 use Rattle.closings.specs.Closing.{crossingSaving, Saves, ThreeOptMoves, Closes}
 use Rattle.marks.specs.Mark.{openIn}
 use lib.IntN.{pos}
-use Rattle.rules.specs.Pair.{Compatible, MoveSaves, FeasiblePair}
+use Rattle.rules.specs.Pair.{moveSaving, Compatible, MoveSaves, FeasiblePair}
+use Rattle.rules.specs.PairTest.{leg?, unmoved?}
+use Rattle.sets.specs.EdgeSet.{withPair}
+use Rattle.sets.specs.Shape.{shape?}
 use Rattle.sets.specs.Rising.{Among}
 
 pub data Example : Type 0 where
@@ -33,8 +36,11 @@ pub data Example : Type 0 where
   saves : (rs taken put difference : ℕ) → Example
   -- 3-opt closing with rs of this length: no labelling saves
   unsaved : (rs : ℕ) → Example
+  -- the square with the point 5 (0,5), split 4 after the pair 2, 3 at 1 under {12}: by 01's test 5 the pair 3, 5 would stand, but moving 1 from between 2 and 3 to between 4 and 5
+  -- saves so much, so it does not (02, Paper 7)
+  moved : (saved : ℕ) → Example
 
--- 01's stars in its order; the sums of test 5 belong to the standing pair before them
+-- 01's stars in its order, and one example more; the sums of test 5 belong to the standing pair before them
 unfoldable pub starred : List Example
 starred =
     distances 1 1 2 1 2 1 2 1 ∷
@@ -50,6 +56,7 @@ starred =
     feasible 1 3 2 [] ∷
     saves 9 30 27 3 ∷
     unsaved 12 ∷
+    moved 4 ∷
     []
 
 -- the rule gives d: d satisfies it, and no other number does
@@ -64,6 +71,21 @@ square = lengthOf 4 (measuredTable (Rooted Euc2d) (0 ∷ 0 ∷ 10 ∷ 0 ∷ 10 �
 -- its fresh marks
 unfoldable pub allOpen : ℕ → ℕ → Bool
 allOpen = openIn 4 (replicate (edgeCount 4) 1)
+
+-- the square with 5 (0,5), and its fresh marks
+unfoldable pub five : ℕ → ℕ → ℕ
+five = lengthOf 5 (measuredTable (Rooted Euc2d) (0 ∷ 0 ∷ 10 ∷ 0 ∷ 10 ∷ 10 ∷ 0 ∷ 10 ∷ 0 ∷ 5 ∷ []) 5)
+
+unfoldable pub fiveOpen : ℕ → ℕ → Bool
+fiveOpen = openIn 5 (replicate (edgeCount 5) 1)
+
+-- K after the pair 2, 3 at 1 under {12}
+unfoldable pub second : List Edge
+second = withPair (edge 1 2 ∷ []) 1 2 3
+
+-- the pair x, y meets conditions 1 to 4 at c under K, and 01's condition 5, which moves the split point alone
+unfoldable pub by01? : List Edge → (c x y : ℕ) → Bool
+by01? K c x y = leg? five fiveOpen K c x && (leg? five fiveOpen K c y && (unmoved? five five K c x y && shape? 5 K c x y))
 
 -- the lengths among the 3-opt closing's points p, q, r, s, x, y, z, w, which are 1 to 8: `Eight` says which they are
 unfoldable pub eight : ℕ → ℕ → ℕ → ℕ
@@ -135,3 +157,8 @@ Claim (saves rs taken put difference) =
     × (crossingSaving (eight rs) (eight rs) 1 2 3 4 5 6 7 8 ≡ pos difference)
     × Closes (eight rs) (eight rs) centres 1 2 3 4
 Claim (unsaved rs) = Given rs × NoneSaves (eight rs) 1 2 3 4 5 6 7 8 × (Closes (eight rs) (eight rs) centres 1 2 3 4 → ⊥)
+Claim (moved saved) =
+    FeasiblePair 5 five five fiveOpen (edge 1 2 ∷ []) 1 2 3
+    × (by01? second 4 3 5 ≡ true)
+    × (moveSaving five five 1 2 3 4 5 ≡ pos saved)
+    × (FeasiblePair 5 five five fiveOpen second 4 3 5 → ⊥)

@@ -11,7 +11,6 @@ use Rattle.lengths.specs.Instance.{mostLength, mostPoints, pointPlaces}
 use Rattle.rules.specs.PairTest.{leg?}
 use Rattle.marks.specs.Mark.{opens, openUpTo}
 use Rattle.marks.specs.Packed.{quarter}
-use Rattle.rules.specs.asks.Bound.{Short}
 
 -- more than any pair may cost
 abbrev pub far : ℕ
@@ -33,6 +32,10 @@ narrowedBy m both one other = cond (leb both (max one other)) m far
 abbrev pub LegsOf : ℕ → (ℕ → ℕ → ℕ) → (ℕ → ℕ → Bool) → List Edge → ℕ → List ℕ → Type 0
 LegsOf n l open? K c legs = (x : ℕ) → Point n x → getD legs x 0 ≡ legOf l open? K c x
 
+-- the legs are the lengths to the points of 1 to n that pass a test, and far for the others
+abbrev pub LegsBy : ℕ → (ℕ → ℕ → ℕ) → ℕ → (test : ℕ → Bool) → List ℕ → Type 0
+LegsBy n l c test legs = (x : ℕ) → Point n x → getD legs x 0 ≡ cond (test x) (l c x) far
+
 -- an array of legs: a place for each point and for 0, none above far
 pub record LegList (legs : List ℕ) : Type 0 where
   pub size : length legs ≡ pointPlaces
@@ -42,6 +45,10 @@ pub record LegList (legs : List ℕ) : Type 0 where
 pub record RowLent (n : ℕ) (rows : List ℕ) (at : ℕ) : Type 0 where
   pub room : at + n < length rows
   pub small : (x : ℕ) → Point n x → getD rows (at + x) 0 ≤ mostLength
+
+-- the rows of all points do, n + 1 numbers for each
+pub record RowsLent (n : ℕ) (rows : List ℕ) : Type 0 where
+  pub row : (v : ℕ) → Point n v → RowLent n rows ((n + 1) * v)
 
 -- the lengths to the points by the row that stands at `at`
 unfoldable pub rowOf : List ℕ → ℕ → ℕ → ℕ → ℕ
@@ -115,13 +122,19 @@ pub record OpenLegs (most n : ℕ) (marks rows : List ℕ) (c at : ℕ) (legs : 
   pub list : LegList legs
   pub each : LegsOf n (rowOf rows at) (openUpTo most n marks) [] c legs
 
+-- three numbers that are a length or the sum of two
+pub record Sums (pq cp cq : ℕ) : Type 0 where
+  pub first : pq ≤ 2 * mostLength
+  pub second : cp ≤ 2 * mostLength
+  pub third : cq ≤ 2 * mostLength
+
 -- what taking pq into all legs is asked about: the rows of p and q, which begin at ps and qs, and the lengths pq, cp and cq
 pub record NarrowAsked (n : ℕ) (rows legs : List ℕ) (ps qs pq cp cq : ℕ) : Type 0 where
   pub few : n ≤ mostPoints
   pub list : LegList legs
   pub row-p : RowLent n rows ps
   pub row-q : RowLent n rows qs
-  pub short : Short pq cp cq
+  pub sums : Sums pq cp cq
 
 -- what `narrow` leaves: the legs with pq taken in
 pub record Narrowed (n : ℕ) (rows legs : List ℕ) (ps qs pq cp cq : ℕ) (r : List ℕ) : Type 0 where

@@ -8,16 +8,22 @@ use Rattle.lengths.specs.Edge.{Edge, edge, Point, edgeCount}
 use Rattle.lengths.specs.Instance.{pointPlaces}
 use Rattle.lengths.specs.asks.Rows.{RowAt, Rows}
 use Rattle.lengths.specs.Table.{lengthOf, Lengths}
-use Rattle.marks.specs.Mark.{openUpTo, unstruckIn}
+use Rattle.marks.specs.Mark.{openUpTo, openIn, unstruckIn}
 use Rattle.sets.specs.asks.Stored.{edgeList, Held}
 use Rattle.sets.specs.declared.edge_set.EdgeSet.{EdgeSet}
 use Rattle.search.specs.declared.split.Triangle.{Triangle}
-use Rattle.rules.specs.asks.Legs.{LegList, LegsOf}
+use Rattle.rules.specs.PairTest.{candidateLeg?}
+use Rattle.rules.specs.asks.Legs.{LegList, LegsOf, LegsBy}
 use Rattle.rules.specs.asks.Bound.{boundOf, loose, tightened}
 
--- the legs and the bound are those of K at c
-pub record Prepared (n : ℕ) (l : ℕ → ℕ → ℕ) (open? : ℕ → ℕ → Bool) (K : List Edge) (c : ℕ) (legs : List ℕ) (bound : ℕ) : Type 0 where
+-- the edges of K are taken in: the legs are those of K as far as each of its edges goes, and the bound is that of K
+pub record TakenOf (n : ℕ) (l : ℕ → ℕ → ℕ) (open? : ℕ → ℕ → Bool) (K : List Edge) (c : ℕ) (legs : List ℕ) (bound : ℕ) : Type 0 where
   pub each : LegsOf n l open? K c legs
+  pub least : bound ≡ boundOf l K c
+
+-- the legs and the bound are those of K at c, its points of degree two taken in too
+pub record Prepared (n : ℕ) (l : ℕ → ℕ → ℕ) (open? : ℕ → ℕ → Bool) (K : List Edge) (c : ℕ) (legs : List ℕ) (bound : ℕ) : Type 0 where
+  pub each : LegsBy n l c (candidateLeg? l open? K c) legs
   pub least : bound ≡ boundOf l K c
 
 -- such an array, and a bound that is at most that of no edge
@@ -106,6 +112,11 @@ pub record SingleAsked (n : ℕ) (table marks : List ℕ) (k : EdgeSet) (c : ℕ
   pub legs : LegsAsked n table marks c
   pub held : Held n k
   pub one : k .count ≡ 1
+
+-- what `take_in_all` answers, with open edges
+pub record AllTaken (n : ℕ) (table marks : List ℕ) (k : EdgeSet) (c : ℕ) (legs : List ℕ) (bound : ℕ) : Type 0 where
+  pub bounded : Bounded legs bound
+  pub taken : TakenOf n (lengthOf n table) (openIn n marks) (edgeList k) c legs bound
 
 -- what `prepare` (with open) and `prepare_single` (with pending) answer: marks up to `most` count as open
 pub record SplitOf (most n : ℕ) (table marks : List ℕ) (k : EdgeSet) (c : ℕ) (legs : List ℕ) (bound : ℕ) : Type 0 where

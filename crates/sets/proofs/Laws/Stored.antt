@@ -15,7 +15,7 @@ use Rattle.lengths.specs.Edge.{Edge, edge, Point}
 use Rattle.sets.specs.EdgeSet.{Has, withPair}
 use Rattle.sets.specs.Joined.{joins?, has?}
 use Rattle.sets.specs.Neighbours.{neighboursOf, seen}
-use Rattle.sets.specs.asks.Stored.{edgesOf, edgeList, Stored, Held, Added, Single, mostKnown}
+use Rattle.sets.specs.asks.Stored.{edgesOf, edgeList, Stored, Held, Added, Single, mostKnown, knownPlaces}
 use Rattle.sets.specs.declared.edge_set.EdgeSet.{EdgeSet}
 
 -- one edge more
@@ -138,7 +138,7 @@ added k c x y s h =
 
 -- the set of one edge
 abbrev pub lone : ℕ → ℕ → EdgeSet
-lone a b = record { from = replicate mostKnown a; to = replicate mostKnown b; count = 1 }
+lone a b = record { from = replicate knownPlaces a; to = replicate knownPlaces b; count = 1 }
 
 pub single : (a b : ℕ) → Single a b (lone a b)
 unfolding edgeList edgesOf
@@ -152,8 +152,8 @@ single a b =
             stored = st;
             points =
                 record {
-                  from-point = λ i h. subst⁻¹ (Point n) (getD-replicate mostKnown i a 0 (omega arith)) pa;
-                  to-point = λ i h. subst⁻¹ (Point n) (getD-replicate mostKnown i b 0 (omega arith)) pb;
+                  from-point = λ i h. subst⁻¹ (Point n) (getD-replicate knownPlaces i a 0 (omega arith)) pa;
+                  to-point = λ i h. subst⁻¹ (Point n) (getD-replicate knownPlaces i b 0 (omega arith)) pb;
                 };
           };
     }

@@ -12,6 +12,10 @@ use Rattle.sets.specs.declared.edge_set.EdgeSet.{EdgeSet}
 abbrev pub mostKnown : ℕ
 mostKnown = 1 + 2 * 6
 
+-- the places of the arrays that hold them
+abbrev pub knownPlaces : ℕ
+knownPlaces = 16
+
 -- the first m stored edges as a list, the last one in first
 unfoldable pub edgesOf : List ℕ → List ℕ → ℕ → List Edge
 edgesOf f t zero = []
@@ -23,8 +27,8 @@ edgeList k = edgesOf (k .from) (k .to) (k .count)
 
 -- the arrays have their places, and the edges fit in
 pub record Stored (k : EdgeSet) : Type 0 where
-  pub from-size : length (k .from) ≡ mostKnown
-  pub to-size : length (k .to) ≡ mostKnown
+  pub from-size : length (k .from) ≡ knownPlaces
+  pub to-size : length (k .to) ≡ knownPlaces
   pub few : k .count ≤ mostKnown
 
 -- every stored point is one of 1 to n

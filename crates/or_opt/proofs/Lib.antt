@@ -1,0 +1,2 @@
+pub mod EndMoves
+pub mod SettledLegs

@@ -1,0 +1,47 @@
+-- `or_opt::ends::settle_end` meets its contract: each way out has its lemma in `EndMoves`. Assumes nothing.
+use borrow.Author.Tests.{not-true, not-false}
+use Rattle.or_opt.proofs.EndMoves.{leg-joined, leg-far, leg-stays, leg-lost}
+use borrow.Author.Needs.{needs}
+use Rattle.or_opt.proofs.ends.settle_end.Statement.{statement}
+use Rattle.or_opt.proofs.ends.settle_end.Tie as tie
+
+returns : tie.Need-returns
+returns c = leg-joined (c .before .before .before .pre) (c .if1 .taken)
+
+mul-if2 : tie.Need-mul-if2
+mul-if2 c = search needs
+
+element-copy-out-if2 : tie.Need-element-copy-out-if2
+element-copy-out-if2 c = search needs
+
+returns-2 : tie.Need-returns-2
+returns-2 c = leg-far (c .before .before .before .before .before .pre) (c .if2 .taken)
+
+end-stays-requires : tie.Need-end-stays-requires
+end-stays-requires c κs = search needs
+
+mul-legs : tie.Need-mul-legs
+mul-legs c = search needs
+
+element-write-legs : tie.Need-element-write-legs
+element-write-legs c = search needs
+
+returns-3 : tie.Need-returns-3
+returns-3 c = leg-lost (c .before .before .before .before .before .before .before .pre) (c .before .end-stays .ensures) (c .before .before .before .before .if1 .left) (not-true _ (c .if3 .taken))
+
+returns-4 : tie.Need-returns-4
+returns-4 c = leg-stays (c .before .before .before .before .before .before .before .pre) (c .before .end-stays .ensures) (not-false _ (c .if3 .left))
+
+pub settle-end-spec : {M : Type 1} → statement M
+settle-end-spec =
+    tie.close
+    (tie.spec
+    returns
+    mul-if2
+    element-copy-out-if2
+    returns-2
+    end-stays-requires
+    mul-legs
+    element-write-legs
+    returns-3
+    returns-4)
