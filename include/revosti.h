@@ -202,8 +202,9 @@ int64_t revosti_exchange_saving(uint32_t n, const uint8_t *table, size_t table_l
  *
  *   (l(uv) + l(xc) + l(yc)) - (l(xy) + l(uc) + l(vc)).
  *
- * The edges taken out are x-c, y-c and u-v. For an edge u-v of K that does not touch c, it is above 0 exactly when condition 5 shuts the
- * pair x, y out at the split point c.
+ * The edges taken out are x-c, y-c and u-v. Condition 5 shuts a pair out exactly when this is above 0 for some point c that has two edges,
+ * x-c and y-c, in K with the pair, and some edge u-v of that set that does not touch c. The split point is one such c, with the pair as x
+ * and y.
  */
 int64_t revosti_move_saving(uint32_t n, const uint8_t *table, size_t table_len, uint16_t c, uint16_t x, uint16_t y, uint16_t u, uint16_t v);
 
