@@ -149,6 +149,15 @@ class MarkSheet(Operations):
                 with self.subTest((call, sheet)):
                     self.refused(number, call, N, TABLE, self.marks, sheet, record=record)
 
+    def test_point_of_an_earlier_split_moves(self):
+        table, marks = revosti.measure(5, 1, [*POINTS, (0, 5)]), revosti.fresh_marks(5)
+        for number, saving, move, sheet in (
+                (14, 4, (1, 2, 3, 4, 5), [[1, 1, 2, 0, 0, 3, 2, 0], [2, 1, 4, 0, 0, 4, 3, 0], [3, 3, 5, 3, 5, 3, 5, 0]]),
+                (15, 0, (5, 1, 2, 3, 4), [[1, 2, 3, 0, 0, 5, 2, 0], [2, 1, 2, 0, 0, 3, 3, 0], [3, 2, 4, 2, 4, 2, 4, 0]])):
+            self.assertEqual(revosti.move_saving(5, table, *move), saving)
+            for call in HAND_IN:
+                self.refused(number, call, 5, table, marks, sheet, record=3)
+
     def test_a_refused_sheet_keeps_its_lines(self):
         self.refused(9, revosti.mark_sheet, N, TABLE, self.marks, [[1, 1, 3, 0, 0, 2, 0, 1]], record=1, lines=1)
         self.assertEqual(self.marks, packed([1, 0, 1, 1, 1, 1]))
@@ -168,7 +177,7 @@ class MarkSheet(Operations):
         tour = list(map(int, (ROOT / "docs/board-180.tour").read_text().split(",")))
         table, marks = revosti.measure(parts.n, parts.rule, parts.points), revosti.fresh_marks(parts.n)
         lines = revosti.mark_sheet(parts.n, table, marks, parts.records)
-        self.assertEqual((lines, count(parts.n, marks, revosti.STRUCK)), (1223, 1223))
+        self.assertEqual((lines, count(parts.n, marks, revosti.STRUCK)), (1281, 1281))
         length = sum(table[revosti.place(parts.n, a, b)] for a, b in zip(tour, tour[1:] + tour[:1]))
         self.assertEqual(revosti.check_tour(parts.n, table, marks, tour), (length, True))
 

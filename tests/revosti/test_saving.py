@@ -49,17 +49,17 @@ Not above 0: the two edges are compatible.
     ("move", 3, 1, 4, 1, 2): """
 Moving 3 from between 1 and 4 to between 1 and 2 saves 0.
 Taken out: 1-3, 3-4 and 1-2, 14 + 10 + 10 = 34. Put in: 1-4, 1-3 and 2-3, 10 + 14 + 10 = 34. Saved: 34 - 34 = 0.
-Not above 0: with 1-2 in K, condition 5 does not shut the pair 1-4 out at 3.
+Not above 0: where K with a pair has 1-3, 3-4 and 1-2, this move does not shut the pair out (condition 5).
 """,
     ("move", 3, 1, 4, 3, 2): """
 Moving 3 from between 1 and 4 to between 3 and 2 saves 14.
 Taken out: 1-3, 3-4 and 2-3, 14 + 10 + 10 = 34. Put in: 1-4, 3-3 and 2-3, 10 + 0 + 10 = 20. Saved: 34 - 20 = 14.
-Above 0: but condition 5 asks for a pair of two points, and for an edge of K without 3.
+Above 0: but condition 5 asks for two edges at 3, and for an edge without 3.
 """,
     ("move", 1, 3, 3, 2, 4): """
 Moving 1 from between 3 and 3 to between 2 and 4 saves 22.
 Taken out: 1-3, 1-3 and 2-4, 14 + 14 + 14 = 42. Put in: 3-3, 1-2 and 1-4, 0 + 10 + 10 = 20. Saved: 42 - 20 = 22.
-Above 0: but condition 5 asks for a pair of two points, and for an edge of K without 1.
+Above 0: but condition 5 asks for two edges at 1, and for an edge without 1.
 """,
 }
 
@@ -68,7 +68,7 @@ SAW = Parts(1, 5, [(0, 0), (20, 0), (0, 100), (20, 100), (10, 101)], [], b"")
 SAW_MOVE = """
 Moving 5 from between 1 and 2 to between 4 and 3 saves 182.
 Taken out: 1-5, 2-5 and 3-4, 101 + 101 + 20 = 222. Put in: 1-2, 4-5 and 3-5, 20 + 10 + 10 = 40. Saved: 222 - 40 = 182.
-Above 0: with 3-4 in K, condition 5 shuts the pair 1-2 out at 5.
+Above 0: where K with a pair has 1-5, 2-5 and 3-4, this move shuts the pair out (condition 5).
 """
 
 
@@ -101,7 +101,7 @@ class Told(unittest.TestCase):
 
     def test_crossing_that_does_not_settle(self):
         found = told(pack(SIX).parts, "crossing", 2, 3, 1, 6, 2, 4, 3, 5)
-        self.assertEqual(sentences(found.strip())[0], -5)
+        self.assertEqual(sentences(found.strip())[0], -17)
         self.assertTrue(found.endswith("\nNot above 0: as a crossing of K, it is refused by 16.\n"))
 
 
@@ -223,9 +223,9 @@ class Explain(unittest.TestCase):
         parts = pack(SIX.replace("crossing 1-4, centres 2 6", "crossing 2-3, centres 1 6")).parts
         found, table = self.refused(parts)
         self.assertEqual((found.number, found.record), (16, 4))
-        self.assertEqual(revosti.crossing_saving(6, table, 2, 3, 1, 6, 2, 4, 3, 5), -5)
-        self.assertEqual(self.explained(parts, 4), -5)
-        self.assertIn("saves on both moves.\nIts best labelling saves -5.\n```\n", PAGE)
+        self.assertEqual(revosti.crossing_saving(6, table, 2, 3, 1, 6, 2, 4, 3, 5), -17)
+        self.assertEqual(self.explained(parts, 4), -17)
+        self.assertIn("saves on both moves.\nIts best labelling saves -17.\n```\n", PAGE)
 
     def test_a_crossing_that_saves_is_no_fault(self):
         self.assertIsNone(self.explained(pack(SIX).parts, 4))

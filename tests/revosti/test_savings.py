@@ -10,7 +10,7 @@ from support import N, TABLE
 import revosti
 from revosti.library import library
 from revosti.operations import lend
-from sheetlib.board import Board
+from sheetlib.board import Board, degree, edge, ends, fits_tour
 
 MOST = 2_000_000
 P, Q, R, S, X, Y, Z, W = range(1, 9)
@@ -164,8 +164,21 @@ class Margins(unittest.TestCase):
                     continue
                 for x, y in combinations([k for k in range(1, 7) if k != c], 2):
                     saving = revosti.move_saving(6, table, c, x, y, *e)
-                    self.assertEqual(saving > 0, board.moves({e}, c, x, y))
+                    self.assertEqual(saving > 0, board.movable({e, edge(c, x), edge(c, y)}))
                     seen.add((saving > 0) - (saving < 0))
+        self.assertEqual(seen, {-1, 0, 1})
+
+    def test_condition_5_of_larger_sets(self):
+        r, seen = random.Random(7), set()
+        for board, table in self.boards(6):
+            for _ in range(400):
+                k = set(r.sample(list(combinations(range(1, 7), 2)), r.randint(3, 6)))
+                settled = [w for w in range(1, 7) if degree(k, w) == 2]
+                if not (fits_tour(k, 6) and settled):
+                    continue
+                saving = max(revosti.move_saving(6, table, w, *ends(k, w), *e) for w in settled for e in k if w not in e)
+                self.assertEqual(saving > 0, board.movable(k))
+                seen.add((saving > 0) - (saving < 0))
         self.assertEqual(seen, {-1, 0, 1})
 
 

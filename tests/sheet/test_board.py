@@ -63,6 +63,29 @@ class Standing(unittest.TestCase):
         board = Board(1, SQUARE_POINTS, [(1, 3)])
         self.assertEqual(board.standing({(1, 2)}, 3), [(2, 4)])
 
+    def test_point_of_an_earlier_split_moves(self):
+        board, k = Board(1, [*SQUARE_POINTS, (0, 5)], []), {(1, 2), (1, 3), (3, 4)}
+        self.assertIn((1, 4), board.standing({(1, 2)}, 3))
+        self.assertFalse(any(board.moves(4, 3, 5, *e) for e in ((1, 2), (1, 3))))
+        self.assertTrue(board.moves(1, 2, 3, 4, 5))
+        self.assertEqual(board.standing(k, 4), [])
+
+    def test_ties_stand(self):
+        board = Board(1, [*SQUARE_POINTS, (0, 5)], [])
+        self.assertEqual(board.standing({(2, 3), (1, 5), (2, 5)}, 3), [(2, 4)])  # 5, to between 3 and 4: 26 against 26
+
+    def test_one_edge_asks_the_split_point_alone(self):
+        r, seen = random.Random(4), set()
+        for _ in range(1500):
+            most = r.choice((3, 10, 1000))
+            board = Board(1, [(r.randint(0, most), r.randint(0, most)) for _ in range(6)], [])
+            a, b, c = r.sample(range(1, 7), 3)
+            x, y = r.sample([p for p in range(1, 7) if p != c], 2)
+            moved = board.moves(c, x, y, a, b)
+            self.assertEqual(board.movable({edge(a, b), edge(c, x), edge(c, y)}), moved)
+            seen.add((moved, len({a, b} & {x, y})))
+        self.assertTrue(seen >= {(True, 0), (True, 1), (False, 0), (False, 1), (False, 2)})
+
     def test_tours_hold_what_fits(self):
         r, every = random.Random(2), list(combinations(range(1, 7), 2))
         for _ in range(150):

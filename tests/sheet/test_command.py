@@ -65,7 +65,7 @@ class Command(unittest.TestCase):
             self.assertIn("usage: sheet", run.err)
 
     def test_numbers(self):
-        self.assertIn("# 77", Run("unpack", "-n", data=Run("pack", NINE).out).text)
+        self.assertIn("# 71", Run("unpack", "-n", data=Run("pack", NINE).out).text)
 
     def test_byte_order_mark_and_other_letters_in_comments(self):
         text = b"\xef\xbb\xbf# br\xc3\xbccke \xff\n" + TEXT.encode()

@@ -3,7 +3,7 @@
 import re
 import unittest
 
-from support import NINE, SQUARE_HEAD, SQUARE_RECORDS, STANDIN, Run, binary, fake
+from support import NINE, SQUARE_HEAD, SQUARE_RECORDS, STANDIN, TOOLS, Run, binary, fake
 
 from revosti.refusal import REFUSALS
 from sheetlib.answer import NoAnswer, understand
@@ -153,6 +153,12 @@ class DuePairs(unittest.TestCase):
     def test_pair_too_many(self):
         shown = marked(binary([(1, 1, 3, 0, 0, 2, 2, 0), (3, 1, 4, 1, 3, 2, 4, 0)]))
         self.assertIn("No pair is due any more: the chain has named all standing pairs.", shown)
+
+    def test_pair_that_a_moved_point_shuts_out(self):
+        shown = marked((TOOLS.parent / "examples/point_moved.bin").read_bytes())
+        self.assertIn("Refused, number 14", shown)
+        self.assertIn("No pair is due any more: the chain has named all standing pairs.", shown)
+        self.assertIn(">     3      pair 3-5: crossing", shown)
 
     def test_no_guess_after_a_pair_that_does_not_stand(self):
         cases = [(1, 1, 2, 0, 0, 3, 2, 0), (2, 2, 3, 0, 0, 4, 0, 3), (2, 3, 4, 0, 0, 1, 0, 0)]

@@ -4,7 +4,7 @@ refusal."""
 import re
 import unittest
 
-from support import TOOLS, Run
+from support import SQUARE_POINTS, TOOLS, Run, binary
 
 import standin
 from packing import packed
@@ -103,10 +103,25 @@ class Savings(unittest.TestCase):
     def test_differences(self):
         section = RULES_PAGE.partition("## Savings")[2].partition("\n## ")[0]
         found = [tuple(int(number.replace("−", "-")) for number in row) for row in re.findall(r"(\d+)\s−\s(\d+)\s=\s(−?\d+)", section)]
-        self.assertEqual(found, [(28, 20, 8), (20, 28, -8), (34, 34, 0), (30, 27, 3), (30, 30, 0), (30, 32, -2)])
+        self.assertEqual(found, [(28, 20, 8), (20, 28, -8), (34, 34, 0), (29, 25, 4), (30, 27, 3), (30, 30, 0), (30, 32, -2)])
 
     def test_answers(self):
         self.assertIn(f"exchanging 1-3 and 2-4: {8 * 65536:,}; 1-2 and 3-4: −{8 * 65536:,} |", RULES_PAGE)
+
+
+class Examples(unittest.TestCase):
+    """The sheets on the square with a fifth point, in RULES.md."""
+
+    def test_verdicts(self):
+        told = RULES_PAGE.partition("- Square with 5 (0,5), ")[2].partition("\n- ")[0]
+        found = re.findall(r"((?:`[\d ]+`,?\s*)+): (\d+), record (\d+)", told)
+        self.assertEqual([number for _, number, _ in found], ["14", "15"])
+        files = []
+        for sheet, number, record in found:
+            records = [tuple(map(int, row.split())) for row in re.findall(r"`([\d ]+)`", sheet)]
+            files.append(binary(records, points=[*SQUARE_POINTS, (0, 5)]))
+            self.assertEqual(standin.answer(files[-1]).splitlines()[-1], f"verdict {number} record {record} open 10")
+        self.assertEqual((TOOLS.parent / "examples/point_moved.bin").read_bytes(), files[0])
 
 
 class Refusals(unittest.TestCase):

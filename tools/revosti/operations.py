@@ -93,7 +93,8 @@ def exchange_saving(n, table, p, q, x, y):
 
 
 def move_saving(n, table, c, x, y, u, v):
-    """What moving the point c from between x and y to between u and v saves. It is above 0 exactly when condition 5 fails for uv."""
+    """What moving the point c from between x and y to between u and v saves. Above 0, condition 5 fails where cx, cy and uv lie in K with
+    the pair."""
     return saving(library().revosti_move_saving, n, table, c, x, y, u, v)
 
 

@@ -51,18 +51,21 @@ class Board:
         (p, q), (x, y), l = e, f, self.length
         return max(l(p, x) + l(q, y), l(p, y) + l(q, x)) >= l(p, q) + l(x, y)
 
-    def moves(self, k, c, x, y):
-        """Test 5: an edge of K exists between whose ends c saves."""
+    def moves(self, w, s, t, u, v):
+        """Whether w moves: from between s and t to between u and v it saves."""
         l = self.length
-        return any(l(x, y) + l(u, c) + l(v, c) < l(u, v) + l(x, c) + l(y, c)
-                   for u, v in k if c not in (u, v))
+        return l(s, t) + l(u, w) + l(v, w) < l(u, v) + l(s, w) + l(t, w)
+
+    def movable(self, k):
+        """Test 5 fails, of K with the pair: a point with two edges in it moves to another of its edges."""
+        settled = [w for w in {p for e in k for p in e} if degree(k, w) == 2]
+        return any(self.moves(w, *ends(k, w), *e) for w in settled for e in k if w not in e)
 
     def standing(self, k, c):
         """The pairs that stand at split point c under the edge set K."""
-        ends = [x for x in range(1, self.n + 1) if x != c and self.can_join(k, c, x)]
-        return [(x, y) for x, y in combinations(ends, 2)
-                if fits_tour(k | {edge(c, x), edge(c, y)}, self.n)
-                and not self.moves(k, c, x, y)]
+        legs = [x for x in range(1, self.n + 1) if x != c and self.can_join(k, c, x)]
+        with_pair = {(x, y): k | {edge(c, x), edge(c, y)} for x, y in combinations(legs, 2)}
+        return [pair for pair, larger in with_pair.items() if fits_tour(larger, self.n) and not self.movable(larger)]
 
     def can_join(self, k, c, x):
         """Tests 1 and 4 for one edge of the pair."""
@@ -72,6 +75,11 @@ class Board:
 def degree(k, point):
     """The number of edges of K at a point."""
     return sum(point in e for e in k)
+
+
+def ends(k, point):
+    """The other ends of the edges of K at a point."""
+    return [a if b == point else b for a, b in k if point in (a, b)]
 
 
 def fits_tour(k, n):

@@ -3,7 +3,7 @@ file does not settle it: nothing here is a guess."""
 
 from revosti import LEAST_POINTS, MOST_POINTS, NoLibrary, Refusal, crossing_saving, measure
 
-from .board import Board, RULES, degree, edge
+from .board import Board, RULES, degree, edge, ends
 from .nest import holds_split, nest
 from .parts import CROSSING, LINE, MAX_COORDINATE, MAX_FILE, MAX_RECORDS, RECORD, join
 
@@ -241,11 +241,6 @@ def crossed(sight):
     if sight.place is None or sight.record.kind != CROSSING or not sight.place.shaped:
         return None
     return sight.edges(sight.number)
-
-
-def ends(k, point):
-    """The other ends of the edges of K at a point."""
-    return [a if b == point else b for a, b in k if point in (a, b)]
 
 
 def broken(record, k):

@@ -95,10 +95,11 @@ def move_name(c, x, y, u, v):
 
 
 def move_meaning(above, c, x, y, u, v):
-    """What the saving says of the pair."""
+    """What the saving says of a pair."""
     if x == y or c in (u, v):
-        return f"but condition 5 asks for a pair of two points, and for an edge of K without {c}."
-    return f"with {name(u, v)} in K, condition 5 {'shuts' if above else 'does not shut'} the pair {name(x, y)} out at {c}."
+        return f"but condition 5 asks for two edges at {c}, and for an edge without {c}."
+    edges = f"{name(x, c)}, {name(y, c)} and {name(u, v)}"
+    return f"where K with a pair has {edges}, this move {'shuts' if above else 'does not shut'} the pair out (condition 5)."
 
 
 def labelling(p, q, r, s, x, y, z, w):
