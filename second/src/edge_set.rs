@@ -45,6 +45,15 @@ impl EdgeSet {
         usize::from(self.degree[usize::from(v)])
     }
 
+    /// The points with two edges in K, each with the other ends of these.
+    pub fn settled(&self) -> impl Iterator<Item = (u16, u16, u16)> + '_ {
+        let ends = self.edges().iter().flat_map(|&(u, v)| [(u, v), (v, u)]);
+        ends.filter_map(|(w, t)| match *self.ends(w) {
+            [s, second] if second == t => Some((w, s, t)),
+            _ => None,
+        })
+    }
+
     pub fn contains(&self, u: u16, v: u16) -> bool {
         self.ends(u).contains(&v)
     }

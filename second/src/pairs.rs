@@ -1,8 +1,13 @@
-//! The feasible pairs at a split point (01, Standing pairs), found one after another.
+//! The feasible pairs at a split point (01, Standing pairs; 02, Paper 7), found one after another.
+//!
+//! Test 5 moves each settled point of K with the pair, one that has two edges there, onto each edge
+//! without it. K is {ab} or comes from pairs that stand, so none of its points moves within it: what
+//! is left are c, x and y, and the two new edges.
 //!
 //! What does not depend on the pair is done once: `Split::new` keeps the points x whose edge cx
-//! passes tests 1, 2 and 4 by itself. A pair of them is then held against one bound (test 5) and
-//! against the other end of x's path (test 3).
+//! passes tests 1, 2 and 4 by itself, and 5 for points of K moved onto cx and for x moved onto K.
+//! A pair of them is then held against one bound (test 5 for c, and for x moved onto cy), and, where
+//! y is an end of K, against test 5 for y moved onto cx and the other end of x's path (test 3).
 
 use crate::edge_set::EdgeSet;
 use crate::instance::Instance;
@@ -30,7 +35,7 @@ impl FarEdge {
     /// Test 4 for cx with l(cx) = leg: pq and cx are compatible, that is, the larger of
     /// l(pc) + l(qx) and l(px) + l(qc) is at least l(pq) + l(cx) (document 000, formula 1).
     /// Edges that share a point always are.
-    #[inline]
+    #[inline(always)]
     pub fn allows(&self, l: &Lengths, x: u16, leg: i32) -> bool {
         let need = self.length + leg;
         x == self.p
@@ -40,13 +45,110 @@ impl FarEdge {
     }
 }
 
+/// A point w with two edges in K, to s and t, as c sees it.
+#[derive(Clone, Copy, Default)]
+struct Settled {
+    w: u16,
+    /// l(cw) + l(st) − l(sw) − l(tw).
+    spare: i32,
+}
+
+impl Settled {
+    fn new(l: &Lengths, (w, s, t): (u16, u16, u16), c: u16) -> Self {
+        Settled { w, spare: l.between(c, w) + l.between(s, t) - l.between(s, w) - l.between(t, w) }
+    }
+
+    /// Test 5 for w and the edge cx with l(cx) = leg: l(st) + l(cw) + l(xw) ≥ l(cx) + l(sw) + l(tw).
+    #[inline]
+    fn stays(&self, l: &Lengths, x: u16, leg: i32) -> bool {
+        l.between(x, self.w) + self.spare >= leg
+    }
+}
+
 /// A point x whose edge cx may be in a pair.
 #[derive(Clone, Copy, Default)]
 struct Leg {
     x: u16,
+    /// Where the split's `ends` have x, or 0 if it is none of them.
+    end: u16,
+    length: i32,
+}
+
+/// A leg's point x that has one edge in K, ex: cx settles it.
+#[derive(Clone, Copy)]
+struct End {
     /// The y that would close a short cycle with x, or 0.
     barred: u16,
-    length: i32,
+    /// l(ex) − l(ec). x does not move from between e and c onto the pair's other edge cy if l(xy) ≥ l(cy) + gain.
+    gain: i32,
+}
+
+impl End {
+    /// For a leg's point that is none.
+    const NONE: End = End { barred: 0, gain: -NO_BOUND };
+}
+
+/// K as c sees it.
+struct View<'a> {
+    lengths: &'a Lengths<'a>,
+    marks: Marks<'a>,
+    known: &'a EdgeSet,
+    c: u16,
+    far: [FarEdge; EdgeSet::MOST_EDGES],
+    far_count: usize,
+    settled: [Settled; EdgeSet::MOST_EDGES],
+    settled_count: usize,
+}
+
+impl<'a> View<'a> {
+    fn new(lengths: &'a Lengths<'a>, marks: Marks<'a>, known: &'a EdgeSet, c: u16) -> Self {
+        let (far, settled) = ([FarEdge::default(); EdgeSet::MOST_EDGES], [Settled::default(); EdgeSet::MOST_EDGES]);
+        let mut view = View { lengths, marks, known, c, far, far_count: 0, settled, settled_count: 0 };
+        for &(p, q) in known.edges().iter().filter(|&&(p, q)| p != c && q != c) {
+            view.far[view.far_count] = FarEdge::new(lengths, (p, q), c);
+            view.far_count += 1;
+        }
+        for wst in known.settled().filter(|&(w, _, _)| w != c) {
+            view.settled[view.settled_count] = Settled::new(lengths, wst, c);
+            view.settled_count += 1;
+        }
+        view
+    }
+
+    /// The edges of K that do not touch c.
+    fn far(&self) -> &[FarEdge] {
+        &self.far[..self.far_count]
+    }
+
+    /// The least l(uc) + l(vc) − l(uv) over K's edges uv that do not touch c.
+    fn bound(&self) -> i32 {
+        self.far().iter().fold(NO_BOUND, |least, edge| least.min(edge.from_p + edge.from_q - edge.length))
+    }
+
+    /// l(cx) if cx is open and compatible with K (tests 1 and 4) and no point of K moves onto it (5); cx is not in K.
+    #[inline]
+    fn leg(&self, x: u16) -> Option<i32> {
+        let l = self.lengths;
+        let place = l.order.place(self.c, x);
+        if !self.marks.open(place) {
+            return None;
+        }
+        let leg = l.table[place] as i32;
+        let kept = self.far().iter().all(|edge| edge.allows(l, x, leg))
+            && self.settled[..self.settled_count].iter().all(|point| point.stays(l, x, leg));
+        kept.then_some(leg)
+    }
+
+    /// The gain of x, whose one edge in K is ex, if x does not move from between e and c onto an edge uv of K (test 5):
+    /// l(ec) + l(ux) + l(vx) ≥ l(uv) + l(ex) + l(cx).
+    fn gain(&self, x: u16, leg: i32) -> Option<i32> {
+        let (l, e) = (self.lengths, self.known.ends(x)[0]);
+        let gain = l.between(e, x) - l.between(e, self.c);
+        let stays = |&(u, v): &(u16, u16)| {
+            u == x || v == x || l.between(u, x) + l.between(v, x) >= l.between(u, v) + gain + leg
+        };
+        self.known.edges().iter().all(stays).then_some(gain)
+    }
 }
 
 /// Which pairs of legs are tried, from what K has at c.
@@ -63,7 +165,9 @@ enum Choice {
 struct Row<'a> {
     x: u16,
     barred: u16,
-    /// The bound less l(xc).
+    /// l(xc).
+    length: i32,
+    /// The bound less l(xc), or 0 less x's gain, whichever is smaller.
     spare: i32,
     /// l(xy) for y = x + 1, .., n.
     lengths: &'a [u32],
@@ -72,11 +176,17 @@ struct Row<'a> {
 }
 
 impl Row<'_> {
-    /// Test 5, l(xy) + bound ≥ l(xc) + l(yc), and test 3.
+    /// Test 5 for c, l(xy) + bound ≥ l(xc) + l(yc), and for x moved onto cy; then what an end y asks for.
     #[inline]
-    fn stands(&self, y: Leg) -> bool {
+    fn stands(&self, y: Leg, ends: &[End]) -> bool {
         let xy = self.lengths[usize::from(y.x - self.x - 1)] as i32;
-        xy + self.spare >= y.length && y.x != self.barred
+        xy + self.spare >= y.length && (y.end == 0 || self.stands_with(y, xy, ends[usize::from(y.end)]))
+    }
+
+    /// Test 5 for y moved onto cx, and test 3.
+    #[inline]
+    fn stands_with(&self, y: Leg, xy: i32, end: End) -> bool {
+        xy >= self.length + end.gain && y.x != self.barred
     }
 }
 
@@ -85,8 +195,10 @@ pub struct Split<'a> {
     lengths: &'a Lengths<'a>,
     legs: [Leg; Instance::MOST_POINTS as usize],
     count: usize,
+    /// The ends among the legs, from place 1 on.
+    ends: [End; 2 * EdgeSet::MOST_EDGES + 1],
+    end_count: u16,
     choice: Choice,
-    /// The least l(uc) + l(vc) − l(uv) over K's edges uv that do not touch c.
     bound: i32,
     /// Rows begun.
     rows: usize,
@@ -94,64 +206,68 @@ pub struct Split<'a> {
 }
 
 impl<'a> Split<'a> {
+    /// K is {ab}, or comes from it by pairs that stand.
     pub fn new(lengths: &'a Lengths<'a>, marks: Marks, known: &EdgeSet, c: u16) -> Self {
+        let view = View::new(lengths, marks, known, c);
         let mut split = Split {
             lengths,
             legs: [Leg::default(); Instance::MOST_POINTS as usize],
             count: 0,
+            ends: [End::NONE; 2 * EdgeSet::MOST_EDGES + 1],
+            end_count: 0,
             choice: Choice::Any,
-            bound: NO_BOUND,
+            bound: view.bound(),
             rows: 0,
             row: Row::default(),
         };
-        let mut far = [FarEdge::default(); EdgeSet::MOST_EDGES];
-        let far = split.far_edges(known, c, &mut far);
         match *known.ends(c) {
-            [] => split.legs_anywhere(marks, known, far, c),
-            [e] => split.legs_with(marks, known, far, c, e),
-            _ => split.legs_in_set(marks, known, far, c),
+            [] => split.legs_anywhere(&view),
+            [e] => split.legs_with(&view, e),
+            [e, f] => split.legs_in_set(&view, e.min(f), e.max(f)),
+            _ => unreachable!("no point has three edges"),
         }
         split
     }
 
-    /// Gathers the edges of K that do not touch c, and their bound for test 5.
-    fn far_edges<'f>(&mut self, known: &EdgeSet, c: u16, far: &'f mut [FarEdge]) -> &'f [FarEdge] {
-        let l = self.lengths;
-        let mut count = 0;
-        for &(p, q) in known.edges() {
-            if p != c && q != c {
-                let edge = FarEdge::new(l, (p, q), c);
-                self.bound = self.bound.min(edge.from_p + edge.from_q - edge.length);
-                far[count] = edge;
-                count += 1;
-            }
-        }
-        &far[..count]
+    fn push(&mut self, leg: Leg) {
+        self.legs[self.count] = leg;
+        self.count += 1;
     }
 
-    /// Keeps x if cx is open and compatible with K (tests 1 and 4).
+    /// Keeps x, where cx is in K: it is open, compatible with K, and no point of K moves onto it.
+    fn keep_known(&mut self, view: &View, x: u16) {
+        self.push(Leg { x, end: 0, length: view.lengths.between(view.c, x) });
+    }
+
+    /// Keeps x, which has no edge in K, if its leg passes.
     #[inline]
-    fn keep(&mut self, marks: Marks, far: &[FarEdge], c: u16, x: u16, barred: u16) {
-        let place = self.lengths.order.place(c, x);
-        if marks.open(place) {
-            let length = self.lengths.table[place] as i32;
-            if far.iter().all(|edge| edge.allows(self.lengths, x, length)) {
-                self.legs[self.count] = Leg { x, barred, length };
-                self.count += 1;
+    fn keep_free(&mut self, view: &View, x: u16) {
+        if let Some(length) = view.leg(x) {
+            self.push(Leg { x, end: 0, length });
+        }
+    }
+
+    /// Keeps x, which has one edge in K, if its leg passes.
+    fn keep_end(&mut self, view: &View, x: u16, barred: u16) {
+        if let Some(length) = view.leg(x) {
+            if let Some(gain) = view.gain(x, length) {
+                self.end_count += 1;
+                self.ends[usize::from(self.end_count)] = End { barred, gain };
+                self.push(Leg { x, end: self.end_count, length });
             }
         }
     }
 
     /// c has no edge in K: x and y have at most one, and are not the two ends of a short path.
-    fn legs_anywhere(&mut self, marks: Marks, known: &EdgeSet, far: &[FarEdge], c: u16) {
+    fn legs_anywhere(&mut self, view: &View) {
         let n = self.lengths.order.n;
-        for x in (1..=n).filter(|&x| x != c) {
-            match known.degree(x) {
-                0 => self.keep(marks, far, c, x, 0),
+        for x in (1..=n).filter(|&x| x != view.c) {
+            match view.known.degree(x) {
+                0 => self.keep_free(view, x),
                 1 => {
-                    let (end, edges) = known.far_end(x);
+                    let (end, edges) = view.known.far_end(x);
                     let barred = if edges + 2 < usize::from(n) { end } else { 0 };
-                    self.keep(marks, far, c, x, barred);
+                    self.keep_end(view, x, barred);
                 }
                 _ => {}
             }
@@ -159,33 +275,29 @@ impl<'a> Split<'a> {
     }
 
     /// c has the edge ce in K: e is in the pair, and the other point has at most one edge and is
-    /// not the far end of c's path, if that is short. (K's edges are open and compatible with each
-    /// other, so e is always kept; the tests are made all the same.)
-    fn legs_with(&mut self, marks: Marks, known: &EdgeSet, far: &[FarEdge], c: u16, e: u16) {
+    /// not the far end of c's path, if that is short.
+    fn legs_with(&mut self, view: &View, e: u16) {
         let n = self.lengths.order.n;
-        let (end, edges) = known.far_end(c);
+        let (end, edges) = view.known.far_end(view.c);
         let barred = if edges + 1 < usize::from(n) { end } else { 0 };
-        let mut kept = None;
-        for x in (1..=n).filter(|&x| x != c) {
-            let before = self.count;
-            if x == e || (known.degree(x) < 2 && x != barred) {
-                self.keep(marks, far, c, x, 0);
+        for x in (1..=n).filter(|&x| x != view.c) {
+            if x == e {
+                self.choice = Choice::With(self.count);
+                self.keep_known(view, x);
+            } else if x != barred {
+                match view.known.degree(x) {
+                    0 => self.keep_free(view, x),
+                    1 => self.keep_end(view, x, 0),
+                    _ => {}
+                }
             }
-            if x == e && self.count > before {
-                kept = Some(before);
-            }
-        }
-        match kept {
-            Some(position) => self.choice = Choice::With(position),
-            None => self.count = 0,
         }
     }
 
     /// c has two edges in K: they are the pair, and K stays as it is.
-    fn legs_in_set(&mut self, marks: Marks, known: &EdgeSet, far: &[FarEdge], c: u16) {
-        let ends = known.ends(c);
-        self.keep(marks, far, c, ends[0].min(ends[1]), 0);
-        self.keep(marks, far, c, ends[0].max(ends[1]), 0);
+    fn legs_in_set(&mut self, view: &View, x: u16, y: u16) {
+        self.keep_known(view, x);
+        self.keep_known(view, y);
     }
 
     /// The columns to try for the leg at `row`.
@@ -200,8 +312,10 @@ impl<'a> Split<'a> {
     /// Goes on to the next row.
     fn start_row(&mut self) {
         let (column, end) = self.columns(self.rows);
-        let Leg { x, barred, length } = self.legs[self.rows];
-        self.row = Row { x, barred, spare: self.bound - length, lengths: self.lengths.row(x), column, end };
+        let Leg { x, end: at, length } = self.legs[self.rows];
+        let End { barred, gain } = self.ends[usize::from(at)];
+        let spare = (self.bound - length).min(-gain);
+        self.row = Row { x, barred, length, spare, lengths: self.lengths.row(x), column, end };
         self.rows += 1;
     }
 
@@ -224,7 +338,7 @@ impl<'a> Split<'a> {
         while self.row.column < self.row.end {
             let y = self.legs[self.row.column];
             self.row.column += 1;
-            if self.row.stands(y) {
+            if self.row.stands(y, &self.ends) {
                 return Some((self.row.x, y.x));
             }
         }

@@ -16,8 +16,8 @@ pub fn exchange(l: &Lengths, (p, q): Edge, (x, y): Edge) -> i64 {
     i64::from(l.between(p, q) + l.between(x, y) - straight.max(crossed))
 }
 
-/// Moving c from between x and y to between u and v: "old less new". Test 5 shuts the pair x, y out exactly when it is
-/// above 0 for an edge uv of K without c.
+/// Moving c from between x and y to between u and v: "old less new". Test 5 shuts a pair out exactly when it is above 0
+/// for a point c whose two edges in K with the pair are xc and yc, and an edge uv of that set without c.
 pub fn moving(l: &Lengths, c: u16, (x, y): Edge, (u, v): Edge) -> i64 {
     let old = l.between(u, v) + l.between(x, c) + l.between(y, c);
     let new = l.between(x, y) + l.between(u, c) + l.between(v, c);

@@ -140,6 +140,22 @@ fn savings_are_demanded() {
     }
 }
 
+/// Before the first case no settled point has been moved.
+#[test]
+fn moves_are_demanded() {
+    let missing = Coverage::default().missing();
+    let demanded = |unmet: String| assert!(missing.contains(&unmet), "{unmet}");
+    for place in ["off K", "on K"] {
+        for mover in ["x", "y", "another point"] {
+            for depth in 2..=6 {
+                demanded(format!("a pair left out of an accepted split at depth {depth}, {place}, for {mover}"));
+                demanded(format!("a sheet refused by 14 for its pair at depth {depth}, {place}, for {mover}"));
+            }
+            demanded(format!("a pair that stands by a tie {place}, for {mover}"));
+        }
+    }
+}
+
 /// Sheets until the comparison finds the slip.
 fn found_after(slip: Slip) -> Option<u64> {
     let naive = Naive { slip: Some(slip) };
@@ -217,10 +233,23 @@ fn slips_of_both_are_found_by_the_rules_that_savings_tell() {
     }
 }
 
+/// Paper 7's law: a pair at a further split is shut out exactly if some move of a settled point saves. Where the second
+/// program shuts out a first pair and these do not, its sheet with a crossing tells, too.
+#[test]
+fn slips_of_both_are_found_by_the_moves_of_settled_points() {
+    for slip in [Slip::SplitMovedOnly, Slip::LowerStays, Slip::HigherStays, Slip::OthersStay, Slip::PairsEdgesLeft] {
+        let what = found_in_both(slip);
+        assert!(["pair by moves", "crossing by its saving"].contains(&what.as_str()), "{slip:?}: {what}");
+    }
+    for slip in [Slip::TouchingLeft, Slip::SettledTies] {
+        assert_eq!(found_in_both(slip), "list pairs by savings", "{slip:?}, with a or b in the pair");
+    }
+}
+
 /// Rules that shut out too much, in both.
 #[test]
 fn slips_of_both_are_found() {
-    for slip in [Slip::EqualShutsOut, Slip::OneExchange, Slip::EarlyStrike] {
+    for slip in [Slip::EqualShutsOut, Slip::OneExchange, Slip::EarlyStrike, Slip::EdgeAtPoint] {
         found_in_both(slip);
     }
 }

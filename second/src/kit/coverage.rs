@@ -2,6 +2,7 @@
 
 use std::fmt;
 
+use super::moves_met::MovesMet;
 use super::rules_met::RulesMet;
 use super::savings_met::SavingsMet;
 use super::sets_met::SetsMet;
@@ -196,6 +197,7 @@ pub struct Coverage {
     pub program_rules: RulesMet,
     pub sets: SetsMet,
     pub savings: SavingsMet,
+    pub moves: MovesMet,
     /// Accepted lines by the number of splits one inside another, from 1.
     depths: [u64; Sheet::MOST_SPLITS + 1],
     /// Accepted lines by the size of the board.
@@ -215,6 +217,7 @@ impl Default for Coverage {
             program_rules: RulesMet::default(),
             sets: SetsMet::default(),
             savings: SavingsMet::default(),
+            moves: MovesMet::default(),
             depths: [0; Sheet::MOST_SPLITS + 1],
             sizes: [0; SIZES.len()],
         }
@@ -249,6 +252,7 @@ impl Coverage {
         missing.extend(self.program_rules.missing().iter().map(|unmet| format!("program: {unmet}")));
         missing.extend(self.sets.missing());
         missing.extend(self.savings.missing());
+        missing.extend(self.moves.missing());
         let unmet = (1..=Sheet::MOST_SPLITS).filter(|&depth| self.depths[depth] == 0);
         missing.extend(unmet.map(|depth| format!("accepted line at depth {depth}")));
         let unmet = SIZES.iter().zip(self.sizes).filter(|&(_, lines)| lines == 0);
@@ -278,7 +282,7 @@ impl fmt::Display for Coverage {
             writeln!(f, "{name}: {}", self.events[event as usize])?;
         }
         writeln!(f, "measure: {}\nprogram: {}\n{}", self.measure_rules, self.program_rules, self.sets)?;
-        write!(f, "{}", self.savings)?;
+        writeln!(f, "{}{}", self.savings, self.moves)?;
         write!(f, "accepted lines by depth:")?;
         for depth in 1..=Sheet::MOST_SPLITS {
             write!(f, " {depth}: {}", self.depths[depth])?;

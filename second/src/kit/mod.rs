@@ -9,6 +9,8 @@ pub mod drafts;
 pub mod entered;
 pub mod guarded;
 pub mod kept;
+pub mod moved;
+pub mod moves_met;
 pub mod naive;
 #[cfg(feature = "revosti")]
 pub mod revosti;

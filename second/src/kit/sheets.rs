@@ -22,12 +22,12 @@ pub struct Plan {
 }
 
 impl Plan {
-    /// A plan as the comparison uses it.
+    /// A plan as the comparison uses it; on large boards each edge takes long.
     pub fn random(rng: &mut Rng, n: u16) -> Plan {
         Plan {
             effort: if n <= 20 { Effort::LIGHT } else { Effort::LARGE },
             lines: rng.between(1, 5),
-            edges: 8,
+            edges: if n <= 60 { 8 } else { 5 },
             want: 0,
             gaps: rng.pick(&[0, 0, 10, 40]),
             most_records: rng.pick(&[60, 60, 400]),

@@ -1,6 +1,7 @@
 //! Two programs on the same inputs; everything that they show is compared.
 
 mod looks;
+mod moves;
 mod packing;
 mod readings;
 mod savings;
@@ -78,7 +79,8 @@ impl<'a> Comparison<'a> {
         for _ in 0..2 {
             self.round(&mut rng, &mut run)?;
         }
-        self.savings(&mut rng, &run.board)
+        self.savings(&mut rng, &run.board)?;
+        self.moves(&mut rng, &run.board)
     }
 
     /// Damaged sheets on copies of the marks; noise, lines for edges that are kept and the valid sheet on the marks

@@ -12,7 +12,7 @@ use crate::kit::kept::Kept;
 use crate::kit::rng::Rng;
 use crate::kit::sets::{self, pending};
 use crate::kit::spoil::{self, Lent};
-use crate::lengths::EdgeOrder;
+use crate::lengths::{EdgeOrder, Lengths};
 use crate::marks::PENDING;
 use crate::packed::mark;
 use crate::sheet::Sheet;
@@ -154,16 +154,21 @@ impl Comparison<'_> {
             format!("{call}sheet {}\n", hex(sheet))
         })?;
         if step.hands_in() {
-            self.accepted(lent.n, sheet, answer);
+            self.accepted(lent, before, sheet, answer);
         }
         Ok(answer)
     }
 
-    /// Counts the accepted lines, and 20 before 7.
-    fn accepted(&mut self, n: u32, sheet: &[u8], answer: u64) {
+    /// Counts the accepted lines, which found these marks, and 20 before 7.
+    fn accepted(&mut self, lent: &Lent, marks: Vec<u8>, sheet: &[u8], answer: u64) {
         let (number, lines) = (answer % 256, lines(answer));
         let numbers = crate::bytes::numbers(sheet);
-        let records = Entered::count(n, &numbers, lines, &mut self.coverage);
+        let records = if lines > 0 {
+            let table = crate::bytes::entries(&lent.table);
+            Entered::count(Lengths::new(lent.n as u16, &table), marks, &numbers, lines, &mut self.coverage)
+        } else {
+            0
+        };
         if number == 0 {
             self.coverage.event(Event::SeveralLines, u64::from(lines > 1));
             self.coverage.event(Event::RecordsSkipped, u64::from(Sheet::FIELDS * records < numbers.len()));

@@ -45,8 +45,19 @@ pub fn with(k: &[Edge], e: Edge) -> Vec<Edge> {
     more
 }
 
+fn ends_at(k: &[Edge], v: usize) -> impl Iterator<Item = usize> + '_ {
+    k.iter().filter(move |e| e.0 == v || e.1 == v).map(move |e| if e.0 == v { e.1 } else { e.0 })
+}
+
 pub fn other_ends(k: &[Edge], v: usize) -> Vec<usize> {
-    k.iter().filter(|e| e.0 == v || e.1 == v).map(|e| if e.0 == v { e.1 } else { e.0 }).collect()
+    ends_at(k, v).collect()
+}
+
+/// The other ends of w's edges, if it has exactly two.
+fn two_ends(k: &[Edge], w: usize) -> Option<Edge> {
+    let mut ends = ends_at(k, w);
+    let two = (ends.next()?, ends.next()?);
+    ends.next().is_none().then_some(two)
 }
 
 /// "x, y swapped or not, z, w swapped or not."
@@ -105,14 +116,44 @@ impl<'a> Board<'a> {
         larger >= self.l(p, q) + self.l(x, y)
     }
 
-    /// Test 5 for one edge uv of K.
-    pub fn moves_between(&self, (u, v): Edge, c: usize, x: usize, y: usize) -> bool {
-        if u == c || v == c {
-            return false;
+    /// Whether "moving the point between the edge's ends makes the sum smaller": w, from between s and t, and the edge uv.
+    pub fn moves_between(&self, (u, v): Edge, w: usize, (s, t): Edge, ties: bool) -> bool {
+        let new = self.l(s, t) + self.l(u, w) + self.l(v, w);
+        let old = self.l(u, v) + self.l(s, w) + self.l(t, w);
+        new < old || (ties && new == old)
+    }
+
+    /// Whether a slip forgets to move w.
+    fn stays_by_slip(&self, w: usize, [c, x, y]: [usize; 3]) -> bool {
+        match self.slip {
+            Some(Slip::SplitMovedOnly) => w != c,
+            Some(Slip::LowerStays) => w == x,
+            Some(Slip::HigherStays) => w == y,
+            Some(Slip::OthersStay) => ![c, x, y].contains(&w),
+            _ => false,
         }
-        let new = self.l(x, y) + self.l(u, c) + self.l(v, c);
-        let old = self.l(u, v) + self.l(x, c) + self.l(y, c);
-        new < old || (self.slip == Some(Slip::EqualShutsOut) && new == old)
+    }
+
+    /// Whether uv is one of "each edge of that set without the point"; s and t are the neighbours of w.
+    fn without(&self, (u, v): Edge, w: usize, (s, t): Edge) -> bool {
+        match self.slip {
+            Some(Slip::EdgeAtPoint) => !same((u, v), (w, s)),
+            Some(Slip::TouchingLeft) => ![w, s, t].contains(&u) && ![w, s, t].contains(&v),
+            _ => u != w && v != w,
+        }
+    }
+
+    /// Test 5 for w, "each point that has two edges in K with the pair added": x and y at c, K being the first of the edges.
+    fn moves(&self, more: &[Edge], k: usize, w: usize, cxy: [usize; 3]) -> bool {
+        let Some(st) = two_ends(more, w) else { return false };
+        let ties = match self.slip {
+            Some(Slip::EqualShutsOut) => true,
+            Some(Slip::SettledTies) => w != cxy[0],
+            _ => false,
+        };
+        let edges = if self.slip == Some(Slip::PairsEdgesLeft) { &more[..k] } else { more };
+        let moves = |&uv: &Edge| self.without(uv, w, st) && self.moves_between(uv, w, st, ties);
+        !self.stays_by_slip(w, cxy) && edges.iter().any(moves)
     }
 
     pub fn stands(&self, marks: &[u8], k: &[Edge], c: usize, x: usize, y: usize) -> bool {
@@ -124,12 +165,12 @@ impl<'a> Board<'a> {
         if !compared.iter().all(|&e| self.compatible(e, (c, x)) && self.compatible(e, (c, y))) {
             return false;
         }
-        if k.iter().any(|&e| self.moves_between(e, c, x, y)) {
-            return false;
-        }
         let more = with(&with(k, (c, x)), (c, y));
         let limit = if self.slip == Some(Slip::FullCycleShort) { self.n + 1 } else { self.n };
-        (1..=self.n).all(|v| other_ends(&more, v).len() < 3) && !short_cycle(&more, limit)
+        let mut points = more.iter().rev().flat_map(|e| [e.0, e.1]);
+        points.clone().all(|v| ends_at(&more, v).count() < 3)
+            && !points.any(|w| self.moves(&more, k.len(), w, [c, x, y]))
+            && !short_cycle(&more, limit)
     }
 
     pub fn standing(&self, marks: &[u8], k: &[Edge], c: usize) -> Vec<Edge> {

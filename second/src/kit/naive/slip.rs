@@ -110,10 +110,26 @@ pub enum Slip {
     EndsTheSame,
     /// 11 before 2 and 5 in a saving.
     EdgesBeforeLengths,
+    /// Test 5 moves the split point only.
+    SplitMovedOnly,
+    /// Test 5 does not move x.
+    LowerStays,
+    /// Test 5 does not move y.
+    HigherStays,
+    /// Test 5 moves the split point, x and y only.
+    OthersStay,
+    /// Test 5 moves points onto edges of K only, not onto those of the pair.
+    PairsEdgesLeft,
+    /// Test 5 leaves out edges at the point's neighbours.
+    TouchingLeft,
+    /// Test 5 moves a point onto one of its own edges, too.
+    EdgeAtPoint,
+    /// Test 5 also shuts out equal sums, for other points than the split point.
+    SettledTies,
 }
 
 impl Slip {
-    pub const ALL: [Slip; 55] = [
+    pub const ALL: [Slip; 63] = [
         Slip::EqualShutsOut,
         Slip::EqualSaves,
         Slip::OneExchange,
@@ -169,5 +185,13 @@ impl Slip {
         Slip::LossIsNothing,
         Slip::EndsTheSame,
         Slip::EdgesBeforeLengths,
+        Slip::SplitMovedOnly,
+        Slip::LowerStays,
+        Slip::HigherStays,
+        Slip::OthersStay,
+        Slip::PairsEdgesLeft,
+        Slip::TouchingLeft,
+        Slip::EdgeAtPoint,
+        Slip::SettledTies,
     ];
 }
