@@ -1,24 +1,24 @@
 -- Each test of a pair is true exactly when its condition holds. `Has` reads an edge in both orders of its points and a test in one,
 -- so the lengths have to be symmetric. Assumes nothing.
 use Prim.Native.Nat.{ℕ, _+_, max}
-use mathlib.Core.Path.{_≡_, sym, _∙_, ap}
+use mathlib.Core.Path.{_≡_, sym, _∙_, ap, ap₂, fun-ext}
 use mathlib.Core.Bool.{Bool, true, false, not, _&&_, true≢false}
 use mathlib.Core.Logic.{_↔_}
-use mathlib.Core.List.{List}
+use mathlib.Core.List.{List, [], _∷_}
 use native.Mathlib.Omega.{arith}
 use lib.Dec.{eqb}
 use borrow.Author.Tests.{ne-eqb, eqb-false, le-leb, leb-true}
 use Rattle.lists.specs.Saving.{gains?}
-use Rattle.lengths.specs.Edge.{Edge}
+use Rattle.lengths.specs.Edge.{Edge, edge, edges}
 use Rattle.lengths.specs.asks.Edge.{IsEdgeUp}
-use Rattle.lists.proofs.Bools.{and-both, and-true, never-true, never-false}
+use Rattle.lists.proofs.Bools.{and-both, and-true, and-yes, never-true, never-false}
 use Rattle.sets.specs.EdgeSet.{Has, AtMostTwo, NoShortCycle, withPair}
 use Rattle.rules.proofs.Every.{every-has, has-every}
 use Rattle.rules.proofs.Savings.{compatible-sum}
-use Rattle.rules.proofs.Unmoving.{stays-iff, adding-pair, adding-turned, tests-unmovable, unmovable-centre, unmovable-leg, unmovable-end}
+use Rattle.rules.proofs.Unmoving.{stays-iff, adding-pair, adding-turned, tests-unmovable, unmovable-centre, unmovable-leg, unmovable-end, single-settled, single-end}
 use Rattle.rules.specs.Pair.{exchangeSaving, moveSaving, Compatible, Unmovable, FeasiblePair}
 use Rattle.rules.specs.PairTest.{every, compatible?, leg?, stays?, unmoved?, settled?, endStays?, candidateLeg?, feasible?}
-use Rattle.rules.specs.Pairs.{feasiblePairs}
+use Rattle.rules.specs.Pairs.{keep, feasiblePairs}
 use Rattle.sets.specs.Rising.{Among}
 use Rattle.sets.specs.Shape.{shape?}
 use Rattle.rules.proofs.PairLists.{in-feasiblePairs}
@@ -133,3 +133,21 @@ module _ (l : ℕ → ℕ → ℕ) (symmetric : (a b : ℕ) → l a b ≡ l b a)
       from f =
           let e : IsEdgeUp n x y = record { low = f .point-x .low; up = f .rising; high = f .point-y .high } in
           in-feasiblePairs n l open? K c x y .1 (e, feasible-iff n open? K c x y e (λ nx ny. shape nx ny e) free .1 f)
+
+-- 01's test of a pair, in which condition 5 moves the split point alone
+unfoldable pub feasibleBy01? : ℕ → (ℕ → ℕ → ℕ) → (ℕ → ℕ → Bool) → List Edge → ℕ → ℕ → ℕ → Bool
+feasibleBy01? n l open? K c x y = leg? l open? K c x && (leg? l open? K c y && (unmoved? l l K c x y && shape? n K c x y))
+
+-- THE PAIR LIST OF {ab} is the one that it was (02, Paper 7): no point of {ab} has degree two, and an end that gets a second edge has no edge of K without it to move to
+pub single-as-01 : (n : ℕ) (l : ℕ → ℕ → ℕ) (open? : ℕ → ℕ → Bool) (a b c : ℕ)
+    → feasiblePairs n l open? (edge a b ∷ []) c ≡ keep (feasibleBy01? n l open? (edge a b ∷ []) c) (edges n)
+unfolding feasiblePairs feasible? candidateLeg? feasibleBy01?
+single-as-01 n l open? a b c = ap (λ (t : ℕ → ℕ → Bool). keep t (edges n)) (fun-ext (λ x. fun-ext (λ y. same x y)))
+  where
+    leg : (x : ℕ) → candidateLeg? l open? (edge a b ∷ []) c x ≡ leg? l open? (edge a b ∷ []) c x
+    leg x =
+        ap₂ (λ (s t : Bool). leg? l open? (edge a b ∷ []) c x && (s && t)) (single-settled l l a b c x) (single-end l l a b c x)
+        ∙ and-yes (leg? l open? (edge a b ∷ []) c x)
+
+    same : (x y : ℕ) → feasible? n l open? (edge a b ∷ []) c x y ≡ feasibleBy01? n l open? (edge a b ∷ []) c x y
+    same x y = ap₂ (λ (s t : Bool). s && (t && (unmoved? l l (edge a b ∷ []) c x y && shape? n (edge a b ∷ []) c x y))) (leg x) (leg y)
