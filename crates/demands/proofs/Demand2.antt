@@ -39,7 +39,7 @@ demand-2 n table marks sheet i a b next high =
     (line-sound (rulesOf n table marks) (lawful n table marks) sheet (openIn n marks) i a b next high, line-complete (rulesOf n table marks) (lawful n table marks) sheet (openIn n marks) i a b next high)
 
 -- a call that passes the tests, 20 and 7 among them, has its lines marked
-lines-marked : (by n : ℕ) (table marks s : List ℕ) → Passes n table marks s → markBy by n table marks s ≡ sheet (markingBy by n table) s marks
+pub lines-marked : (by n : ℕ) (table marks s : List ℕ) → Passes n table marks s → markBy by n table marks s ≡ sheet (markingBy by n table) s marks
 unfolding markBy
 lines-marked by n table marks s p = rw (markBy, p .points, p .whole)
 

@@ -12,4 +12,5 @@ pub mod OnPacked
 pub mod OpenEdges
 pub mod Optimal
 pub mod PackedRuns
+pub mod Slips
 pub mod Strikes

@@ -8,6 +8,7 @@ mod pairs;
 mod pending;
 mod savings;
 mod six;
+mod slips;
 mod tour_checks;
 
 use answers::tally::Tally;
@@ -22,5 +23,6 @@ fn main() {
     let t = six::run(t);
     let t = converting::run(t);
     let t = savings::run(t);
+    let t = slips::run(t);
     t.print();
 }

@@ -39,5 +39,7 @@ pub const SOMETHING_PENDING: u8 = 20;
 
 pub const NOTHING_PENDING: u8 = 21;
 
+pub const BUFFER: u8 = 22;
+
 // The record of a refusal where no record is at fault.
 pub const NO_RECORD: u16 = 0;

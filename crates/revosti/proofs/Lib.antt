@@ -5,4 +5,6 @@ pub mod MarkAnswers
 pub mod MeasureAnswers
 pub mod PendingAnswers
 pub mod SavedNumbers
+pub mod SlipAnswers
+pub mod SlipNumbers
 pub mod TourAnswers

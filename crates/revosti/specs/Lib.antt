@@ -6,4 +6,5 @@ pub mod Mark
 pub mod Measure
 pub mod Pending
 pub mod Saved
+pub mod Slip
 pub mod Tour

@@ -6,4 +6,5 @@ pub mod mark;
 pub mod measure;
 pub mod pending;
 pub mod saved;
+pub mod slip;
 pub mod tour;

@@ -10,7 +10,7 @@ ghost use Rattle.revosti.specs.Mark.{MarkedInC};
 ghost use Rattle.revosti.specs.asks.Mark.{MarkNumber};
 
 // The refusal number or 0, plus 256 times the record, plus 16,777,216 times the lines accepted.
-fn number_of(refusal: u8, rec: u16, lines: u16) -> u64
+pub fn number_of(refusal: u8, rec: u16, lines: u16) -> u64
     ensures { λ r. ⌜ r ≡ refusal + 256 * rec + 16777216 * lines ⌝ }
 {
     refusal as u64 + 256 * (rec as u64) + 16_777_216 * (lines as u64)

@@ -1,0 +1,3 @@
+pub mod Slips
+pub mod ViewAnswers
+pub mod Views

@@ -1,0 +1,20 @@
+-- `slips::slip::new_slip` meets its contract: each kind of verdict has its lemma in `Slips`. Assumes nothing.
+use Rattle.slips.proofs.Slips.{accepted-slip, refused-slip}
+use borrow.Author.Needs.{needs}
+use Rattle.slips.proofs.slip.new_slip.Statement.{statement}
+use Rattle.slips.proofs.slip.new_slip.Tie as tie
+
+enum-known-verdict : tie.Need-enum-known-verdict
+enum-known-verdict c = search needs
+
+enum-known-verdict-2 : tie.Need-enum-known-verdict-2
+enum-known-verdict-2 c = search needs
+
+returns : tie.Need-returns
+returns c = accepted-slip (c .before .verdict .given .1)
+
+returns-2 : tie.Need-returns-2
+returns-2 c = refused-slip (c .before .verdict2 .given .1)
+
+pub new-slip-spec : {M : Type 1} → statement M
+new-slip-spec = tie.close (tie.spec enum-known-verdict enum-known-verdict-2 returns returns-2)

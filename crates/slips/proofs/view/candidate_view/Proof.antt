@@ -1,0 +1,21 @@
+-- `slips::view::candidate_view` meets its contract: it is the examiner's view of the slip that is shown. Assumes nothing.
+use Rattle.slips.proofs.ViewAnswers.{view-shown}
+use borrow.Author.Needs.{needs}
+use Rattle.slips.proofs.view.candidate_view.Statement.{statement}
+use Rattle.slips.proofs.view.candidate_view.Tie as tie
+
+shown-requires : tie.Need-shown-requires
+shown-requires c κs = search needs
+
+examiner-view-requires : tie.Need-examiner-view-requires
+examiner-view-requires c κs = search needs
+
+same-length : tie.Need-same-length
+same-length c = search needs
+
+returns : tie.Need-returns
+returns c = view-shown _ (c .before .before .before .before .shown .ensures) (c .before .before .examiner-view .ensures)
+
+pub candidate-view-spec : {M : Type 1} → statement M
+candidate-view-spec =
+    tie.close (tie.spec shown-requires examiner-view-requires same-length returns)

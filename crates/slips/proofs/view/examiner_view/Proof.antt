@@ -1,0 +1,36 @@
+-- `slips::view::examiner_view` meets its contract: both ways out have their lemma in `ViewAnswers`. Assumes nothing.
+use Rattle.slips.proofs.ViewAnswers.{view-refused, view-written}
+use borrow.Author.Needs.{needs}
+use Rattle.slips.proofs.view.examiner_view.Statement.{statement}
+use Rattle.slips.proofs.view.examiner_view.Tie as tie
+
+returns : tie.Need-returns
+returns c = view-refused (c .if1 .taken)
+
+first-two-requires : tie.Need-first-two-requires
+first-two-requires c κs = search needs
+
+slice-aggregate-encode16 : tie.Need-slice-aggregate-encode16
+slice-aggregate-encode16 c = search needs
+
+encode16-requires : tie.Need-encode16-requires
+encode16-requires c κs = search needs
+
+same-length : tie.Need-same-length
+same-length c = search needs
+
+returns-2 : tie.Need-returns-2
+returns-2 c =
+    let w = c .before .before in
+    view-written _ _ (w .before .before .before .before .if1 .left) (w .before .before .before .first-two .ensures) (w .encode16 .ensures)
+
+pub examiner-view-spec : {M : Type 1} → statement M
+examiner-view-spec =
+    tie.close
+    (tie.spec
+    returns
+    first-two-requires
+    slice-aggregate-encode16
+    encode16-requires
+    same-length
+    returns-2)
