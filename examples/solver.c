@@ -1,6 +1,7 @@
 /*
  * How a tour solver uses Revosti: a board is measured, a strike sheet written from lists of standing pairs, asked, withdrawn, asked again
- * and confirmed, and a search looks at open edges only. Then it asks how much the rules save, and its marks go to a byte set and back.
+ * and confirmed, and a search looks at open edges only. Then it asks how much the rules save, its marks go to a byte set and back, and the
+ * slip of a sheet that stops is shown and released.
  *
  *   cc -Iinclude examples/solver.c target/staticlib/librevosti.a -o solver && ./solver
  *
@@ -236,6 +237,31 @@ static void convert(void)
     expect("confirming, an unused bit set", revosti_confirm(N, back, sizeof back), REVOSTI_MARKS);
 }
 
+/* Expects six bytes of a view. The byte behind them stays. */
+static void expect_view(const char *what, uint64_t answer, const uint8_t *view, const uint8_t *want)
+{
+    expect(what, answer, REVOSTI_ACCEPTED);
+    expect("  its bytes differ from those expected", (uint64_t)(memcmp(view, want, REVOSTI_VIEW_BYTES) != 0), 0);
+    expect("  the byte behind them", view[REVOSTI_VIEW_BYTES], 77);
+}
+
+/* The slip of a sheet that stops at record 1, whose edge is struck already: until release the candidate sees only that it stopped. */
+static void slips(size_t lines)
+{
+    static const uint8_t told[] = {REVOSTI_EDGE_STRUCK, 0, 1, 0, 0, 0}, hidden[] = {REVOSTI_STOPPED, 0, 0, 0, 0, 0};
+    static const uint8_t released[] = {REVOSTI_EDGE_STRUCK, 1, 1, 0, 0, 0};
+    uint8_t view[REVOSTI_VIEW_BYTES + 1] = {0, 0, 0, 0, 0, 0, 77};
+    uint64_t slip = mark_sheet(RECORD * lines);
+    expect_view("the examiner's view", revosti_examiner_view(slip, view, sizeof view), view, told);
+    expect_view("the candidate's view", revosti_candidate_view(slip, view, sizeof view), view, hidden);
+    slip = revosti_release(slip);
+    expect("the slip is released", (uint64_t)revosti_is_released(slip), 1);
+    expect("released twice", revosti_release(slip), slip);
+    expect_view("the examiner's view, released", revosti_examiner_view(slip, view, sizeof view), view, released);
+    expect_view("the candidate's view, released", revosti_candidate_view(slip, view, sizeof view), view, released);
+    expect("a view of five bytes", revosti_examiner_view(slip, view, REVOSTI_VIEW_BYTES - 1), REVOSTI_BUFFER);
+}
+
 /* Faulty input is refused, and changes nothing. `lines` is the length of the sheet that is marked already. */
 static void refusals(size_t lines)
 {
@@ -310,6 +336,7 @@ int main(void)
     crossing_saves(12, 0);
     crossing_saves(14, -2);
     convert();
+    slips(lines);
     refusals(lines);
     return faults != 0;
 }

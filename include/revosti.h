@@ -1,6 +1,6 @@
 /*
  * Revosti for C: measure a board, make fresh marks, mark a strike sheet, ask one and confirm or withdraw it, list standing pairs, check a
- * tour; tell how much an exchange, a move or a crossing saves; convert sets of marks.
+ * tour; tell how much an exchange, a move or a crossing saves; convert sets of marks; show a marked sheet's slip to examiner and candidate.
  *
  * Link with librevosti.a (`rt staticlib revosti` writes target/staticlib/librevosti.a).
  *
@@ -15,9 +15,10 @@
  *   sheet        16 bytes a record, 1 to REVOSTI_MOST_RECORDS records, numbered from 1: eight 16-bit numbers kind, a, b, u, v, c, d, next.
  *   tour         2 bytes a point, n points.
  *   list         2 bytes a point: x then y of each pair. It takes any length: its places are its whole entries.
+ *   view         REVOSTI_VIEW_BYTES bytes, what the examiner or the candidate sees of a slip. It may be longer: bytes past them stay.
  *
  * All functions accept any buffers of any lengths and any numbers: faulty input gets a refusal number, the first that applies in the
- * order given at each function. A length that is no whole number of entries is a wrong size there, for all buffers but the list. A
+ * order given at each function. A length that is no whole number of entries is a wrong size there, for all buffers but list and view. A
  * refused call changes nothing, but for a sheet that stops at a record. They touch no byte outside the lengths given, allocate nothing,
  * keep no state and always return. They use some 160 KB of stack. A buffer that is written overlaps no other while the call runs;
  * buffers that are only read may overlap.
@@ -61,6 +62,8 @@ enum {
     REVOSTI_MOST_LENGTH = 2000000,
     REVOSTI_MOST_RECORDS = 4000,
     REVOSTI_MOST_SPLITS = 6,
+    REVOSTI_VIEW_BYTES = 6,
+    REVOSTI_STOPPED = 255, /* the first byte that the candidate sees of a sheet that stopped, until release */
 
     REVOSTI_EUC_2D = 1,   /* rule 1: the nearest whole number */
     REVOSTI_CEIL_2D = 2,  /* rule 2: the next whole number above, or the same */
@@ -100,7 +103,8 @@ enum {
     REVOSTI_TOUR = 17,           /* not n whole numbers, or not each point from 1 to n exactly once */
     REVOSTI_LIST = 18,           /* the list has fewer than twice as many places as there are standing pairs */
     REVOSTI_SOMETHING_PENDING = 20, /* marking or asking while an edge is pending */
-    REVOSTI_NOTHING_PENDING = 21    /* confirming or withdrawing while none is */
+    REVOSTI_NOTHING_PENDING = 21,   /* confirming or withdrawing while none is */
+    REVOSTI_BUFFER = 22             /* a view is lent fewer than six bytes */
 };
 
 /*
@@ -222,12 +226,38 @@ int64_t revosti_crossing_saving(uint32_t n, const uint8_t *table, size_t table_l
                                 uint16_t x, uint16_t y, uint16_t z, uint16_t w);
 
 /*
- * The parts of an answer. revosti_refusal takes that of a saving, too: made a uint64_t it keeps its lowest byte, which is 0 where the
- * saving is below 0. revosti_saving is exact, since such an answer is a multiple of 65,536; of a refusal it is 0.
+ * Slips: what a marked sheet came to, for examiner and candidate. A slip is one number, the answer of revosti_mark_sheet (or
+ * revosti_ask_sheet) as it is: refusal number or 0 in bits 0 to 7, record in 8 to 23, lines accepted in 24 to 39. Bit 40 is set once it is
+ * released; in such an answer it is 0. Every number is a slip: bits 41 to 63 are ignored, and kept.
+ *
+ *   byte   the examiner sees             the candidate sees until release
+ *   0      the refusal number, or 0      0, or REVOSTI_STOPPED where there is a refusal
+ *   1      released, 0 or 1              0
+ *   2, 3   the record                    0
+ *   4, 5   the lines                     the lines
+ *
+ * After release the candidate sees the examiner's bytes. Until then two slips read the same to the candidate exactly when they have the same
+ * lines and both sheets stopped or neither did. The examiner's bytes tell every slip from every other, by its bits 0 to 40.
+ */
+
+/* Releases a slip: sets bit 40 and keeps every other. Answer: the slip. Releasing twice is releasing once. It refuses nothing. */
+uint64_t revosti_release(uint64_t slip);
+
+/*
+ * Writes what the examiner sees, and what the candidate sees, to the first six bytes. Refusal: 22, fewer than six bytes are lent. Answer:
+ * the refusal number, or 0. Bytes past the six stay, and a refused call changes nothing.
+ */
+uint64_t revosti_examiner_view(uint64_t slip, uint8_t *bytes, size_t bytes_len);
+uint64_t revosti_candidate_view(uint64_t slip, uint8_t *bytes, size_t bytes_len);
+
+/*
+ * The parts of an answer, and of a slip. revosti_refusal takes that of a saving, too: made a uint64_t it keeps its lowest byte, which is 0
+ * where the saving is below 0. revosti_saving is exact, since such an answer is a multiple of 65,536; of a refusal it is 0.
  */
 static inline unsigned revosti_refusal(uint64_t answer) { return (unsigned)(answer & 0xff); }
 static inline unsigned revosti_record(uint64_t answer) { return (unsigned)(answer >> 8 & 0xffff); }
 static inline unsigned revosti_lines(uint64_t answer) { return (unsigned)(answer >> 24 & 0xffff); }
+static inline int revosti_is_released(uint64_t slip) { return (int)(slip >> 40 & 1); }
 static inline size_t revosti_pairs(uint64_t answer) { return (size_t)(answer >> 16); }
 static inline uint64_t revosti_tour_length(uint64_t answer) { return answer >> 16; }
 static inline int revosti_tour_open(uint64_t answer) { return (int)(answer >> 8 & 1); }
