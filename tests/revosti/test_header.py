@@ -1,5 +1,5 @@
 """The inline functions for packed sets in include/revosti.h, compiled as C99 and as C++, against sets made by another way; and those for
-the answer of a saving."""
+the answer of a saving and for a slip."""
 
 import ctypes
 import shutil
@@ -23,10 +23,12 @@ size_t size(uint32_t n);
 unsigned mark(uint32_t n, const uint8_t *marks, uint32_t a, uint32_t b);
 int64_t saving(int64_t answer);
 unsigned refusal(int64_t answer);
+int released(uint64_t slip);
 size_t size(uint32_t n) { return revosti_marks_size(n); }
 unsigned mark(uint32_t n, const uint8_t *marks, uint32_t a, uint32_t b) { return revosti_mark_of(n, marks, a, b); }
 int64_t saving(int64_t answer) { return revosti_saving(answer); }
 unsigned refusal(int64_t answer) { return revosti_refusal((uint64_t)answer); }
+int released(uint64_t slip) { return revosti_is_released(slip); }
 #ifdef __cplusplus
 }
 #endif
@@ -43,6 +45,7 @@ def compiled(folder, *words):
     functions.size.restype = ctypes.c_size_t
     functions.saving.restype = ctypes.c_int64
     functions.saving.argtypes = functions.refusal.argtypes = (ctypes.c_int64,)
+    functions.released.argtypes = (ctypes.c_uint64,)
     return functions
 
 
@@ -72,6 +75,11 @@ class Inline:
             self.assertEqual((self.functions.refusal(answer), self.functions.saving(answer)), (0, saving))
         for number in (1, 2, 5, 11):
             self.assertEqual((self.functions.refusal(number), self.functions.saving(number)), (number, 0))
+
+    def test_a_released_slip(self):
+        for bit in range(64):
+            self.assertEqual(self.functions.released(1 << bit), bit == 40)
+            self.assertEqual(self.functions.released(2**64 - 1 - (1 << bit)), bit != 40)
 
     def test_refusal_of_other_answers(self):
         for answer, number in ((21, 21), (18, 18), (16 + 256 * 3, 16), (14 + 256 * 4000 + 16_777_216 * 7, 14), (65536 * 40 + 256, 0)):

@@ -14,7 +14,7 @@ from unittest import mock
 from support import ROOT
 
 import revosti
-from revosti import library
+from revosti import library, slips
 from revosti.library import NoLibrary, make
 from revosti.refusal import REFUSALS
 
@@ -162,7 +162,8 @@ class Header(unittest.TestCase):
     """Arguments and numbers are those of the header."""
 
     TEXT = (ROOT / "include/revosti.h").read_text()
-    FORMS = {"uint32_t": library.WORD, "uint16_t": library.HALF, "size_t": library.BUFFER[1], "*": library.BUFFER[0]}
+    FORMS = {"uint64_t": library.LONG, "uint32_t": library.WORD, "uint16_t": library.HALF, "size_t": library.BUFFER[1],
+             "*": library.BUFFER[0]}
 
     def form(self, argument):
         """The form of one argument."""
@@ -186,6 +187,7 @@ class Header(unittest.TestCase):
         limits, refusals = groups
         for name in ("LEAST_POINTS", "MOST_POINTS", "OPEN", "PENDING", "STRUCK"):
             self.assertEqual(getattr(revosti, name), limits[name], name)
+        self.assertEqual((slips.VIEW, revosti.STOPPED), (limits["VIEW_BYTES"], limits["STOPPED"]))
         self.assertEqual(sorted(refusals.values()), [0, *sorted(REFUSALS)])
 
 

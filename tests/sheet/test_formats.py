@@ -125,15 +125,16 @@ class Examples(unittest.TestCase):
 
 
 class Refusals(unittest.TestCase):
-    """The tables of refusals: one row for each in RULES.md, two in a row in FORMATS.md."""
+    """The tables of refusals: one row for each in RULES.md, two in a row in FORMATS.md, the last perhaps alone."""
 
     def test_rules(self):
         section = RULES_PAGE.partition("## Each operation and its refusals")[2].partition("\n## ")[0]
         self.assertEqual(list(map(int, re.findall(r"^\| (\d+) \| ", section, re.M))), list(REFUSALS))
 
     def test_formats(self):
-        rows = re.findall(r"^\| (\d+) \| [^|]* \| (\d+) \| [^|]* \|$", PAGE, re.M)
-        self.assertEqual(sorted(int(number) for row in rows for number in row), list(REFUSALS))
+        table = PAGE.partition("| Number | Meaning | Number | Meaning |\n|---|---|---|---|\n")[2].partition("\n\n")[0]
+        rows = re.findall(r"^\| (\d+) \| [^|]* \| (?:(\d+) \| [^|]* )?\|", table, re.M)
+        self.assertEqual(sorted(int(number) for row in rows for number in row if number), list(REFUSALS))
 
 
 if __name__ == "__main__":

@@ -14,7 +14,7 @@ ARCHIVE = "target/staticlib/librevosti.a"
 SHARED = "target/librevosti.so"
 
 BUFFER = (ctypes.POINTER(ctypes.c_uint8), ctypes.c_size_t)
-WORD, HALF = ctypes.c_uint32, ctypes.c_uint16
+WORD, HALF, LONG = ctypes.c_uint32, ctypes.c_uint16, ctypes.c_uint64
 ARGUMENTS = {
     "revosti_measure": (WORD, WORD, *BUFFER, *BUFFER),
     "revosti_fresh_marks": (WORD, *BUFFER),
@@ -26,6 +26,9 @@ ARGUMENTS = {
     "revosti_withdraw": (WORD, *BUFFER),
     "revosti_list_pairs": (WORD, *BUFFER, *BUFFER, HALF, HALF, HALF, *BUFFER),
     "revosti_check_tour": (WORD, *BUFFER, *BUFFER, *BUFFER),
+    "revosti_release": (LONG,),
+    "revosti_examiner_view": (LONG, *BUFFER),
+    "revosti_candidate_view": (LONG, *BUFFER),
 }
 SAVINGS = {  # their answers have a sign
     "revosti_exchange_saving": (WORD, *BUFFER, *[HALF] * 4),

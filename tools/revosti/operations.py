@@ -121,9 +121,14 @@ def mark_of(n, marks, a, b):
     return marks[byte] >> 2 * rank & 3
 
 
+def marked(function, n, table, marks, sheet):
+    """What a function answers on a sheet, refused or not."""
+    return function(fit(WORD, n), *lend(array(WORD, table)), *lend(marks), *lend(records(sheet)))
+
+
 def hand_in(function, n, table, marks, sheet):
     """The number of lines that a function accepts, where it accepts all."""
-    answer = function(fit(WORD, n), *lend(array(WORD, table)), *lend(marks), *lend(records(sheet)))
+    answer = marked(function, n, table, marks, sheet)
     lines = answer >> 24
     refuse(answer, record=answer >> 8 & 0xffff, lines=lines)
     return lines

@@ -25,12 +25,13 @@ REFUSALS = {
     18: "The list has fewer than twice as many places as there are standing pairs.",
     20: "Something is pending: confirm or withdraw it first.",
     21: "Nothing is pending: there is nothing to confirm or withdraw.",
+    22: "The buffer is too short: a view has six bytes.",
 }
 
 
 def meaning(number):
     """A refusal's meaning."""
-    return REFUSALS.get(number, "This number is not one of 1 to 18, 20 and 21.")
+    return REFUSALS.get(number, "This number is not one of 1 to 18 and 20 to 22.")
 
 
 class Refusal(Exception):

@@ -4,7 +4,7 @@ import argparse
 import sys
 from pathlib import Path
 
-from revosti import NoLibrary, Refusal, ask_sheet, confirm, mark_sheet, withdraw
+from revosti import NoLibrary, Refusal, ask_sheet, confirm, mark_sheet, release, withdraw
 
 from .answer import NoAnswer, ask
 from .archive import bytes_of, hand_in, packed_of, settle, start
@@ -15,8 +15,10 @@ from .parts import MAX_16, join, split
 from .read import Sheet, pack
 from .saving import SAVINGS, tell
 from .scan import BadText
+from .slip import slip_of, tell_slip
 from .write import unpack
 
+MAX_64 = 2**64 - 1
 CONTROLS = frozenset(range(32)) - frozenset(b"\t\n\r")
 
 
@@ -52,10 +54,12 @@ def complain(message, status):
 def parser():
     """All commands and their options."""
     top = argparse.ArgumentParser(
-        prog="sheet", description="Write, read, explain, draw and hand in strike sheets; tell savings; show and convert sets of marks.")
+        prog="sheet", description="Write, read, explain, draw and hand in strike sheets; tell savings; show slips and sets of marks, "
+                                  "convert sets.")
     commands = top.add_subparsers(required=True, metavar="COMMAND")
     add_sheets(commands)
     add_saving(commands)
+    add_slip(commands)
     add_hand_in(commands)
     add_sets(commands)
     return top
@@ -103,6 +107,24 @@ def point(text):
     digits = text.lstrip("0") or "0"
     if len(digits) > 5 or int(digits) > MAX_16:
         raise argparse.ArgumentTypeError(f"expected a point from 0 to {MAX_16}, found {digits}")
+    return int(digits)
+
+
+def add_slip(commands):
+    """The command for a slip."""
+    command = add(commands, "slip", run_slip, "what examiner and candidate see of a marked sheet, or of a slip")
+    command.add_argument("--number", metavar="SLIP", type=number, help="the slip with this number; no file is read then")
+    command.add_argument("--release", action="store_true", help="release it first")
+    command.add_argument("--form", choices=("text", "binary"), help="do not detect the form")
+
+
+def number(text):
+    """A slip on the command line: every number of 64 bits is one."""
+    if not (text.isascii() and text.isdigit()):
+        raise argparse.ArgumentTypeError(f'expected a slip, found "{text}"')
+    digits = text.lstrip("0") or "0"
+    if len(digits) > len(str(MAX_64)) or int(digits) > MAX_64:
+        raise argparse.ArgumentTypeError(f"expected a slip from 0 to {MAX_64}, found {digits}")
     return int(digits)
 
 
@@ -212,6 +234,12 @@ def run_draw(options):
 def run_saving(options):
     """sheet saving"""
     say(options, tell(load(options).parts, options.rule, options.points))
+
+
+def run_slip(options):
+    """sheet slip"""
+    slip = slip_of(load(options).parts) if options.number is None else options.number
+    say(options, tell_slip(release(slip) if options.release else slip))
 
 
 def run_fresh(options):
