@@ -2,6 +2,7 @@
 
 use crate::marking::{self, Marked};
 use crate::refusal::Refusal;
+use crate::slip::{self, Slip, View};
 use crate::{lengths, listing, marks, packed, saving, tour};
 
 /// 32-bit entries; a length that is no whole number of entries becomes a wrong size.
@@ -114,4 +115,43 @@ pub fn move_saving(n: u32, table: &[u8], cxyuv: [u16; 5]) -> i64 {
 /// The saving of a crossing for C.
 pub fn crossing_saving(n: u32, table: &[u8], pqrsxyzw: [u16; 8]) -> i64 {
     saving_number(saving::crossing_saving(n, &entries(table), pqrsxyzw))
+}
+
+/// Bit 40 of a slip.
+const RELEASED: u64 = 1 << 40;
+
+/// A slip for C: marking's number, "and released in bit 40"; bits above that are ignored.
+pub fn slip_of(number: u64) -> Slip {
+    Slip {
+        refusal: number as u8,
+        record: (number >> 8) as u16,
+        lines: (number >> 24) as u16,
+        released: number & RELEASED != 0,
+    }
+}
+
+/// The number of a slip, with no bit above it.
+pub fn slip_number(slip: Slip) -> u64 {
+    let released = if slip.released { RELEASED } else { 0 };
+    u64::from(slip.refusal) | u64::from(slip.record) << 8 | u64::from(slip.lines) << 24 | released
+}
+
+/// Releasing a slip for C: bit 40 is set, the rest stays.
+pub fn release(slip: u64) -> u64 {
+    slip_number(slip_of(slip).release()) | (slip >> 41) << 41
+}
+
+/// Writes a view for C: the refusal number or 0.
+fn write_view(view: View, bytes: &mut [u8]) -> u64 {
+    number(slip::write_view(view, bytes).map(|()| 0))
+}
+
+/// What the examiner sees, for C.
+pub fn examiner_view(slip: u64, bytes: &mut [u8]) -> u64 {
+    write_view(slip_of(slip).examiner_view(), bytes)
+}
+
+/// What the candidate sees, for C.
+pub fn candidate_view(slip: u64, bytes: &mut [u8]) -> u64 {
+    write_view(slip_of(slip).candidate_view(), bytes)
 }

@@ -18,4 +18,5 @@ pub mod program;
 pub mod refusal;
 pub mod saving;
 pub mod sheet;
+pub mod slip;
 pub mod tour;

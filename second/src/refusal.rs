@@ -24,6 +24,7 @@ pub enum Refusal {
     ListSize = 18,
     SomethingPending = 20,
     NothingPending = 21,
+    Buffer = 22,
 }
 
 impl Refusal {

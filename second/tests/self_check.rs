@@ -156,6 +156,38 @@ fn moves_are_demanded() {
     }
 }
 
+/// Before the first case no slip has been shown.
+#[test]
+fn slips_are_demanded() {
+    let missing = Coverage::default().missing();
+    for unmet in [
+        "examiner view: 0",
+        "examiner view: 22",
+        "candidate view: 0",
+        "candidate view: 22",
+        "slips of no refusal",
+        "slips of a refusal",
+        "released slips of no refusal",
+        "released slips of a refusal",
+        "slips with bits above 40",
+        "slips of accepted sheets",
+        "slips of sheets refused at no record",
+        "slips of sheets stopped before a line was accepted",
+        "slips of sheets stopped after accepted lines",
+        "different slips of sheets alike to the candidate",
+        "slips alike to the candidate with other numbers",
+        "slips alike to the candidate with other records",
+        "slips that differ to the candidate in the lines alone",
+        "slips that differ to the candidate in the outcome alone",
+        "slips alike to the examiner with other bits above 40",
+        "slips released twice",
+        "views in five bytes",
+        "views with bytes past them",
+    ] {
+        assert!(missing.contains(&unmet.to_string()), "{unmet}");
+    }
+}
+
 /// Sheets until the comparison finds the slip.
 fn found_after(slip: Slip) -> Option<u64> {
     let naive = Naive { slip: Some(slip) };
@@ -243,6 +275,21 @@ fn slips_of_both_are_found_by_the_moves_of_settled_points() {
     }
     for slip in [Slip::TouchingLeft, Slip::SettledTies] {
         assert_eq!(found_in_both(slip), "list pairs by savings", "{slip:?}, with a or b in the pair");
+    }
+}
+
+/// Paper 13's laws: what two slips tell, and what releasing and showing leave.
+#[test]
+fn slips_of_both_are_found_by_the_laws_of_slips() {
+    assert_eq!(found_in_both(Slip::RecordShownEarly), "two slips to the candidate");
+    assert_eq!(found_in_both(Slip::NumberShownEarly), "two slips to the candidate");
+    assert_eq!(found_in_both(Slip::LinesHidden), "two slips to the candidate");
+    assert_eq!(found_in_both(Slip::HiddenAfterRelease), "released slip");
+    assert_eq!(found_in_both(Slip::ReleaseTakenBack), "release, other bits");
+    assert_eq!(found_in_both(Slip::ReleaseCutsAbove), "release, other bits");
+    for slip in [Slip::ShortViewWritten, Slip::BytesPastCleared] {
+        let what = found_in_both(slip);
+        assert!(what.ends_with(" view, bytes lent"), "{slip:?}: {what}");
     }
 }
 

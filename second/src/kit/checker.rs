@@ -29,6 +29,12 @@ pub trait Checker {
     fn move_saving(&self, n: u32, table: &[u8], cxyuv: [u16; 5]) -> i64;
     /// The same; p, q, r, s, x, y, z, w.
     fn crossing_saving(&self, n: u32, table: &[u8], pqrsxyzw: [u16; 8]) -> i64;
+    /// The slip, released.
+    fn release(&self, slip: u64) -> u64;
+    /// The refusal number or 0.
+    fn examiner_view(&self, slip: u64, bytes: &mut [u8]) -> u64;
+    /// The refusal number or 0.
+    fn candidate_view(&self, slip: u64, bytes: &mut [u8]) -> u64;
     /// What `mark` prints for a file.
     fn program(&self, file: &[u8]) -> Vec<u8>;
     /// Whether every program text is compared, or a sample only because each starts a process.
@@ -95,6 +101,18 @@ impl Checker for Second {
 
     fn crossing_saving(&self, n: u32, table: &[u8], pqrsxyzw: [u16; 8]) -> i64 {
         crate::bytes::crossing_saving(n, table, pqrsxyzw)
+    }
+
+    fn release(&self, slip: u64) -> u64 {
+        crate::bytes::release(slip)
+    }
+
+    fn examiner_view(&self, slip: u64, bytes: &mut [u8]) -> u64 {
+        crate::bytes::examiner_view(slip, bytes)
+    }
+
+    fn candidate_view(&self, slip: u64, bytes: &mut [u8]) -> u64 {
+        crate::bytes::candidate_view(slip, bytes)
     }
 
     fn program(&self, file: &[u8]) -> Vec<u8> {

@@ -6,6 +6,7 @@ use super::moves_met::MovesMet;
 use super::rules_met::RulesMet;
 use super::savings_met::SavingsMet;
 use super::sets_met::SetsMet;
+use super::slips_met::SlipsMet;
 use crate::sheet::Sheet;
 
 #[derive(Clone, Copy, Debug, PartialEq, Eq)]
@@ -23,6 +24,8 @@ pub enum Operation {
     ExchangeSaving,
     MoveSaving,
     CrossingSaving,
+    ExaminerView,
+    CandidateView,
     Program,
 }
 
@@ -43,18 +46,20 @@ const DEMANDS: [(Operation, &str, &[usize]); Operation::COUNT] = [
     (ExchangeSaving, "exchange saving", &[0, 1, 2, 5, 11]),
     (MoveSaving, "move saving", &[0, 1, 2, 5, 11]),
     (CrossingSaving, "crossing saving", &[0, 1, 2, 5, 11]),
+    (ExaminerView, "examiner view", &[0, 22]),
+    (CandidateView, "candidate view", &[0, 22]),
     (Program, "program", &[0, 1, 3, 4, 7, 8, 9, 10, 11, 12, 13, 14, 15, 16]),
 ];
 
 impl Operation {
-    pub const COUNT: usize = 14;
+    pub const COUNT: usize = 16;
 
     pub fn name(self) -> &'static str {
         DEMANDS.iter().find(|demand| demand.0 == self).unwrap().1
     }
 }
 
-const NUMBERS: usize = 22;
+const NUMBERS: usize = 23;
 
 /// Outcomes that a refusal number does not tell apart.
 #[derive(Clone, Copy, Debug, PartialEq, Eq)]
@@ -198,6 +203,7 @@ pub struct Coverage {
     pub sets: SetsMet,
     pub savings: SavingsMet,
     pub moves: MovesMet,
+    pub slips: SlipsMet,
     /// Accepted lines by the number of splits one inside another, from 1.
     depths: [u64; Sheet::MOST_SPLITS + 1],
     /// Accepted lines by the size of the board.
@@ -218,6 +224,7 @@ impl Default for Coverage {
             sets: SetsMet::default(),
             savings: SavingsMet::default(),
             moves: MovesMet::default(),
+            slips: SlipsMet::default(),
             depths: [0; Sheet::MOST_SPLITS + 1],
             sizes: [0; SIZES.len()],
         }
@@ -253,6 +260,7 @@ impl Coverage {
         missing.extend(self.sets.missing());
         missing.extend(self.savings.missing());
         missing.extend(self.moves.missing());
+        missing.extend(self.slips.missing());
         let unmet = (1..=Sheet::MOST_SPLITS).filter(|&depth| self.depths[depth] == 0);
         missing.extend(unmet.map(|depth| format!("accepted line at depth {depth}")));
         let unmet = SIZES.iter().zip(self.sizes).filter(|&(_, lines)| lines == 0);
@@ -282,7 +290,7 @@ impl fmt::Display for Coverage {
             writeln!(f, "{name}: {}", self.events[event as usize])?;
         }
         writeln!(f, "measure: {}\nprogram: {}\n{}", self.measure_rules, self.program_rules, self.sets)?;
-        writeln!(f, "{}{}", self.savings, self.moves)?;
+        write!(f, "{}{}\n{}", self.savings, self.moves, self.slips)?;
         write!(f, "accepted lines by depth:")?;
         for depth in 1..=Sheet::MOST_SPLITS {
             write!(f, " {depth}: {}", self.depths[depth])?;

@@ -79,6 +79,18 @@ impl<C: Checker> Checker for Guarded<C> {
         self.0.crossing_saving(n, table, pqrsxyzw)
     }
 
+    fn release(&self, slip: u64) -> u64 {
+        self.0.release(slip)
+    }
+
+    fn examiner_view(&self, slip: u64, bytes: &mut [u8]) -> u64 {
+        lend(bytes, |bytes| self.0.examiner_view(slip, bytes))
+    }
+
+    fn candidate_view(&self, slip: u64, bytes: &mut [u8]) -> u64 {
+        lend(bytes, |bytes| self.0.candidate_view(slip, bytes))
+    }
+
     fn program(&self, file: &[u8]) -> Vec<u8> {
         self.0.program(file)
     }

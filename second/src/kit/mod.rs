@@ -23,6 +23,8 @@ pub mod set_faults;
 pub mod sets;
 pub mod sets_met;
 pub mod sheets;
+pub mod slips;
+pub mod slips_met;
 pub mod spoil;
 pub mod three_opt;
 pub mod workloads;

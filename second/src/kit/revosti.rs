@@ -74,6 +74,9 @@ extern "C" {
         z: u16,
         w: u16,
     ) -> i64;
+    fn revosti_release(slip: u64) -> u64;
+    fn revosti_examiner_view(slip: u64, bytes: *mut u8, bytes_len: usize) -> u64;
+    fn revosti_candidate_view(slip: u64, bytes: *mut u8, bytes_len: usize) -> u64;
 }
 
 /// Revosti; `mark` is the program's path.
@@ -166,6 +169,18 @@ impl Checker for Revosti {
 
     fn crossing_saving(&self, n: u32, table: &[u8], [p, q, r, s, x, y, z, w]: [u16; 8]) -> i64 {
         unsafe { revosti_crossing_saving(n, table.as_ptr(), table.len(), p, q, r, s, x, y, z, w) }
+    }
+
+    fn release(&self, slip: u64) -> u64 {
+        unsafe { revosti_release(slip) }
+    }
+
+    fn examiner_view(&self, slip: u64, bytes: &mut [u8]) -> u64 {
+        unsafe { revosti_examiner_view(slip, bytes.as_mut_ptr(), bytes.len()) }
+    }
+
+    fn candidate_view(&self, slip: u64, bytes: &mut [u8]) -> u64 {
+        unsafe { revosti_candidate_view(slip, bytes.as_mut_ptr(), bytes.len()) }
     }
 
     /// Runs the program. It may stop reading early, so a broken pipe is no failure.

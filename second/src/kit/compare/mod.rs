@@ -5,6 +5,7 @@ mod moves;
 mod packing;
 mod readings;
 mod savings;
+mod slips;
 mod steps;
 
 use std::fmt::{self, Debug, Write};
@@ -30,7 +31,7 @@ type Checked = Result<(), Difference>;
 pub struct Comparison<'a> {
     one: &'a dyn Checker,
     other: &'a dyn Checker,
-    /// A third program, for savings and for packed sets, which it reads into byte sets.
+    /// A third program, for savings, for slips and for packed sets, which it reads into byte sets.
     naive: &'a dyn Checker,
     seed: u64,
     case: u64,
@@ -39,6 +40,8 @@ pub struct Comparison<'a> {
     /// A folder where each input of the program is kept.
     pub save: Option<PathBuf>,
     saved: u64,
+    /// The slip of the sheet before.
+    last_slip: Option<u64>,
     pub coverage: Coverage,
 }
 
@@ -53,7 +56,18 @@ const ATTEMPTS: usize = 2;
 
 impl<'a> Comparison<'a> {
     pub fn new(one: &'a dyn Checker, other: &'a dyn Checker, naive: &'a dyn Checker, seed: u64) -> Self {
-        Comparison { one, other, naive, seed, case: 0, sheets: 0, save: None, saved: 0, coverage: Coverage::default() }
+        Comparison {
+            one,
+            other,
+            naive,
+            seed,
+            case: 0,
+            sheets: 0,
+            save: None,
+            saved: 0,
+            last_slip: None,
+            coverage: Coverage::default(),
+        }
     }
 
     /// Runs cases from 0 on until so many sheets are compared.
@@ -66,7 +80,7 @@ impl<'a> Comparison<'a> {
         Ok(())
     }
 
-    /// One instance with its sheets, listings, tours, files and savings.
+    /// One instance with its sheets, listings, tours, files and savings; and slips.
     pub fn run_case(&mut self, case: u64) -> Checked {
         self.case = case;
         let mut rng = Rng::new(self.seed, case);
@@ -80,7 +94,8 @@ impl<'a> Comparison<'a> {
             self.round(&mut rng, &mut run)?;
         }
         self.savings(&mut rng, &run.board)?;
-        self.moves(&mut rng, &run.board)
+        self.moves(&mut rng, &run.board)?;
+        self.slips()
     }
 
     /// Damaged sheets on copies of the marks; noise, lines for edges that are kept and the valid sheet on the marks

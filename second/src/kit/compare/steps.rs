@@ -155,6 +155,7 @@ impl Comparison<'_> {
         })?;
         if step.hands_in() {
             self.accepted(lent, before, sheet, answer);
+            self.sheet_slip(answer)?;
         }
         Ok(answer)
     }

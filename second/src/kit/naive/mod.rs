@@ -9,12 +9,14 @@ mod rules;
 mod savings;
 mod sets;
 mod slip;
+mod views;
 
 use super::checker::Checker;
 use reader::Reader;
 use rules::{all_edges, pending_read_as, Board, Edge};
 use sets::{byte_set, packed_size};
 pub use slip::Slip;
+use views::Viewer;
 
 #[derive(Default)]
 pub struct Naive {
@@ -339,6 +341,18 @@ impl Checker for Naive {
 
     fn crossing_saving(&self, n: u32, table: &[u8], pqrsxyzw: [u16; 8]) -> i64 {
         saved(self.crossed(n, table, pqrsxyzw))
+    }
+
+    fn release(&self, slip: u64) -> u64 {
+        self.released(slip)
+    }
+
+    fn examiner_view(&self, slip: u64, bytes: &mut [u8]) -> u64 {
+        self.view(Viewer::Examiner, slip, bytes)
+    }
+
+    fn candidate_view(&self, slip: u64, bytes: &mut [u8]) -> u64 {
+        self.view(Viewer::Candidate, slip, bytes)
     }
 
     fn program(&self, file: &[u8]) -> Vec<u8> {

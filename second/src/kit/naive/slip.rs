@@ -126,10 +126,26 @@ pub enum Slip {
     EdgeAtPoint,
     /// Test 5 also shuts out equal sums, for other points than the split point.
     SettledTies,
+    /// The candidate sees the record before release.
+    RecordShownEarly,
+    /// The candidate sees the refusal number before release.
+    NumberShownEarly,
+    /// The candidate does not see the lines before release.
+    LinesHidden,
+    /// The candidate sees no more after release.
+    HiddenAfterRelease,
+    /// Releasing a released slip takes it back.
+    ReleaseTakenBack,
+    /// Releasing cuts the bits above 40.
+    ReleaseCutsAbove,
+    /// A view refused by 22 has written the bytes that fit.
+    ShortViewWritten,
+    /// A view clears the bytes past it.
+    BytesPastCleared,
 }
 
 impl Slip {
-    pub const ALL: [Slip; 63] = [
+    pub const ALL: [Slip; 71] = [
         Slip::EqualShutsOut,
         Slip::EqualSaves,
         Slip::OneExchange,
@@ -193,5 +209,13 @@ impl Slip {
         Slip::TouchingLeft,
         Slip::EdgeAtPoint,
         Slip::SettledTies,
+        Slip::RecordShownEarly,
+        Slip::NumberShownEarly,
+        Slip::LinesHidden,
+        Slip::HiddenAfterRelease,
+        Slip::ReleaseTakenBack,
+        Slip::ReleaseCutsAbove,
+        Slip::ShortViewWritten,
+        Slip::BytesPastCleared,
     ];
 }
