@@ -1,6 +1,6 @@
 /*
  * The fuzzing target over the functions for C. An input is a file of the program `mark`: rule, n, coordinates, records. Its last
- * 16 bytes are read as the eight points of a saving, too.
+ * 16 bytes are read as the eight points of a saving, too, and its last 8 as a slip.
  *
  * Every buffer ends at a page that must not be touched, so a read or write past its end is a crash. The archive carries no
  * instrumentation; instead what a call answers (refusal, record, lines, strikes) is written into AFL's map, so that inputs with a new
@@ -28,9 +28,10 @@ static uint8_t *guarded(void)
 }
 
 static uint8_t *table_end, *marks_end, *sheet_end, *tour_end, *list_end, *measured_end, *asked_end, *settled_end, *other_list_end;
-static uint8_t *bytes_end, *packed_end;
+static uint8_t *bytes_end, *packed_end, *view_end;
 
 static uint32_t get32(const uint8_t *at) { return at[0] | (uint32_t)at[1] << 8 | (uint32_t)at[2] << 16 | (uint32_t)at[3] << 24; }
+static uint64_t get64(const uint8_t *at) { return get32(at) | (uint64_t)get32(at + 4) << 32; }
 
 static void promise(int kept, const char *what)
 {
@@ -364,6 +365,31 @@ static void try_savings(uint32_t n, const uint8_t *table, size_t len, const uint
     if (len) try_three(n, table + 1, len - 1, v);
 }
 
+/* A view of a slip in so many bytes: the six that are due, and the others as they were; or 22, and all of them. */
+static void try_view(uint64_t slip, size_t len, int hides, uint64_t (*look)(uint64_t, uint8_t *, size_t))
+{
+    unsigned refusal = revosti_refusal(slip), record = hides ? 0 : revosti_record(slip), lines = revosti_lines(slip);
+    uint8_t *view = view_end - len, due[REVOSTI_VIEW_BYTES];
+    due[0] = (uint8_t)(hides && refusal ? REVOSTI_STOPPED : refusal), due[1] = (uint8_t)(slip >> 40 & 1);
+    due[2] = (uint8_t)record, due[3] = (uint8_t)(record >> 8), due[4] = (uint8_t)lines, due[5] = (uint8_t)(lines >> 8);
+    uint64_t number = len < sizeof due ? REVOSTI_BUFFER : 0;
+    memset(view, 0xa5, len);
+    promise(look(slip, view, len) == number, "22, or 0");
+    for (size_t i = 0; i < len; i++) promise(view[i] == (number == 0 && i < sizeof due ? due[i] : 0xa5), "the view, or the bytes as they were");
+    seen(13, (unsigned)number, (refusal != 0) + 2u * (unsigned)(slip >> 40 & 1) + 4u * (unsigned)hides);
+}
+
+/* A slip before and after its release, in so many bytes. */
+static void try_slip(uint64_t slip, size_t len)
+{
+    uint64_t released = slip | (uint64_t)1 << 40;
+    promise(revosti_release(slip) == released && revosti_release(released) == released, "bit 40 is set, and every other stays");
+    try_view(slip, len, 0, revosti_examiner_view);
+    try_view(slip, len, slip != released, revosti_candidate_view);
+    try_view(released, len, 0, revosti_examiner_view);
+    try_view(released, len, 0, revosti_candidate_view);
+}
+
 static void run(const uint8_t *file, size_t size)
 {
     if (size < 8) return;
@@ -413,6 +439,8 @@ static void run(const uint8_t *file, size_t size)
     seen(2, lines < 60 ? lines : 60, refusal);
     try_list(n, table + (4 * edges - table_len), table_len, marks, edges, rule);
     if (size >= 16) try_savings(n, table + (4 * edges - table_len), table_len, file + size - 16);
+    try_slip(answer, 6 + rule % 3);
+    try_slip(get64(file + size - 8), size % 9);
     if (n == points && n >= 2) try_tour(n, table, 4 * edges, marks, edges);
 }
 
@@ -420,7 +448,7 @@ int main(void)
 {
     table_end = guarded(), marks_end = guarded(), sheet_end = guarded(), tour_end = guarded();
     list_end = guarded(), measured_end = guarded(), asked_end = guarded(), settled_end = guarded(), other_list_end = guarded();
-    bytes_end = guarded(), packed_end = guarded();
+    bytes_end = guarded(), packed_end = guarded(), view_end = guarded();
     __AFL_INIT();
     unsigned char *file = __AFL_FUZZ_TESTCASE_BUF;
     while (__AFL_LOOP(10000)) run(file, (size_t)__AFL_FUZZ_TESTCASE_LEN);
