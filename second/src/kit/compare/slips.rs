@@ -98,7 +98,7 @@ impl Comparison<'_> {
 
     /// A view in three programs: the number, and every byte that was lent.
     fn view(&mut self, operation: Operation, slip: u64, size: usize) -> Checked {
-        let lent: Vec<u8> = (1..=size as u8).map(|place| 37 * place).collect();
+        let lent: Vec<u8> = (1..=size as u8).map(|place| place.wrapping_mul(37)).collect();
         let [one, other, naive] = [self.one, self.other, self.naive].map(|checker| {
             let mut bytes = lent.clone();
             (view(checker, operation, slip, &mut bytes), bytes)
