@@ -20,6 +20,13 @@ use Rattle.rules.specs.PairTest.{every, stays?, unmoved?, joint?, meetin
 use Rattle.rules.proofs.Every.{every-has, has-every}
 use Rattle.rules.proofs.Savings.{move-sum}
 
+-- an edge leads from a point to one other
+joins-one : (p q w s t : ℕ) → Joins (edge p q) w s → Joins (edge p q) w t → s ≡ t
+joins-one p q w s t (inl e) (inl f) = sym (e .1) ∙ f .1
+joins-one p q w s t (inl e) (inr f) = sym (e .1) ∙ f .1 ∙ sym (e .0) ∙ f .0
+joins-one p q w s t (inr e) (inl f) = sym (e .0) ∙ f .0 ∙ sym (e .1) ∙ f .1
+joins-one p q w s t (inr e) (inr f) = sym (e .0) ∙ f .0
+
 -- the edge uv does not save, or it touches w
 pub stays-iff : (out put : ℕ → ℕ → ℕ) (w s t u v : ℕ) → (stays? out put w s t u v ≡ true) ↔ ((u ≡ w → ⊥) → (v ≡ w → ⊥) → MoveSaves out put w s t u v → ⊥)
 unfolding stays?
@@ -98,13 +105,7 @@ module _ (out put : ℕ → ℕ → ℕ) (out-turns : (a b : ℕ) → out a b �
         → (joint? out put c x w s t ≡ true) ⊎ (joint? out put c x w t s ≡ true)
     unfolding settled?
     settled-joint [] h w s t st wc hs ht = absurd hs
-    settled-joint (edge p q ∷ es) h w s t st wc (inl i) (inl j) = absurd (st (one i j))
-      where
-        one : Joins (edge p q) w s → Joins (edge p q) w t → s ≡ t
-        one (inl e) (inl f) = sym (e .1) ∙ f .1
-        one (inl e) (inr f) = sym (e .1) ∙ f .1 ∙ sym (e .0) ∙ f .0
-        one (inr e) (inl f) = sym (e .0) ∙ f .0 ∙ sym (e .1) ∙ f .1
-        one (inr e) (inr f) = sym (e .0) ∙ f .0
+    settled-joint (edge p q ∷ es) h w s t st wc (inl i) (inl j) = absurd (st (joins-one p q w s t i j))
     settled-joint (edge p q ∷ es) h w s t st wc (inl i) (inr j) =
         inl (first-meets p q w s t st wc i (every-has (apart? out put c x p q) (apart-turn p q) es (and-left (every (apart? out put c x p q) es) _ h) w t j))
     settled-joint (edge p q ∷ es) h w s t st wc (inr i) (inl j) =
@@ -352,12 +353,9 @@ module _ (out put : ℕ → ℕ → ℕ) (out-turns : (a b : ℕ) → out a b �
 
 -- {ab}: each point has one neighbour at most
 single-one : (a b w s t : ℕ) → Has (edge a b ∷ []) w s → Has (edge a b ∷ []) w t → s ≡ t
-single-one a b w s t (inl (inl e)) (inl (inl f)) = sym (e .1) ∙ f .1
-single-one a b w s t (inl (inl e)) (inl (inr f)) = sym (e .1) ∙ f .1 ∙ sym (e .0) ∙ f .0
-single-one a b w s t (inl (inr e)) (inl (inl f)) = sym (e .0) ∙ f .0 ∙ sym (e .1) ∙ f .1
-single-one a b w s t (inl (inr e)) (inl (inr f)) = sym (e .0) ∙ f .0
-single-one a b w s t (inr e) f = absurd e
-single-one a b w s t (inl e) (inr f) = absurd f
+single-one a b w s t (inl i) (inl j) = joins-one a b w s t i j
+single-one a b w s t (inr i) j = absurd i
+single-one a b w s t (inl i) (inr j) = absurd j
 
 -- so none can be moved
 pub single-unmovable : (out put : ℕ → ℕ → ℕ) (a b : ℕ) → Unmovable out put (edge a b ∷ [])
