@@ -93,32 +93,32 @@ module _ (K : List Edge) (p q r s : ℕ) where
       not-has true e = absurd (h .rs-free (has-exact K r s .0 e))
       not-has false e = e
 
-module _ (l : ℕ → ℕ → ℕ) (p q r s : ℕ) where
+module _ (out put : ℕ → ℕ → ℕ) (p q r s : ℕ) where
   -- one labelling: the test and the record
-  saves-of : (x y z w : ℕ) → saves? l p q r s x y z w ≡ true → Saves l l p q r s x y z w
-  saves-of x y z w h = label-test l p q r s x y z w ∙ h
+  saves-of : (x y z w : ℕ) → saves? out put p q r s x y z w ≡ true → Saves out put p q r s x y z w
+  saves-of x y z w h = label-test out put p q r s x y z w ∙ h
 
-  of-saves : (x y z w : ℕ) → Saves l l p q r s x y z w → saves? l p q r s x y z w ≡ true
-  of-saves x y z w h = sym (label-test l p q r s x y z w) ∙ h
+  of-saves : (x y z w : ℕ) → Saves out put p q r s x y z w → saves? out put p q r s x y z w ≡ true
+  of-saves x y z w h = sym (label-test out put p q r s x y z w) ∙ h
 
   -- a labelling that saves is one of the four, in whichever order the ends are named
-  labelled : (x y z w : ℕ) → saves? l p q r s x y z w ≡ true
-      → (labelling? l p q r s x y z w ≡ true)
-      × (labelling? l p q r s x y w z ≡ true)
-      × (labelling? l p q r s y x z w ≡ true)
-      × (labelling? l p q r s y x w z ≡ true)
+  labelled : (x y z w : ℕ) → saves? out put p q r s x y z w ≡ true
+      → (labelling? out put p q r s x y z w ≡ true)
+      × (labelling? out put p q r s x y w z ≡ true)
+      × (labelling? out put p q r s y x z w ≡ true)
+      × (labelling? out put p q r s y x w z ≡ true)
   unfolding labelling?
   labelled x y z w h = (
     rw (labelling?, h),
-    true-or (saves? l p q r s x y w z) _ (inr (rw h)),
-    true-or (saves? l p q r s y x z w) _ (inr (true-or (saves? l p q r s y x w z) _ (inr (rw h)))),
-    true-or (saves? l p q r s y x w z) _
-        (inr (true-or (saves? l p q r s y x z w) _ (inr (true-or (saves? l p q r s x y w z) _ (inr h))))),
+    true-or (saves? out put p q r s x y w z) _ (inr (rw h)),
+    true-or (saves? out put p q r s y x z w) _ (inr (true-or (saves? out put p q r s y x w z) _ (inr (rw h)))),
+    true-or (saves? out put p q r s y x w z) _
+        (inr (true-or (saves? out put p q r s y x z w) _ (inr (true-or (saves? out put p q r s x y w z) _ (inr h))))),
   )
 
   -- so that one saves under all names or under none
-  renamed : (x y z w : ℕ) → labelling? l p q r s x y z w ≡ true
-      → (labelling? l p q r s x y w z ≡ true) × (labelling? l p q r s y x z w ≡ true) × (labelling? l p q r s y x w z ≡ true)
+  renamed : (x y z w : ℕ) → labelling? out put p q r s x y z w ≡ true
+      → (labelling? out put p q r s x y w z ≡ true) × (labelling? out put p q r s y x z w ≡ true) × (labelling? out put p q r s y x w z ≡ true)
   unfolding labelling?
   renamed x y z w h =
       ⊎-elim (λ e. let f = labelled x y z w e in (f .1, f .2, f .3))
@@ -129,7 +129,7 @@ module _ (l : ℕ → ℕ → ℕ) (p q r s : ℕ) where
       (or-true _ _ h)
 
   -- and the four labellings are the four ways to name the ends of a 3-opt closing
-  closes-of : {K : List Edge} (x y z w : ℕ) → labelling? l p q r s x y z w ≡ true → ThreeOptMoves K p q r s x y z w → Closes l l K p q r s
+  closes-of : {K : List Edge} (x y z w : ℕ) → labelling? out put p q r s x y z w ≡ true → ThreeOptMoves K p q r s x y z w → Closes out put K p q r s
   unfolding labelling?
   closes-of {K} x y z w h c =
       ⊎-elim (λ e. by x y z w (c .ends-r) (c .ends-s) e)
@@ -140,7 +140,7 @@ module _ (l : ℕ → ℕ → ℕ) (p q r s : ℕ) where
       (or-true _ _ h))
       (or-true _ _ h)
     where
-      by : (x y z w : ℕ) → DegreeTwo K r x y → DegreeTwo K s z w → saves? l p q r s x y z w ≡ true → Closes l l K p q r s
+      by : (x y z w : ℕ) → DegreeTwo K r x y → DegreeTwo K s z w → saves? out put p q r s x y z w ≡ true → Closes out put K p q r s
       by x y z w i j e =
           record {
             x = x;
@@ -163,50 +163,50 @@ module _ (l : ℕ → ℕ → ℕ) (p q r s : ℕ) where
           }
 
 -- a 3-opt closing that settles nothing
-pub record Unsaved (l : ℕ → ℕ → ℕ) (K : List Edge) (p q r s : ℕ) : Type 0 where
+pub record Unsaved (out put : ℕ → ℕ → ℕ) (K : List Edge) (p q r s : ℕ) : Type 0 where
   pub x : ℕ
   pub y : ℕ
   pub z : ℕ
   pub w : ℕ
   pub moves : ThreeOptMoves K p q r s x y z w
-  pub unsettled : Closes l l K p q r s → ⊥
+  pub unsettled : Closes out put K p q r s → ⊥
 
 -- What the test finds: no 3-opt closing, or a 3-opt closing with its ends, whose labellings decide.
-data TestFinds (l : ℕ → ℕ → ℕ) (K : List Edge) (p q r s : ℕ) : Type 0 where
-  none : threeOptOutcome l K p q r s ≡ NoMoves → ((x y z w : ℕ) → ThreeOptMoves K p q r s x y z w → ⊥) → TestFinds l K p q r s
-  some : (x y z w : ℕ) → ThreeOptMoves K p q r s x y z w → threeOptOutcome l K p q r s ≡ cond (labelling? l p q r s x y z w) Settled NoSaving
-      → TestFinds l K p q r s
+data TestFinds (out put : ℕ → ℕ → ℕ) (K : List Edge) (p q r s : ℕ) : Type 0 where
+  none : threeOptOutcome out put K p q r s ≡ NoMoves → ((x y z w : ℕ) → ThreeOptMoves K p q r s x y z w → ⊥) → TestFinds out put K p q r s
+  some : (x y z w : ℕ) → ThreeOptMoves K p q r s x y z w → threeOptOutcome out put K p q r s ≡ cond (labelling? out put p q r s x y z w) Settled NoSaving
+      → TestFinds out put K p q r s
 
 -- The proof of the three theorems. The tests of pq, of the centres and of rs are 01's conditions one for one, so a 3-opt closing passes
 -- them, and where they pass only the ends are open. `endsOf` answers two ends exactly where a centre has them; so the test finds no
 -- 3-opt closing, or the ends x, y, z, w of one. Whoever names the ends of the same centres names these, each pair in this order or swapped:
 -- a labelling that saves under one choice of names is one of the four under every other. So the four tests at the ends found decide
 -- whether any choice of names saves on both moves, which is what `Closes` asks.
-module _ (l : ℕ → ℕ → ℕ) (K : List Edge) (p q r s : ℕ) where
-  judged : TestFinds l K p q r s
+module _ (out put : ℕ → ℕ → ℕ) (K : List Edge) (p q r s : ℕ) where
+  judged : TestFinds out put K p q r s
   judged = go (placed? K p q r s) refl (endsOf K r) refl (endsOf K s) refl
     where
-      go : (t : Bool) → placed? K p q r s ≡ t → (e : neighbours.Ends) → endsOf K r ≡ e → (f : neighbours.Ends) → endsOf K s ≡ f → TestFinds l K p q r s
-      go false h e i f j = none (unplaced l K p q r s h) (λ x y z w c. false≢true (sym h ∙ placed-of K p q r s c))
-      go true h Other i f j = none (no-ends-r l K p q r s h i) (λ x y z w c. no-ends K r x y i (c .ends-r))
-      go true h (Two x y) i Other j = none (no-ends-s l K p q r s h i j) (λ x y z w c. no-ends K s z w j (c .ends-s))
+      go : (t : Bool) → placed? K p q r s ≡ t → (e : neighbours.Ends) → endsOf K r ≡ e → (f : neighbours.Ends) → endsOf K s ≡ f → TestFinds out put K p q r s
+      go false h e i f j = none (unplaced out put K p q r s h) (λ x y z w c. false≢true (sym h ∙ placed-of K p q r s c))
+      go true h Other i f j = none (no-ends-r out put K p q r s h i) (λ x y z w c. no-ends K r x y i (c .ends-r))
+      go true h (Two x y) i Other j = none (no-ends-s out put K p q r s h i j) (λ x y z w c. no-ends K s z w j (c .ends-s))
       go true h (Two x y) i (Two z w) j =
-          some x y z w (moves-of K p q r s h (ends-sound K r x y i) (ends-sound K s z w j)) (both-ends l K p q r s h i j)
+          some x y z w (moves-of K p q r s h (ends-sound K r x y i) (ends-sound K s z w j)) (both-ends out put K p q r s h i j)
 
-  settled-closes : threeOptOutcome l K p q r s ≡ Settled → Closes l l K p q r s
+  settled-closes : threeOptOutcome out put K p q r s ≡ Settled → Closes out put K p q r s
   settled-closes h = go judged
     where
       saving : (t : Bool) → Settled ≡ cond t Settled NoSaving → t ≡ true
       saving true e = refl
       saving false e = absurd (settled-saves e)
 
-      go : TestFinds l K p q r s → Closes l l K p q r s
+      go : TestFinds out put K p q r s → Closes out put K p q r s
       go (none e n) = absurd (settled-not-unplaced (sym h ∙ e))
-      go (some x y z w c e) = closes-of l p q r s x y z w (saving _ (sym h ∙ e)) c
+      go (some x y z w c e) = closes-of out put p q r s x y z w (saving _ (sym h ∙ e)) c
 
-  closes-settled : Closes l l K p q r s → threeOptOutcome l K p q r s ≡ Settled
+  closes-settled : Closes out put K p q r s → threeOptOutcome out put K p q r s ≡ Settled
   closes-settled h =
-      let four = labelled l p q r s (h .x) (h .y) (h .z) (h .w) (of-saves l p q r s (h .x) (h .y) (h .z) (h .w) (h .saves)) in
+      let four = labelled out put p q r s (h .x) (h .y) (h .z) (h .w) (of-saves out put p q r s (h .x) (h .y) (h .z) (h .w) (h .saves)) in
       ⊎-elim (λ i. ⊎-elim (λ j. by i j (four .0)) (λ j. by i j (four .1)) ends-s)
       (λ i. ⊎-elim (λ j. by i j (four .2)) (λ j. by i j (four .3)) ends-s)
       (ends-complete K r (h .x) (h .y) (h .moves .ends-r))
@@ -214,71 +214,71 @@ module _ (l : ℕ → ℕ → ℕ) (K : List Edge) (p q r s : ℕ) where
       ends-s : (endsOf K s ≡ Two (h .z) (h .w)) ⊎ (endsOf K s ≡ Two (h .w) (h .z))
       ends-s = ends-complete K s (h .z) (h .w) (h .moves .ends-s)
 
-      by : {x y z w : ℕ} → endsOf K r ≡ Two x y → endsOf K s ≡ Two z w → labelling? l p q r s x y z w ≡ true → threeOptOutcome l K p q r s ≡ Settled
-      by i j e = sym (answer l K p q r s (placed-of K p q r s (h .moves)) i j e)
+      by : {x y z w : ℕ} → endsOf K r ≡ Two x y → endsOf K s ≡ Two z w → labelling? out put p q r s x y z w ≡ true → threeOptOutcome out put K p q r s ≡ Settled
+      by i j e = sym (answer out put K p q r s (placed-of K p q r s (h .moves)) i j e)
 
   -- Settled exactly when the closing settles K
-  pub settled-exact : (threeOptOutcome l K p q r s ≡ Settled) ↔ Closes l l K p q r s
+  pub settled-exact : (threeOptOutcome out put K p q r s ≡ Settled) ↔ Closes out put K p q r s
   settled-exact = (settled-closes, closes-settled)
 
   -- A CROSSING shuts a case out exactly when its saving is above 0, whoever names the ends
-  pub crossing-shuts : (x y z w : ℕ) → ThreeOptMoves K p q r s x y z w → (threeOptOutcome l K p q r s ≡ Settled) ↔ (gains? (crossingSaving l l p q r s x y z w) ≡ true)
-  crossing-shuts x y z w m = (to, λ g. closes-settled (closes-of l p q r s x y z w (sym (crossing-test l p q r s x y z w) ∙ g) m))
+  pub crossing-shuts : (x y z w : ℕ) → ThreeOptMoves K p q r s x y z w → (threeOptOutcome out put K p q r s ≡ Settled) ↔ (gains? (crossingSaving out put p q r s x y z w) ≡ true)
+  crossing-shuts x y z w m = (to, λ g. closes-settled (closes-of out put p q r s x y z w (sym (crossing-test out put p q r s x y z w) ∙ g) m))
     where
       saved : (t : Bool) → cond t Settled NoSaving ≡ Settled → t ≡ true
       saved true e = refl
       saved false e = absurd (settled-saves (sym e))
 
-      by : (a b c d : ℕ) → endsOf K r ≡ Two a b → endsOf K s ≡ Two c d → threeOptOutcome l K p q r s ≡ Settled → labelling? l p q r s a b c d ≡ true
-      by a b c d i j h = saved _ (sym (both-ends l K p q r s (placed-of K p q r s m) i j) ∙ h)
+      by : (a b c d : ℕ) → endsOf K r ≡ Two a b → endsOf K s ≡ Two c d → threeOptOutcome out put K p q r s ≡ Settled → labelling? out put p q r s a b c d ≡ true
+      by a b c d i j h = saved _ (sym (both-ends out put K p q r s (placed-of K p q r s m) i j) ∙ h)
 
-      to : threeOptOutcome l K p q r s ≡ Settled → gains? (crossingSaving l l p q r s x y z w) ≡ true
-      to h = crossing-test l p q r s x y z w ∙ ⊎-elim
-          (λ i. ⊎-elim (λ j. by x y z w i j h) (λ j. renamed l p q r s x y w z (by x y w z i j h) .0) (ends-complete K s z w (m .ends-s)))
-          (λ i. ⊎-elim (λ j. renamed l p q r s y x z w (by y x z w i j h) .1) (λ j. renamed l p q r s y x w z (by y x w z i j h) .2) (ends-complete K s z w (m .ends-s)))
+      to : threeOptOutcome out put K p q r s ≡ Settled → gains? (crossingSaving out put p q r s x y z w) ≡ true
+      to h = crossing-test out put p q r s x y z w ∙ ⊎-elim
+          (λ i. ⊎-elim (λ j. by x y z w i j h) (λ j. renamed out put p q r s x y w z (by x y w z i j h) .0) (ends-complete K s z w (m .ends-s)))
+          (λ i. ⊎-elim (λ j. renamed out put p q r s y x z w (by y x z w i j h) .1) (λ j. renamed out put p q r s y x w z (by y x w z i j h) .2) (ends-complete K s z w (m .ends-s)))
           (ends-complete K r x y (m .ends-r))
 
-  refused-no-moves : threeOptOutcome l K p q r s ≡ NoMoves → (x y z w : ℕ) → ThreeOptMoves K p q r s x y z w → ⊥
+  refused-no-moves : threeOptOutcome out put K p q r s ≡ NoMoves → (x y z w : ℕ) → ThreeOptMoves K p q r s x y z w → ⊥
   refused-no-moves h = go judged
     where
       saved : (t : Bool) → cond t Settled NoSaving ≡ NoMoves → ⊥
       saved true e = settled-not-unplaced e
       saved false e = no-saving-not-unplaced e
 
-      go : TestFinds l K p q r s → (x y z w : ℕ) → ThreeOptMoves K p q r s x y z w → ⊥
+      go : TestFinds out put K p q r s → (x y z w : ℕ) → ThreeOptMoves K p q r s x y z w → ⊥
       go (none e n) = n
-      go (some x y z w c e) = absurd (saved (labelling? l p q r s x y z w) (sym e ∙ h))
+      go (some x y z w c e) = absurd (saved (labelling? out put p q r s x y z w) (sym e ∙ h))
 
-  no-moves-refused : ((x y z w : ℕ) → ThreeOptMoves K p q r s x y z w → ⊥) → threeOptOutcome l K p q r s ≡ NoMoves
+  no-moves-refused : ((x y z w : ℕ) → ThreeOptMoves K p q r s x y z w → ⊥) → threeOptOutcome out put K p q r s ≡ NoMoves
   no-moves-refused h = go judged
     where
-      go : TestFinds l K p q r s → threeOptOutcome l K p q r s ≡ NoMoves
+      go : TestFinds out put K p q r s → threeOptOutcome out put K p q r s ≡ NoMoves
       go (none e n) = e
       go (some x y z w c e) = absurd (h x y z w c)
 
   -- NoMoves exactly when the edge and the centres break a condition of a 3-opt closing (refusal 15)
-  pub no-moves-exact : (threeOptOutcome l K p q r s ≡ NoMoves) ↔ ((x y z w : ℕ) → ThreeOptMoves K p q r s x y z w → ⊥)
+  pub no-moves-exact : (threeOptOutcome out put K p q r s ≡ NoMoves) ↔ ((x y z w : ℕ) → ThreeOptMoves K p q r s x y z w → ⊥)
   no-moves-exact = (refused-no-moves, no-moves-refused)
 
-  unsaved-left : threeOptOutcome l K p q r s ≡ NoSaving → Unsaved l K p q r s
+  unsaved-left : threeOptOutcome out put K p q r s ≡ NoSaving → Unsaved out put K p q r s
   unsaved-left h = go judged
     where
-      go : TestFinds l K p q r s → Unsaved l K p q r s
+      go : TestFinds out put K p q r s → Unsaved out put K p q r s
       go (none e n) = absurd (no-saving-not-unplaced (sym h ∙ e))
       go (some x y z w c e) =
           record { x = x; y = y; z = z; w = w; moves = c; unsettled = λ c. settled-saves (sym (closes-settled c) ∙ h) }
 
-  left-unsaved : Unsaved l K p q r s → threeOptOutcome l K p q r s ≡ NoSaving
+  left-unsaved : Unsaved out put K p q r s → threeOptOutcome out put K p q r s ≡ NoSaving
   left-unsaved h = go judged
     where
       unsaved : (t : Bool) → (t ≡ true → ⊥) → cond t Settled NoSaving ≡ NoSaving
       unsaved true n = absurd (n refl)
       unsaved false n = refl
 
-      go : TestFinds l K p q r s → threeOptOutcome l K p q r s ≡ NoSaving
+      go : TestFinds out put K p q r s → threeOptOutcome out put K p q r s ≡ NoSaving
       go (none e n) = absurd (n (h .x) (h .y) (h .z) (h .w) (h .moves))
-      go (some x y z w c e) = e ∙ unsaved (labelling? l p q r s x y z w) (λ t. h .unsettled (closes-of l p q r s x y z w t c))
+      go (some x y z w c e) = e ∙ unsaved (labelling? out put p q r s x y z w) (λ t. h .unsettled (closes-of out put p q r s x y z w t c))
 
   -- NoSaving exactly in the cases left: there is a 3-opt closing, and no labelling of it saves (refusal 16)
-  pub no-saving-exact : (threeOptOutcome l K p q r s ≡ NoSaving) ↔ Unsaved l K p q r s
+  pub no-saving-exact : (threeOptOutcome out put K p q r s ≡ NoSaving) ↔ Unsaved out put K p q r s
   no-saving-exact = (unsaved-left, left-unsaved)

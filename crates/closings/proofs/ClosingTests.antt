@@ -21,12 +21,12 @@ use Rattle.lists.proofs.Bools.{true-or}
 use Rattle.sets.proofs.Laws.Neighbours.{ends-sound}
 use Rattle.sets.proofs.Laws.Stored.{held-points}
 
-module _ (l : ℕ → ℕ → ℕ) (p q r s x y z w : ℕ) where
+module _ (out put : ℕ → ℕ → ℕ) (p q r s x y z w : ℕ) where
   -- the labelling with x, y swapped where i is 1, and z, w where j is
   unfoldable pub cell : ℕ → ℕ → Bool
-  cell i j = saves? l p q r s (pick i x y) (pick i y x) (pick j z w) (pick j w z)
+  cell i j = saves? out put p q r s (pick i x y) (pick i y x) (pick j z w) (pick j w z)
 
-  pub cell-at : (i j : ℕ) {a b c d : ℕ} → a ≡ pick i x y → b ≡ pick i y x → c ≡ pick j z w → d ≡ pick j w z → saves? l p q r s a b c d ≡ cell i j
+  pub cell-at : (i j : ℕ) {a b c d : ℕ} → a ≡ pick i x y → b ≡ pick i y x → c ≡ pick j z w → d ≡ pick j w z → saves? out put p q r s a b c d ≡ cell i j
   unfolding cell
   cell-at i j e f g h = rw (e, f, g, h)
 
@@ -37,23 +37,23 @@ module _ (l : ℕ → ℕ → ℕ) (p q r s x y z w : ℕ) where
   pub row-done : {i j : ℕ} → NoneBelow i → ((k : ℕ) → k < j → cell i k ≡ false) → 2 ≤ j → NoneBelow (i + 1)
   row-done {i} rows here e = below-more (λ (h : ℕ). (k : ℕ) → k < 2 → cell h k ≡ false) i rows (λ k lt. here k (omega arith))
 
-  pub cell-saves : (i j : ℕ) → i < 2 → j < 2 → cell i j ≡ true → labelling? l p q r s x y z w ≡ true
+  pub cell-saves : (i j : ℕ) → i < 2 → j < 2 → cell i j ≡ true → labelling? out put p q r s x y z w ≡ true
   unfolding cell labelling? pick
   cell-saves zero zero hi hj h = rw (labelling?, h)
-  cell-saves zero (suc zero) hi hj h = true-or (saves? l p q r s x y z w) _ (inr (rw h))
-  cell-saves (suc zero) zero hi hj h = true-or (saves? l p q r s x y z w) _ (inr (true-or (saves? l p q r s x y w z) _ (inr (rw h))))
+  cell-saves zero (suc zero) hi hj h = true-or (saves? out put p q r s x y z w) _ (inr (rw h))
+  cell-saves (suc zero) zero hi hj h = true-or (saves? out put p q r s x y z w) _ (inr (true-or (saves? out put p q r s x y w z) _ (inr (rw h))))
   cell-saves (suc zero) (suc zero) hi hj h =
-      true-or (saves? l p q r s x y z w) _
-      (inr (true-or (saves? l p q r s x y w z) _ (inr (true-or (saves? l p q r s y x z w) _ (inr h)))))
+      true-or (saves? out put p q r s x y z w) _
+      (inr (true-or (saves? out put p q r s x y w z) _ (inr (true-or (saves? out put p q r s y x z w) _ (inr h)))))
   cell-saves zero (suc (suc j)) hi hj h = absurd (omega arith)
   cell-saves (suc zero) (suc (suc j)) hi hj h = absurd (omega arith)
   cell-saves (suc (suc i)) j hi hj h = absurd (omega arith)
 
-  cells-fail : cell 0 0 ≡ false → cell 0 1 ≡ false → cell 1 0 ≡ false → cell 1 1 ≡ false → labelling? l p q r s x y z w ≡ false
+  cells-fail : cell 0 0 ≡ false → cell 0 1 ≡ false → cell 1 0 ≡ false → cell 1 1 ≡ false → labelling? out put p q r s x y z w ≡ false
   unfolding cell labelling? pick
   cells-fail a b c d = rw (labelling?, a, b, c, d)
 
-  pub none-saves : {i : ℕ} → NoneBelow i → 2 ≤ i → labelling? l p q r s x y z w ≡ false
+  pub none-saves : {i : ℕ} → NoneBelow i → 2 ≤ i → labelling? out put p q r s x y z w ≡ false
   none-saves rows e =
       cells-fail (rows 0 (omega arith) 0 (omega arith)) (rows 0 (omega arith) 1 (omega arith))
       (rows 1 (omega arith) 0 (omega arith)) (rows 1 (omega arith) 1 (omega arith))
@@ -91,16 +91,16 @@ ends-span {n} {k = k} v x y h e =
     }
 
 -- the ways out of `threeOptOutcome`
-module _ (l : ℕ → ℕ → ℕ) (K : List Edge) (p q r s : ℕ) where
-  pub unplaced : placed? K p q r s ≡ false → threeOptOutcome l K p q r s ≡ NoMoves
+module _ (out put : ℕ → ℕ → ℕ) (K : List Edge) (p q r s : ℕ) where
+  pub unplaced : placed? K p q r s ≡ false → threeOptOutcome out put K p q r s ≡ NoMoves
   unfolding threeOptOutcome
   unplaced e = rw (threeOptOutcome, e)
 
-  pub no-ends-r : placed? K p q r s ≡ true → endsOf K r ≡ Other → threeOptOutcome l K p q r s ≡ NoMoves
+  pub no-ends-r : placed? K p q r s ≡ true → endsOf K r ≡ Other → threeOptOutcome out put K p q r s ≡ NoMoves
   unfolding threeOptOutcome settledBy
   no-ends-r e f = rw (threeOptOutcome, e, f)
 
-  pub no-ends-s : {x y : ℕ} → placed? K p q r s ≡ true → endsOf K r ≡ Two x y → endsOf K s ≡ Other → threeOptOutcome l K p q r s ≡ NoMoves
+  pub no-ends-s : {x y : ℕ} → placed? K p q r s ≡ true → endsOf K r ≡ Two x y → endsOf K s ≡ Other → threeOptOutcome out put K p q r s ≡ NoMoves
   unfolding threeOptOutcome settledBy
   no-ends-s e f g = rw (threeOptOutcome, e, f, g)
 
@@ -108,7 +108,7 @@ module _ (l : ℕ → ℕ → ℕ) (K : List Edge) (p q r s : ℕ) where
       → placed? K p q r s ≡ true
       → endsOf K r ≡ Two x y
       → endsOf K s ≡ Two z w
-      → threeOptOutcome l K p q r s ≡ cond (labelling? l p q r s x y z w) Settled NoSaving
+      → threeOptOutcome out put K p q r s ≡ cond (labelling? out put p q r s x y z w) Settled NoSaving
   unfolding threeOptOutcome settledBy
   both-ends e f g = rw (threeOptOutcome, e, f, g)
 
@@ -116,6 +116,6 @@ module _ (l : ℕ → ℕ → ℕ) (K : List Edge) (p q r s : ℕ) where
       → placed? K p q r s ≡ true
       → endsOf K r ≡ Two x y
       → endsOf K s ≡ Two z w
-      → labelling? l p q r s x y z w ≡ t
-      → cond t Settled NoSaving ≡ threeOptOutcome l K p q r s
+      → labelling? out put p q r s x y z w ≡ t
+      → cond t Settled NoSaving ≡ threeOptOutcome out put K p q r s
   answer e f g h = sym (both-ends e f g ∙ rw h)

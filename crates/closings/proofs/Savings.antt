@@ -75,27 +75,27 @@ pub crossing-made : (out put : ℕ → ℕ → ℕ) (p q r s x y z w : ℕ) {a b
 unfolding crossingSaving
 crossing-made out put p q r s x y z w ea eb ec ed ee ef eg = eg ∙ ap₂ larger ea (ef ∙ ap₂ larger eb (ee ∙ ap₂ larger ec ed))
 
--- over one table these are the code's tests
-module _ (l : ℕ → ℕ → ℕ) (p q r s x y z w : ℕ) where
-  pub label-test : gains? (labelSaving l l p q r s x y z w) ≡ saves? l p q r s x y z w
+-- these are the code's tests
+module _ (out put : ℕ → ℕ → ℕ) (p q r s x y z w : ℕ) where
+  pub label-test : gains? (labelSaving out put p q r s x y z w) ≡ saves? out put p q r s x y z w
   unfolding saves?
-  label-test = label-tests l l p q r s x y z w
+  label-test = label-tests out put p q r s x y z w
 
   -- as the code takes them one after the other
-  pub both-test : {f g : ℤ} → f ≡ firstSaving l l p q r s x w → gains? f ≡ true → g ≡ secondSaving l l p q r s y z → gains? g ≡ saves? l p q r s x y z w
+  pub both-test : {f g : ℤ} → f ≡ firstSaving out put p q r s x w → gains? f ≡ true → g ≡ secondSaving out put p q r s y z → gains? g ≡ saves? out put p q r s x y z w
   unfolding saves?
-  both-test ef h eg = and-go (sym (first-test l l p q r s x y z w) ∙ sym (ap gains? ef) ∙ h) (ap gains? eg ∙ second-test l l p q r s x y z w)
+  both-test ef h eg = and-go (sym (first-test out put p q r s x y z w) ∙ sym (ap gains? ef) ∙ h) (ap gains? eg ∙ second-test out put p q r s x y z w)
 
-  pub first-fails : {f : ℤ} → f ≡ firstSaving l l p q r s x w → gains? f ≡ false → false ≡ saves? l p q r s x y z w
+  pub first-fails : {f : ℤ} → f ≡ firstSaving out put p q r s x w → gains? f ≡ false → false ≡ saves? out put p q r s x y z w
   unfolding saves?
-  first-fails ef h = and-stop _ (sym (first-test l l p q r s x y z w) ∙ sym (ap gains? ef) ∙ h)
+  first-fails ef h = and-stop _ (sym (first-test out put p q r s x y z w) ∙ sym (ap gains? ef) ∙ h)
 
 -- the best of four labellings is above 0 exactly when one saves
-pub crossing-test : (l : ℕ → ℕ → ℕ) (p q r s x y z w : ℕ) → gains? (crossingSaving l l p q r s x y z w) ≡ labelling? l p q r s x y z w
+pub crossing-test : (out put : ℕ → ℕ → ℕ) (p q r s x y z w : ℕ) → gains? (crossingSaving out put p q r s x y z w) ≡ labelling? out put p q r s x y z w
 unfolding crossingSaving labelling?
-crossing-test l p q r s x y z w =
-    gains-larger (labelSaving l l p q r s x y z w) _
-    ∙ ap₂ (λ (a b : Bool). a || b) (label-test l p q r s x y z w)
-    (gains-larger (labelSaving l l p q r s x y w z) _
-    ∙ ap₂ (λ (a b : Bool). a || b) (label-test l p q r s x y w z)
-    (gains-larger (labelSaving l l p q r s y x z w) _ ∙ ap₂ (λ (a b : Bool). a || b) (label-test l p q r s y x z w) (label-test l p q r s y x w z)))
+crossing-test out put p q r s x y z w =
+    gains-larger (labelSaving out put p q r s x y z w) _
+    ∙ ap₂ (λ (a b : Bool). a || b) (label-test out put p q r s x y z w)
+    (gains-larger (labelSaving out put p q r s x y w z) _
+    ∙ ap₂ (λ (a b : Bool). a || b) (label-test out put p q r s x y w z)
+    (gains-larger (labelSaving out put p q r s y x z w) _ ∙ ap₂ (λ (a b : Bool). a || b) (label-test out put p q r s y x z w) (label-test out put p q r s y x w z)))

@@ -1,4 +1,5 @@
-// The 3-opt closing (01, "Arguments": a crossing): its conditions, and the labelling that saves on both moves.
+// The 3-opt closing (01, "Arguments": a crossing): its conditions, and the labelling that saves on both moves. What is taken out is measured by the table `out`,
+// what is put in by the table `put`.
 use lengths::saving::saving;
 use lengths::sums::length_of_three;
 use sets::edge_set::EdgeSet;
@@ -21,7 +22,8 @@ pub enum ThreeOptOutcome {
 // Do both moves save by this labelling, rs, px, qw for pq, rx, sw, and rs, pz, qy for pq, ry, sz? The second is looked at where the first does.
 fn both_moves_save(
     n: u16,
-    table: &[u8],
+    out: &[u8],
+    put: &[u8],
     p: u16,
     q: u16,
     r: u16,
@@ -31,13 +33,13 @@ fn both_moves_save(
     z: u16,
     w: u16,
 ) -> bool
-    requires { ⌜ Labelled n (whole32 (now table)) p q r s x y z w ⌝ }
-    ensures { λ b. ⌜ b ≡ saves? (lengthOf n (whole32 (now (table .entry)))) p q r s x y z w ⌝ }
+    requires { ⌜ Labelled n (whole32 (now out)) p q r s x y z w × Labelled n (whole32 (now put)) p q r s x y z w ⌝ }
+    ensures { λ b. ⌜ b ≡ saves? (lengthOf n (whole32 (now (out .entry)))) (lengthOf n (whole32 (now (put .entry)))) p q r s x y z w ⌝ }
 {
-    let old = length_of_three(n, table, p, q, r, x, s, w);
-    if saving(old, length_of_three(n, table, r, s, p, x, q, w)) > 0 {
-        let old = length_of_three(n, table, p, q, r, y, s, z);
-        return saving(old, length_of_three(n, table, r, s, p, z, q, y)) > 0;
+    let old = length_of_three(n, out, p, q, r, x, s, w);
+    if saving(old, length_of_three(n, put, r, s, p, x, q, w)) > 0 {
+        let old = length_of_three(n, out, p, q, r, y, s, z);
+        return saving(old, length_of_three(n, put, r, s, p, z, q, y)) > 0;
     }
     false
 }
@@ -55,7 +57,8 @@ fn end_by(swap: u8, a: u16, b: u16) -> u16
 // Do both moves save by some labelling: x and y swapped or not (i), z and w swapped or not (j)?
 fn some_labelling_saves(
     n: u16,
-    table: &[u8],
+    out: &[u8],
+    put: &[u8],
     p: u16,
     q: u16,
     r: u16,
@@ -65,15 +68,27 @@ fn some_labelling_saves(
     z: u16,
     w: u16,
 ) -> bool
-    requires { ⌜ Labelled n (whole32 (now table)) p q r s x y z w ⌝ }
-    ensures { λ b. ⌜ b ≡ labelling? (lengthOf n (whole32 (now (table .entry)))) p q r s x y z w ⌝ }
+    requires { ⌜ Labelled n (whole32 (now out)) p q r s x y z w × Labelled n (whole32 (now put)) p q r s x y z w ⌝ }
+    ensures { λ b. ⌜ b ≡ labelling? (lengthOf n (whole32 (now (out .entry)))) (lengthOf n (whole32 (now (put .entry)))) p q r s x y z w ⌝ }
 {
     let mut saves = false;
     'swaps: for i in 0..2u8 {
         let a = end_by(i, x, y);
         let b = end_by(i, y, x);
         for j in 0..2u8 {
-            if both_moves_save(n, table, p, q, r, s, a, b, end_by(j, z, w), end_by(j, w, z)) {
+            if both_moves_save(
+                n,
+                out,
+                put,
+                p,
+                q,
+                r,
+                s,
+                a,
+                b,
+                end_by(j, z, w),
+                end_by(j, w, z),
+            ) {
                 saves = true;
                 break 'swaps;
             }
@@ -118,15 +133,16 @@ fn well_placed(k: EdgeSet, p: u16, q: u16, r: u16, s: u16) -> bool
 // Does the 3-opt closing with the edge pq and the centres r and s (01's crossing) settle k?
 pub fn close_by_three_opt(
     n: u16,
-    table: &[u8],
+    out: &[u8],
+    put: &[u8],
     k: EdgeSet,
     p: u16,
     q: u16,
     r: u16,
     s: u16,
 ) -> ThreeOptOutcome
-    requires { ⌜ ThreeOptAsked n (whole32 (now table)) k p q r s ⌝ }
-    ensures { λ c. ⌜ c ≡ threeOptOutcome (lengthOf n (whole32 (now (table .entry)))) (edgeList k) p q r s ⌝ }
+    requires { ⌜ ThreeOptAsked n (whole32 (now out)) k p q r s × ThreeOptAsked n (whole32 (now put)) k p q r s ⌝ }
+    ensures { λ c. ⌜ c ≡ threeOptOutcome (lengthOf n (whole32 (now (out .entry)))) (lengthOf n (whole32 (now (put .entry)))) (edgeList k) p q r s ⌝ }
 {
     if !well_placed(k, p, q, r, s) {
         return ThreeOptOutcome::NoMoves;
@@ -137,7 +153,7 @@ pub fn close_by_three_opt(
     let Ends::Two(z, w) = ends_of(k, s) else {
         return ThreeOptOutcome::NoMoves;
     };
-    if some_labelling_saves(n, table, p, q, r, s, x, y, z, w) {
+    if some_labelling_saves(n, out, put, p, q, r, s, x, y, z, w) {
         return ThreeOptOutcome::Settled;
     }
     ThreeOptOutcome::NoSaving

@@ -45,7 +45,7 @@ module _ (n : ℕ) (table : List ℕ) where
   unfolding markIn
   corresponds =
       record {
-        judged = λ m m′ same. equal-judge (ap (rulesWhere n table) (same-open m m′ same)) (same-open m m′ same);
+        judged = λ m m′ same. equal-judge (ap (rulesWhere n table table) (same-open m m′ same)) (same-open m m′ same);
         strikes = λ m m′ a b same pa pb ne o.
             record {
               confirmed = ap (λ (l : List ℕ). setMark l (place n a b) struckMark) (same .confirmed) ∙ sym (settled-set struckMark m′ (place n a b));
@@ -64,7 +64,7 @@ module _ (n : ℕ) (table marks s : List ℕ) where
   unmarked : (k : ℕ) → Agrees n marks (turnedDown k marks) (turnedDown k marks)
   unmarked k = record { verdict = refl; lines = refl; confirmed = left-none struckMark n marks }
 
-  agrees : (r : Tested) → ready n table marks ≡ r → Agrees n marks (markTested struckMark r table marks s) (markTested pendingMark r table marks s)
+  agrees : (r : Tested) → ready n table marks ≡ r → Agrees n marks (markTested struckMark r table table marks s) (markTested pendingMark r table table marks s)
   agrees (Refused k) e = unmarked k
   agrees (Points p) e = sized (wholeSheet (length s))
     where
@@ -142,7 +142,7 @@ pub ask-withdraw : (n : ℕ) (table marks s : List ℕ) → nonePending marks �
 unfolding markBy
 ask-withdraw n table marks s none = tests (ready n table marks) refl
   where
-    tests : (r : Tested) → ready n table marks ≡ r → settledLeft (settledAnswer n (markTested pendingMark r table marks s .marks)) openMark (markTested pendingMark r table marks s .marks) ≡ marks
+    tests : (r : Tested) → ready n table marks ≡ r → settledLeft (settledAnswer n (markTested pendingMark r table table marks s .marks)) openMark (markTested pendingMark r table table marks s .marks) ≡ marks
     tests (Refused k) e = left-none openMark n marks none
     tests (Points p) e = sized (wholeSheet (length s))
       where

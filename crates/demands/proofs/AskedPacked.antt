@@ -36,7 +36,7 @@ module _ (n : ℕ) (table set s : List ℕ) where
   out-mark : (by : ℕ) → inRange n ≡ false → markPackedBy by n table set s .marks ≡ set
   unfolding markPackedBy markBy ready
   out-mark by h =
-      ap (λ (t : Tested). repacked n set (markTested by (untilPending t (marksOf n set)) table (marksOf n set) s .marks)) (out-of-limits n table (marksOf n set) h)
+      ap (λ (t : Tested). repacked n set (markTested by (untilPending t (marksOf n set)) table table (marksOf n set) s .marks)) (out-of-limits n table (marksOf n set) h)
       ∙ repacked-same n set
 
   out-settle : (mark : ℕ) → inRange n ≡ false → settledSet mark n set ≡ set

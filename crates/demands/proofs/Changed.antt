@@ -18,7 +18,7 @@ use Rattle.marks.proofs.Marks.{mark-size, mark-same, mark-other, open-mark}
 use Rattle.tours.proofs.Edges.{joins-dec}
 use Rattle.argument.specs.Line.{Struck, strikes, CompleteAt, CompleteLine}
 use Rattle.argument.specs.Sheet.{Place, Result, struck, start, CompleteLines, Answers}
-use Rattle.sheets.specs.Rules.{rulesOf, markingBy}
+use Rattle.sheets.specs.Rules.{rulesBetween, markingBetween}
 use Rattle.demands.specs.Marked.{struckEdges, differences, Changes}
 use Rattle.demands.proofs.Strikes.{differences-none, differences-set, open-joined, marked-same, marked-other}
 
@@ -28,13 +28,13 @@ record Since (by : ℕ) (marks : List ℕ) (p : Place (List ℕ)) : Type 0 where
   pub each : (i : ℕ) → (markAt (p .marks) i ≡ markAt marks i) ⊎ ((markAt marks i ≡ openMark) × (markAt (p .marks) i ≡ by))
   pub counted : differences marks (p .marks) ≡ p .lines
 
-module _ (by : ℕ) (other : by ≡ openMark → ⊥) (n : ℕ) (table sheet : List ℕ) where
-  line-edge : (marks : List ℕ) (i a b next high : ℕ) → CompleteLine (rulesOf n table marks) (openIn n marks) sheet i a b next high → IsEdge n a b
+module _ (by : ℕ) (other : by ≡ openMark → ⊥) (n : ℕ) (out put sheet : List ℕ) where
+  line-edge : (marks : List ℕ) (i a b next high : ℕ) → CompleteLine (rulesBetween n out put marks) (openIn n marks) sheet i a b next high → IsEdge n a b
   line-edge marks i a b next high l = record { first = l .at-line .point-a; second = l .at-line .point-b; apart = l .at-line .apart }
 
   -- a complete line finds its edge open, so the mark there is the one that the call found, and it becomes `by`
   since-line : (marks : List ℕ) (p : Place (List ℕ)) → length marks ≡ edgeCount n → Since by marks p → (x : Struck) →
-      CompleteAt (rulesOf n table (p .marks)) (openIn n (p .marks)) sheet (p .index) x → Since by marks (struck (markingBy by n table) p x)
+      CompleteAt (rulesBetween n out put (p .marks)) (openIn n (p .marks)) sheet (p .index) x → Since by marks (struck (markingBetween by n out put) p x)
   unfolding struck markIn openUpTo setMark markAt
   since-line marks p whole s (strikes a b next high) l =
       record {
@@ -59,19 +59,19 @@ module _ (by : ℕ) (other : by ≡ openMark → ⊥) (n : ℕ) (table sheet : L
       where? i (yes e) = rw e (inr (sym same ∙ one, mark-same (p .marks) at by inside))
       where? i (no d) = let o = mark-other (p .marks) at i by (λ e. d (sym e)) in ⊎-elim (λ e. inl (o ∙ e)) (λ z. inr (z .0, o ∙ z .1)) (s .each i)
 
-  since-lines : (marks : List ℕ) → length marks ≡ edgeCount n → (xs : List Struck) (p q : Place (List ℕ)) → Since by marks p → CompleteLines (markingBy by n table) sheet p xs q → Since by marks q
+  since-lines : (marks : List ℕ) → length marks ≡ edgeCount n → (xs : List Struck) (p q : Place (List ℕ)) → Since by marks p → CompleteLines (markingBetween by n out put) sheet p xs q → Since by marks q
   unfolding CompleteLines
   since-lines marks whole [] p q s e = subst (Since by marks) e s
-  since-lines marks whole (x ∷ xs) p q s h = since-lines marks whole xs (struck (markingBy by n table) p x) q (since-line marks p whole s x (h .1)) (h .2)
+  since-lines marks whole (x ∷ xs) p q s h = since-lines marks whole xs (struck (markingBetween by n out put) p x) q (since-line marks p whole s x (h .1)) (h .2)
 
   -- what is struck stays struck, and an edge that no line strikes stays as it is
   module _ (c d : ℕ) (cd : IsEdge n c d) where
-    stays-struck : (xs : List Struck) (p q : Place (List ℕ)) → length (p .marks) ≡ edgeCount n → CompleteLines (markingBy by n table) sheet p xs q →
+    stays-struck : (xs : List Struck) (p q : Place (List ℕ)) → length (p .marks) ≡ edgeCount n → CompleteLines (markingBetween by n out put) sheet p xs q →
         openIn n (p .marks) c d ≡ false → openIn n (q .marks) c d ≡ false
     unfolding CompleteLines struck
     stays-struck [] p q whole e h = subst (λ (z : Place (List ℕ)). openIn n (z .marks) c d ≡ false) e h
     stays-struck (strikes a b next high ∷ xs) p q whole l h =
-        stays-struck xs (struck (markingBy by n table) p (strikes a b next high)) q (length-marked by n (p .marks) a b ∙ whole) (l .2) (after (joins-dec a b c d))
+        stays-struck xs (struck (markingBetween by n out put) p (strikes a b next high)) q (length-marked by n (p .marks) a b ∙ whole) (l .2) (after (joins-dec a b c d))
       where
         ab : IsEdge n a b
         ab = line-edge (p .marks) (p .index) a b next high (l .1)
@@ -100,19 +100,19 @@ module _ (by : ℕ) (other : by ≡ openMark → ⊥) (n : ℕ) (table sheet : L
         from (yes j) h = inl j
         from (no k) h = inr (rest .1 (marked-other by marks ab cd k ∙ h .0, h .1))
 
-    lines-exactly : (xs : List Struck) (p q : Place (List ℕ)) → length (p .marks) ≡ edgeCount n → CompleteLines (markingBy by n table) sheet p xs q →
+    lines-exactly : (xs : List Struck) (p q : Place (List ℕ)) → length (p .marks) ≡ edgeCount n → CompleteLines (markingBetween by n out put) sheet p xs q →
         Has (struckEdges xs) c d ↔ ((openIn n (p .marks) c d ≡ true) × (openIn n (q .marks) c d ≡ false))
     unfolding CompleteLines struck
     lines-exactly [] p q whole e =
         (λ h. absurd h, λ h. absurd (false≢true (sym (h .1) ∙ sym (ap (λ (z : Place (List ℕ)). openIn n (z .marks) c d) e) ∙ h .0)))
     lines-exactly (strikes a b next high ∷ xs) p q whole l =
-        let p′ = struck (markingBy by n table) p (strikes a b next high) in
+        let p′ = struck (markingBetween by n out put) p (strikes a b next high) in
         let whole′ = length-marked by n (p .marks) a b ∙ whole in
         line-exactly (p .marks) (q .marks) xs a b whole (line-edge (p .marks) (p .index) a b next high (l .1)) (l .1 .at-line .is-open)
         (stays-struck xs p′ q whole′ (l .2)) (lines-exactly xs p′ q whole′ (l .2))
 
   -- a call that passes the tests: the edges are those of its lines
-  pub chain-changes : (marks : List ℕ) → length marks ≡ edgeCount n → (r : Result (List ℕ)) (m : Answers (markingBy by n table) sheet (start marks) r) →
+  pub chain-changes : (marks : List ℕ) → length marks ≡ edgeCount n → (r : Result (List ℕ)) (m : Answers (markingBetween by n out put) sheet (start marks) r) →
       Changes by n marks (r .marks) (struckEdges (m .lines)) (r .lines)
   unfolding start
   chain-changes marks whole r m =

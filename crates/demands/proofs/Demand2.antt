@@ -1,32 +1,22 @@
 -- DEMAND 2 for lines and sheets: what *mark a sheet* and *ask a sheet* accept, answer and change, by 01's rules alone. Both are `markBy`, whose
 -- accepted lines write the mark `by`, struck or pending; to both, open is mark 1. Assumes nothing.
 use Prim.Native.Nat.{ℕ}
-use mathlib.Core.Path.{_≡_, refl, sym, _∙_, ap, subst}
-use mathlib.Core.Bool.{Bool, true, false}
+use mathlib.Core.Path.{_≡_, _∙_, ap}
 use mathlib.Core.Logic.{_↔_}
-use mathlib.Core.List.{List, []}
-use native.Mathlib.Omega.{arith}
+use mathlib.Core.List.{List}
 use lib.ListN.{length}
-use Rattle.lengths.specs.Edge.{Edge}
-use Rattle.lists.specs.Test.{unless}
+use Rattle.lengths.specs.Edge.{Edge, edgeCount}
 use Rattle.marks.specs.Mark.{openMark, openIn}
 use Rattle.argument.specs.Line.{Struck, strikes, judge, CompleteLine}
-use Rattle.argument.specs.Sheet.{Place, Result, start, sheet, CompleteLines, ended, Answers, RefusedAt}
+use Rattle.argument.specs.Sheet.{Place, Result, start, sheet, CompleteLines, Answers, RefusedAt}
 use Rattle.argument.specs.Verdict.{accepted, refused}
-use Rattle.argument.proofs.Exact.{line-sound, line-complete}
-use Rattle.argument.proofs.Numbers.{refusal-told}
-use Rattle.argument.proofs.SheetExact.{chain-length, sheet-exact}
-use Rattle.sheets.proofs.Records.{sheet-records}
 use Rattle.sheets.specs.Rules.{rulesOf, markingBy}
-use Rattle.sheets.specs.Sheet.{wholeSheet}
 use Rattle.marking.proofs.Tested.{passed, ready-tested}
-use Rattle.marking.specs.Mark.{markBy, markTested, turnedDown}
+use Rattle.marking.specs.Mark.{markBy}
 use Rattle.marking.specs.Tests.{ready}
-use Rattle.marking.specs.declared.tests.Tested.{Tested}
-use Rattle.marking.specs.declared.tests.Tested.the-variants.{Points, Refused}
 use Rattle.demands.specs.Marked.{Passes, struckEdges, Changes}
-use Rattle.demands.proofs.Changed.{chain-changes, no-changes}
-use Rattle.demands.proofs.Lawful.{lawful}
+use Rattle.demands.proofs.Changed.{chain-changes}
+use Rattle.demands.proofs.SheetLines.{judged-exact, lines-marked, answers, answers-whole, answers-refusal, tested-changes}
 
 -- DEMAND 2: a line, entered as record i, is accepted exactly when it is a complete line: it names two different points, their edge is
 -- open, and a complete argument for it is laid out behind the record, at most six splits deep.
@@ -35,13 +25,12 @@ use Rattle.demands.proofs.Lawful.{lawful}
 pub demand-2 :
     (n : ℕ) (table marks sheet : List ℕ) (i a b next high : ℕ) →
     (judge (rulesOf n table marks) (openIn n marks) sheet i ≡ accepted (strikes a b next high)) ↔ CompleteLine (rulesOf n table marks) (openIn n marks) sheet i a b next high
-demand-2 n table marks sheet i a b next high =
-    (line-sound (rulesOf n table marks) (lawful n table marks) sheet (openIn n marks) i a b next high, line-complete (rulesOf n table marks) (lawful n table marks) sheet (openIn n marks) i a b next high)
+demand-2 n table = judged-exact n table table
 
 -- a call that passes the tests, 20 and 7 among them, has its lines marked
-pub lines-marked : (by n : ℕ) (table marks s : List ℕ) → Passes n table marks s → markBy by n table marks s ≡ sheet (markingBy by n table) s marks
+marked-lines : (by n : ℕ) (table marks s : List ℕ) → Passes n table marks s → markBy by n table marks s ≡ sheet (markingBy by n table) s marks
 unfolding markBy
-lines-marked by n table marks s p = rw (markBy, p .points, p .whole)
+marked-lines by n table marks s p = lines-marked by n table table marks s (ready n table marks) (p .points) (p .whole)
 
 -- DEMAND 2 for a sheet: a call that passes the tests up to 7 answers r exactly when a chain of complete lines from record 1 on, each complete under
 -- the marks that the lines before it leave, leads to a place where it stops (`Stops`: index 0, an index refused by 8 or 9, or a line that is
@@ -49,9 +38,7 @@ lines-marked by n table marks s p = rw (markBy, p .points, p .whole)
 pub demand-2-sheet :
     (by n : ℕ) (table marks s : List ℕ) → Passes n table marks s → (r : Result (List ℕ)) →
     (markBy by n table marks s ≡ r) ↔ Answers (markingBy by n table) s (start marks) r
-demand-2-sheet by n table marks s p r =
-    let e = sheet-exact (markingBy by n table) (lawful n table) s marks r in
-    (λ h. e .0 (sym (lines-marked by n table marks s p) ∙ h), λ m. lines-marked by n table marks s p ∙ e .1 m)
+demand-2-sheet by n table marks s p = answers by n table table marks s (markBy by n table marks s) (marked-lines by n table marks s p)
 
 -- Every chain of complete lines that ends at index 0 is accepted whole, with its marks and its number of lines: it is an answer as
 -- `demand-2-sheet` says, which stops by index 0; and the place behind a chain has counted its lines.
@@ -59,17 +46,7 @@ pub demand-2-whole :
     (by n : ℕ) (table marks s : List ℕ) → Passes n table marks s → (lines : List Struck) (q : Place (List ℕ)) →
     CompleteLines (markingBy by n table) s (start marks) lines q → q .index ≡ 0 →
     markBy by n table marks s ≡ record { marks = q .marks; lines = length lines; verdict = accepted tt }
-unfolding start
-demand-2-whole by n table marks s p lines q chain z =
-    demand-2-sheet by n table marks s p (record { marks = q .marks; lines = length lines; verdict = accepted tt }) .1
-    (record {
-      lines = lines;
-      place = q;
-      chain = chain;
-      stops = ended z;
-      marks-left = refl;
-      counted = let c = chain-length (markingBy by n table) s lines (start marks) q chain in omega (arith, c);
-    })
+demand-2-whole by n table marks s p = answers-whole by n table table marks s (markBy by n table marks s) (marked-lines by n table marks s p)
 
 -- A refusal after test 7 has a number from 8 to 16 and names one of the sheet's records. The index 1 is entered, since the sheet has a record.
 -- From then on the record that has an index is the last line entered, which 8 and 9 name; and a line that is not complete is refused by a test
@@ -78,8 +55,7 @@ demand-2-whole by n table marks s p lines q chain z =
 pub demand-2-refusal :
     (by n : ℕ) (table marks s : List ℕ) → Passes n table marks s → (number rec : ℕ) →
     markBy by n table marks s .verdict ≡ refused number rec → RefusedAt s number rec
-demand-2-refusal by n table marks s p number rec e =
-    refusal-told (markingBy by n table) (lawful n table) s marks (markBy by n table marks s) (sheet-records s (p .whole) .some) (demand-2-sheet by n table marks s p _ .0 refl) number rec e
+demand-2-refusal by n table marks s p = answers-refusal by n table table marks s (markBy by n table marks s) (marked-lines by n table marks s p) (p .whole)
 
 -- The marks that a call changes are those of the edges that its accepted lines strike, as many as the lines that it answers, each open before.
 -- A complete line finds its edge open. No line opens an edge, so that mark is still the one that the call found, and it becomes 0: one mark
@@ -87,22 +63,11 @@ demand-2-refusal by n table marks s p number rec e =
 pub demand-2-struck :
     (by : ℕ) → (by ≡ openMark → ⊥) → (n : ℕ) (table marks s : List ℕ) → Passes n table marks s → (r : Result (List ℕ)) (m : Answers (markingBy by n table) s (start marks) r) →
     Changes by n marks (r .marks) (struckEdges (m .lines)) (r .lines)
-demand-2-struck by other n table marks s p r m = chain-changes by other n table s marks (passed (ready-tested (p .points) .tests) .marked) r m
+demand-2-struck by other n table marks s p r m = chain-changes by other n table table s marks (passed (ready-tested (p .points) .tests) .marked) r m
 
 -- And so for every call: one that fails a test of 1 to 7 accepts no line and changes nothing.
 pub demand-2-changes : (by : ℕ) → (by ≡ openMark → ⊥) → (n : ℕ) (table marks s : List ℕ) → (struck : List Edge) × Changes by n marks (markBy by n table marks s .marks) struck (markBy by n table marks s .lines)
 unfolding markBy
-demand-2-changes by other n table marks s = tests (ready n table marks) refl
-  where
-    Found : Result (List ℕ) → Type 0
-    Found r = (struck : List Edge) × Changes by n marks (r .marks) struck (r .lines)
-
-    whole : ready n table marks ≡ Points n → (b : Bool) → wholeSheet (length s) ≡ b → Found (unless b (turnedDown 7 marks) (sheet (markingBy by n table) s marks))
-    whole e true w =
-        let m = sheet-exact (markingBy by n table) (lawful n table) s marks (sheet (markingBy by n table) s marks) .0 refl in
-        (struckEdges (m .lines), chain-changes by other n table s marks (passed (ready-tested e .tests) .marked) (sheet (markingBy by n table) s marks) m)
-    whole e false w = ([], no-changes by n marks)
-
-    tests : (t : Tested) → ready n table marks ≡ t → Found (markTested by t table marks s)
-    tests (Refused number) e = ([], no-changes by n marks)
-    tests (Points m) e = let same : m ≡ n = passed (ready-tested e .tests) .same in subst (λ (k : ℕ). Found (markTested by (Points k) table marks s)) (sym same) (whole (e ∙ ap Points same) (wholeSheet (length s)) refl)
+demand-2-changes by other n table marks s =
+    tested-changes by n table table marks s other (ready n table marks)
+    (λ p e. let q = passed (ready-tested e .tests) in (q .same, q .marked ∙ ap edgeCount (q .same)))

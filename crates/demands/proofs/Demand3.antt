@@ -1,8 +1,8 @@
 -- DEMAND 3. No run of sheets strikes an edge of a shortest tour.
 -- Below it the general form for 3-optimal tours (Paper 9). Both are about the marks of the edges; `PackedRuns` says them of packed sets. Assumes nothing.
 use Prim.Native.Nat.{ℕ, suc, _≤_, _<_}
-use mathlib.Core.Path.{_≡_, refl, sym, _∙_, ap, subst}
-use mathlib.Core.Bool.{Bool, true, false}
+use mathlib.Core.Path.{_≡_, refl, sym, _∙_, ap}
+use mathlib.Core.Bool.{true}
 use mathlib.Core.Logic.{⊎-elim}
 use mathlib.Core.List.{List, [], _∷_, map}
 use native.Mathlib.Omega.{arith}
@@ -11,7 +11,6 @@ use borrow.Author.Tests.{le-leb}
 use Rattle.lengths.specs.Edge.{edgeCount, place}
 use Rattle.lengths.specs.Instance.{leastPoints, mostPoints, inRange}
 use Rattle.lengths.specs.Table.{lengthOf}
-use Rattle.lists.specs.Test.{unless}
 use Rattle.lengths.proofs.Edges.{edgeCount-tri, tri-suc, tri-mono, three-way}
 use Rattle.marks.specs.Mark.{markAt, struckMark, openMark, pendingMark, opens, openUpTo, openIn}
 use Rattle.marks.specs.Pending.{settledAnswer, settledLeft}
@@ -21,26 +20,23 @@ use Rattle.marks.proofs.Marks.{open-mark}
 use Rattle.marks.proofs.PendingMarks.{settled-size, settled-open}
 use Rattle.tours.specs.Tour.{Uses, Shortest, ThreeOptimal}
 use Rattle.tours.proofs.ThreeOptimal.{shortest-optimal}
-use Rattle.tours.proofs.TourNeighbours.{tour-edge}
-use Rattle.argument.specs.Sheet.{sheet, run}
-use Rattle.argument.proofs.Safe.{sheet-safe, run-keeps}
-use Rattle.sheets.specs.Rules.{markingBy}
-use Rattle.sheets.specs.Sheet.{wholeSheet}
+use Rattle.argument.specs.Sheet.{run}
+use Rattle.argument.proofs.Safe.{run-keeps}
 use Rattle.marks.specs.Fresh.{freshAnswer, freshMarks, freshLeft}
-use Rattle.marks.proofs.FreshMarks.{fresh-left, fresh-size, fresh-open}
-use Rattle.marking.specs.Mark.{markBy, markTested, turnedDown}
+use Rattle.marks.proofs.FreshMarks.{fresh-left}
+use Rattle.marking.specs.Mark.{markBy}
 use Rattle.marking.specs.Tests.{ready}
 use Rattle.marking.proofs.Tested.{passed, ready-tested}
-use Rattle.marking.specs.declared.tests.Tested.{Tested}
-use Rattle.marking.specs.declared.tests.Tested.the-variants.{Points, Refused}
+use Rattle.marking.specs.declared.tests.Tested.the-variants.{Points}
 use Rattle.demands.specs.Run.{Step, marking, asking, confirming, withdrawing, stepped, stepsOf, Call, runOf}
-use Rattle.demands.proofs.Kept.{Kept, InTour, guarded}
+use Rattle.demands.proofs.Kept.{Kept, fresh-kept, tested-kept}
+use Rattle.demands.proofs.Monotone.{lengths-same}
 
 -- n(n - 1)/2 tells n from 1 on
 edge-count-rises : (m n : ℕ) → 1 ≤ m → m < n → edgeCount m < edgeCount n
 edge-count-rises m n h l = omega (arith, edgeCount-tri m, edgeCount-tri n, tri-suc m, tri-mono (suc m) n l)
 
-edge-count-injective : (m n : ℕ) → 1 ≤ m → 1 ≤ n → edgeCount m ≡ edgeCount n → m ≡ n
+pub edge-count-injective : (m n : ℕ) → 1 ≤ m → 1 ≤ n → edgeCount m ≡ edgeCount n → m ≡ n
 edge-count-injective m n h g e =
     ⊎-elim
     (λ l. absurd (omega (arith, edge-count-rises m n h l)))
@@ -48,27 +44,14 @@ edge-count-injective m n h g e =
     (three-way m n)
 
 module _ {n : ℕ} (table : List ℕ) {t : List ℕ} (some : leastPoints ≤ n) (whole : length table ≡ edgeCount n) (best : ThreeOptimal n (lengthOf n table) t) where
-  -- what the tests come to: a refusal changes no mark, and a call that passes states the n of the table
-  judged-kept : (by m : ℕ) (s marks : List ℕ) → Kept n t marks → (r : Tested) → ready m table marks ≡ r → Kept n t (markTested by r table marks s .marks)
-  judged-kept by m s marks kept (Refused k) e = kept
-  judged-kept by m s marks kept (Points p) e = sized (wholeSheet (length s))
-    where
-      same : p ≡ n
-      same =
-          let r = passed (ready-tested e .tests) in
-          edge-count-injective p n (omega (arith, r .least)) (omega arith) (sym (r .lengths .whole) ∙ whole)
-
-      marked : Kept n t (sheet (markingBy by n table) s marks .marks)
-      marked = sheet-safe (markingBy by n table) (InTour t) (Kept n t) (guarded table some best by) s marks kept
-
-      sized : (b : Bool) → Kept n t (unless b (turnedDown 7 marks) (sheet (markingBy by p table) s marks) .marks)
-      sized true = subst (λ (q : ℕ). Kept n t (sheet (markingBy by q table) s marks .marks)) (sym same) marked
-      sized false = kept
+  -- a call that passes states the n of the table
+  states : (m : ℕ) (marks : List ℕ) (p : ℕ) → ready m table marks ≡ Points p → p ≡ n
+  states m marks p e = let r = passed (ready-tested e .tests) in edge-count-injective p n (omega (arith, r .least)) (omega arith) (sym (r .lengths .whole) ∙ whole)
 
   -- a sheet leaves the tour's edges open, marked or asked, whatever n and records it states
   call-kept : (by m : ℕ) (s marks : List ℕ) → Kept n t marks → Kept n t (markBy by m table marks s .marks)
   unfolding markBy
-  call-kept by m s marks kept = judged-kept by m s marks kept (ready m table marks) refl
+  call-kept by m s marks kept = tested-kept some lengths-same best by s marks kept (ready m table marks) (states m marks)
 
   -- confirming and withdrawing change pending marks alone, and the tour's edges have mark 1
   settle-kept : (mark : ℕ) (marks : List ℕ) → Kept n t marks → (r : Settled) → Kept n t (settledLeft r mark marks)
@@ -76,7 +59,7 @@ module _ {n : ℕ} (table : List ℕ) {t : List ℕ} (some : leastPoints ≤ n) 
   settle-kept mark marks kept settling.Done =
       record { whole = settled-size mark marks ∙ kept .whole; all-open = λ a b u. settled-open mark n marks a b (kept .all-open a b u) }
 
-  step-kept : (step : Step) (marks : List ℕ) → Kept n t marks → Kept n t (stepped table step marks)
+  pub step-kept : (step : Step) (marks : List ℕ) → Kept n t marks → Kept n t (stepped table step marks)
   step-kept (marking m s) marks kept = call-kept struckMark m s marks kept
   step-kept (asking m s) marks kept = call-kept pendingMark m s marks kept
   step-kept (confirming m) marks kept = settle-kept struckMark marks kept (settledAnswer m marks)
@@ -84,10 +67,6 @@ module _ {n : ℕ} (table : List ℕ) {t : List ℕ} (some : leastPoints ≤ n) 
 
   pub steps-kept : (steps : List Step) (marks : List ℕ) → Kept n t marks → Kept n t (stepsOf table steps marks)
   steps-kept = run-keeps (Kept n t) (stepped table) step-kept
-
-  -- fresh marks are all open
-  pub fresh-kept : Kept n t (freshMarks n)
-  fresh-kept = record { whole = fresh-size n; all-open = λ a b u. fresh-open (tour-edge (best .tour) (omega arith) a b u) }
 
 pub in-limits : {n : ℕ} → leastPoints ≤ n → n ≤ mostPoints → inRange n ≡ true
 unfolding inRange
@@ -108,7 +87,7 @@ pub three-optimal-open :
     markAt (stepsOf table steps (freshLeft (freshAnswer n (length before)) n before)) (place n a b) ≡ openMark
 unfolding openUpTo
 three-optimal-open n some most table whole before sized steps t best a b u =
-    let kept = steps-kept table some whole best steps (freshMarks n) (fresh-kept table some whole best) in
+    let kept = steps-kept table some whole best steps (freshMarks n) (fresh-kept some lengths-same best) in
     rw (fresh-left n before (in-limits some most) sized) (open-mark _ (place n a b) (kept .all-open a b u))
 
 -- and so of every shortest tour

@@ -1,8 +1,9 @@
 -- A 3-optimal tour whose edges are open keeps them open, whatever sheets are marked: the tour meets what `argument` asks of a tour in
--- question (`Guarded`), so no accepted line strikes one of its edges, and nothing else changes a mark. Assumes nothing.
+-- question (`Guarded`), so no accepted line strikes one of its edges, and nothing else changes a mark. The lengths by which the tour is 3-optimal
+-- lie between those of low and high, over which the sheets are marked (02, Paper 11); one table is all three. Assumes nothing.
 use Prim.Native.Nat.{ℕ, _≤_}
-use mathlib.Core.Path.{_≡_, _∙_}
-use mathlib.Core.Bool.{true}
+use mathlib.Core.Path.{_≡_, refl, sym, _∙_, subst}
+use mathlib.Core.Bool.{Bool, true, false}
 use mathlib.Core.Logic.{inl, inr}
 use mathlib.Core.List.{List, [], _∷_}
 use native.Mathlib.Omega.{arith}
@@ -11,16 +12,26 @@ use Rattle.lengths.specs.Edge.{Edge, edge, IsEdge, edgeCount}
 use Rattle.lengths.specs.Instance.{leastPoints}
 use Rattle.lengths.specs.Table.{lengthOf}
 use Rattle.lengths.proofs.Tables.{length-symmetric}
+use Rattle.lists.specs.Test.{unless}
 use Rattle.sets.specs.EdgeSet.{Joins, Has, closedEdges, withPair}
 use Rattle.marks.proofs.Marks.{length-marked}
+use Rattle.marks.specs.Fresh.{freshMarks}
 use Rattle.marks.specs.Mark.{openIn, markIn}
+use Rattle.marks.proofs.FreshMarks.{fresh-size, fresh-open}
 use Rattle.rules.specs.Pair.{FeasiblePair}
 use Rattle.tours.specs.Tour.{Uses, ThreeOptimal, Symmetric}
 use Rattle.tours.proofs.Edges.{inside-cons, has-sym}
 use Rattle.tours.proofs.TourNeighbours.{tour-edge}
 use Rattle.argument.specs.Safety.{Upheld, Guarded}
-use Rattle.sheets.specs.Rules.{rulesOf, markingBy}
-use Rattle.demands.proofs.Lawful.{lawful}
+use Rattle.argument.specs.Sheet.{sheet}
+use Rattle.argument.proofs.Safe.{sheet-safe}
+use Rattle.sheets.specs.Rules.{rulesBetween, markingBetween}
+use Rattle.sheets.specs.Sheet.{wholeSheet}
+use Rattle.marking.specs.Mark.{markTested, turnedDown}
+use Rattle.marking.specs.declared.tests.Tested.{Tested}
+use Rattle.marking.specs.declared.tests.Tested.the-variants.{Points, Refused}
+use Rattle.demands.proofs.Lawful.{lawful-between}
+use Rattle.demands.proofs.Monotone.{LengthsBetween, feasible-over, closes-under}
 use Rattle.demands.proofs.Optimal.{OwnPair, optimal-feasible, optimal-not-closed}
 use Rattle.demands.proofs.Strikes.{marked-other}
 
@@ -33,7 +44,7 @@ pub record Kept (n : ℕ) (t marks : List ℕ) : Type 0 where
   pub whole : length marks ≡ edgeCount n
   pub all-open : (a b : ℕ) → Uses t a b → openIn n marks a b ≡ true
 
-module _ {n : ℕ} (table : List ℕ) {t : List ℕ} (some : leastPoints ≤ n) (best : ThreeOptimal n (lengthOf n table) t) where
+module _ {n : ℕ} {low high table t : List ℕ} (some : leastPoints ≤ n) (limits : LengthsBetween n low high table) (best : ThreeOptimal n (lengthOf n table) t) where
   symmetric : Symmetric (lengthOf n table)
   symmetric = length-symmetric n table
 
@@ -41,18 +52,19 @@ module _ {n : ℕ} (table : List ℕ) {t : List ℕ} (some : leastPoints ≤ n) 
   used-edge = tour-edge (best .tour) (omega arith)
 
   module _ (marks : List ℕ) (kept : Kept n t marks) where
-    -- the tour's two neighbours of c are a feasible pair
+    -- the tour's two neighbours of c are a feasible pair under the table, and so over low and high
     own : (K : List Edge) (c : ℕ) → InTour t K → OwnPair n (lengthOf n table) (openIn n marks) K t c
-        → (x : ℕ) × (y : ℕ) × FeasiblePair n (lengthOf n table) (lengthOf n table) (openIn n marks) K c x y × InTour t (withPair K c x y)
+        → (x : ℕ) × (y : ℕ) × FeasiblePair n (lengthOf n low) (lengthOf n high) (openIn n marks) K c x y × InTour t (withPair K c x y)
     unfolding withPair
     own K c uses S =
-        (S .x, S .y, S .feasible, inside-cons (edge c (S .y) ∷ K) (closedEdges t) c (S .x) (S .uses-x) (inside-cons K (closedEdges t) c (S .y) (S .uses-y) uses))
+        (S .x, S .y, feasible-over (limits .under) (limits .over) (S .feasible), inside-cons (edge c (S .y) ∷ K) (closedEdges t) c (S .x) (S .uses-x) (inside-cons K (closedEdges t) c (S .y) (S .uses-y) uses))
 
-    upheld : Upheld (rulesOf n table marks) (InTour t)
+    -- a closing that settles over low and high settles under the table, and none settles edges of the tour
+    upheld : Upheld (rulesBetween n low high marks) (InTour t)
     upheld =
         record {
           keeps = λ K c uses p. own K c uses (optimal-feasible best symmetric (openIn n marks) K (kept .all-open) uses (omega arith) c p);
-          unsettled = λ K p q r s uses c. optimal-not-closed best symmetric K uses p q r s c;
+          unsettled = λ K p q r s uses c. optimal-not-closed best symmetric K uses p q r s (closes-under (limits .under) (limits .over) c);
         }
 
     -- another mark for an edge that the tour does not use leaves the tour's edges open
@@ -67,10 +79,26 @@ module _ {n : ℕ} (table : List ℕ) {t : List ℕ} (some : leastPoints ≤ n) 
         used c d u (inl s) = rw (s .0, s .1) u
         used c d u (inr s) = has-sym (closedEdges t) b a (rw (s .0, s .1) u)
 
-  pub guarded : (by : ℕ) → Guarded (markingBy by n table) (InTour t) (Kept n t)
+  guarded : (by : ℕ) → Guarded (markingBetween by n low high) (InTour t) (Kept n t)
   guarded by =
       record {
-        lawful = λ m k. lawful n table m;
+        lawful = λ m k. lawful-between n low high m;
         upheld = upheld;
         spares = λ m a b k pa pb ne o unused. spared m k by a b (record { first = pa; second = pb; apart = ne }) unused;
       }
+
+  -- fresh marks are all open
+  pub fresh-kept : Kept n t (freshMarks n)
+  fresh-kept = record { whole = fresh-size n; all-open = λ a b u. fresh-open (used-edge a b u) }
+
+  -- what the tests of a call come to: a refusal changes no mark, and a call that passes states the n of the tables
+  pub tested-kept : (by : ℕ) (s marks : List ℕ) → Kept n t marks → (r : Tested) → ((p : ℕ) → r ≡ Points p → p ≡ n) → Kept n t (markTested by r low high marks s .marks)
+  tested-kept by s marks kept (Refused k) same = kept
+  tested-kept by s marks kept (Points p) same = sized (wholeSheet (length s))
+    where
+      marked : Kept n t (sheet (markingBetween by n low high) s marks .marks)
+      marked = sheet-safe (markingBetween by n low high) (InTour t) (Kept n t) (guarded by) s marks kept
+
+      sized : (b : Bool) → Kept n t (unless b (turnedDown 7 marks) (sheet (markingBetween by p low high) s marks) .marks)
+      sized true = subst (λ (q : ℕ). Kept n t (sheet (markingBetween by q low high) s marks .marks)) (sym (same p refl)) marked
+      sized false = kept

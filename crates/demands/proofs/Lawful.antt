@@ -23,7 +23,7 @@ use Rattle.rules.proofs.PairTests.{feasiblePairs-iff}
 use Rattle.rules.proofs.Unmoving.{single-unmovable}
 use Rattle.rules.specs.Pair.{Unmovable}
 use Rattle.argument.specs.Rules.{NamesFeasible, Reached, single, grown, Lawful}
-use Rattle.sheets.specs.Rules.{rulesWhere, rulesOf}
+use Rattle.sheets.specs.Rules.{rulesWhere, rulesBetween, rulesOf}
 
 zero-settled : (c : ThreeOptOutcome) → refusalOf c ≡ 0 → c ≡ Settled
 unfolding refusalOf
@@ -48,47 +48,50 @@ Within n K = (u v : ℕ) → Has K u v → Point n u × Point n v
 within-edge : {n a b : ℕ} (K : List Edge) → Point n a → Point n b → Within n K → Within n (edge a b ∷ K)
 within-edge K p q w u v h = ⊎-elim (⊎-elim (λ e. (rw (e .0) at p, rw (e .1) at q)) (λ e. (rw (e .1) at q, rw (e .0) at p))) (w u v) h
 
-module _ (n : ℕ) (table : List ℕ) (open? : ℕ → ℕ → Bool) where
-  reached-shape : {K : List Edge} → Reached (rulesWhere n table open?) K → Shape n K
+module _ (n : ℕ) (out put : List ℕ) (open? : ℕ → ℕ → Bool) where
+  reached-shape : {K : List Edge} → Reached (rulesWhere n out put open?) K → Shape n K
   reached-shape (single {a} {b} pa pb ne) = single-shape n a b ne
   reached-shape (grown {K} {c} {x} {y} r pc f) =
       kept-shape n K c x y (reached-shape r) (record { x-y = λ e. omega (arith, f .rising); x-c = f .apart-x; y-c = f .apart-y }) (f .two) (f .three)
 
   -- no point of such a set can be moved: {ab} has none of degree two, and a feasible pair says so of the next
-  reached-unmovable : {K : List Edge} → Reached (rulesWhere n table open?) K → Unmovable (lengthOf n table) (lengthOf n table) K
-  reached-unmovable (single {a} {b} pa pb ne) = single-unmovable (lengthOf n table) (lengthOf n table) a b
+  reached-unmovable : {K : List Edge} → Reached (rulesWhere n out put open?) K → Unmovable (lengthOf n out) (lengthOf n put) K
+  reached-unmovable (single {a} {b} pa pb ne) = single-unmovable (lengthOf n out) (lengthOf n put) a b
   reached-unmovable (grown {K} {c} {x} {y} r pc f) = f .five
 
-  reached-within : {K : List Edge} → Reached (rulesWhere n table open?) K → Within n K
+  reached-within : {K : List Edge} → Reached (rulesWhere n out put open?) K → Within n K
   unfolding withPair
   reached-within (single {a} {b} pa pb ne) = within-edge [] pa pb (λ u v h. absurd h)
   reached-within (grown {K} {c} {x} {y} r pc f) = within-edge (edge c y ∷ K) pc (f .point-x) (within-edge K pc (f .point-y) (reached-within r))
 
   -- the list that the search finds has exactly the feasible pairs
-  names-feasible : (K : List Edge) (c : ℕ) → Reached (rulesWhere n table open?) K → NamesFeasible (rulesWhere n table open?) K c (feasiblePairs n (lengthOf n table) open? K c)
+  names-feasible : (K : List Edge) (c : ℕ) → Reached (rulesWhere n out put open?) K → NamesFeasible (rulesWhere n out put open?) K c (feasiblePairs n (lengthOf n out) (lengthOf n put) open? K c)
   names-feasible K c r =
       record {
-        rising = feasiblePairs-rising n (lengthOf n table) open? K c;
+        rising = feasiblePairs-rising n (lengthOf n out) (lengthOf n put) open? K c;
         exactly = λ x y.
-            feasiblePairs-iff (lengthOf n table) (length-symmetric n table) n open? K c x y
+            feasiblePairs-iff (lengthOf n out) (lengthOf n put) (length-symmetric n out) (length-symmetric n put) n open? K c x y
             (λ xc yc e. shape-exact n K c x y (reached-shape r) (record { x-y = λ q. omega (arith, e .up); x-c = xc; y-c = yc }))
             (reached-unmovable r);
       }
 
-  pub lawful-where : Lawful (rulesWhere n table open?)
+  pub lawful-where : Lawful (rulesWhere n out put open?)
   lawful-where =
       record {
         listed = names-feasible;
-        settled = λ K p q r s h. settled-exact (lengthOf n table) K p q r s .0 (zero-settled (threeOptOutcome (lengthOf n table) K p q r s) h);
-        settles = λ K p q r s c. ap refusalOf (settled-exact (lengthOf n table) K p q r s .1 c) ∙ settled-zero;
+        settled = λ K p q r s h. settled-exact (lengthOf n out) (lengthOf n put) K p q r s .0 (zero-settled (threeOptOutcome (lengthOf n out) (lengthOf n put) K p q r s) h);
+        settles = λ K p q r s c. ap refusalOf (settled-exact (lengthOf n out) (lengthOf n put) K p q r s .1 c) ∙ settled-zero;
         pair-points = λ K c x y f. (f .point-x, f .point-y, f .rising);
         three-opt-points = λ K p q r s reached c.
             let w = reached-within reached in
             let x = c .moves in
             (w p q (x .edge-of-K) .0, w p q (x .edge-of-K) .1, w r (c .x) (x .ends-r .has-x) .0, w s (c .z) (x .ends-s .has-x) .0);
-        closing-number = λ K p q r s. refused-number (threeOptOutcome (lengthOf n table) K p q r s);
+        closing-number = λ K p q r s. refused-number (threeOptOutcome (lengthOf n out) (lengthOf n put) K p q r s);
       }
 
--- the rules of a sheet under its marks
+-- the rules of a sheet under its marks, over two tables and over one
+pub lawful-between : (n : ℕ) (low high marks : List ℕ) → Lawful (rulesBetween n low high marks)
+lawful-between n low high marks = lawful-where n low high (openIn n marks)
+
 pub lawful : (n : ℕ) (table marks : List ℕ) → Lawful (rulesOf n table marks)
-lawful n table marks = lawful-where n table (openIn n marks)
+lawful n table marks = lawful-between n table table marks

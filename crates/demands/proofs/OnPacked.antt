@@ -2,7 +2,7 @@
 -- whatever number of points the call states; and converting there and back, and back and there, changes nothing. Assumes nothing.
 use Prim.Native.Nat.{ℕ, suc, _≤_, _<_}
 use mathlib.Core.Path.{_≡_, refl, sym, _∙_, ap, subst}
-use mathlib.Core.Bool.{Bool, true, false}
+use mathlib.Core.Bool.{Bool, true, false, true≢false}
 use mathlib.Core.Logic.{⊎-elim}
 use mathlib.Core.List.{List, []}
 use native.Mathlib.Omega.{arith}
@@ -14,10 +14,11 @@ use Rattle.lengths.specs.Edge.{edgeCount}
 use Rattle.lengths.specs.Instance.{leastPoints, inRange, mostLength}
 use Rattle.lengths.proofs.Edges.{edgeCount-tri, tri-suc, tri-mono, three-way}
 use Rattle.lengths.proofs.Instances.{in-range}
-use Rattle.lists.specs.Test.{allAtMost, unless}
+use Rattle.lists.specs.Test.{allAtMost, eachAtMost, unless}
 use Rattle.marks.specs.Converting.{isByteSet, packAnswer, packLeft, unpackAnswer, unpackLeft}
 use Rattle.marks.specs.declared.converting.Converted.{Converted}
 use Rattle.marks.specs.declared.converting.Converted.the-variants as converted
+use Rattle.marks.specs.Mark.{struckMark, areMarks}
 use Rattle.marks.specs.Fresh.{freshAnswer, freshSetAnswer, freshLeft, freshSetLeft}
 use Rattle.marks.specs.declared.fresh.Fresh.{Fresh}
 use Rattle.marks.specs.declared.fresh.Fresh.the-variants as fresh
@@ -27,12 +28,15 @@ use Rattle.marks.specs.declared.pending.Settled.{Settled}
 use Rattle.marks.specs.declared.pending.Settled.the-variants as settled
 use Rattle.marks.proofs.PackedSets.{packed-length, well-packed, marks-none, marks-size, marks-are, packed-marks, repacked-same, packed-is-well, marks-packed, some-edges}
 use Rattle.marking.proofs.MarkingSheets.{packedResult}
+use Rattle.limits.specs.Tests.{testedLimits, untilMarks, testedBetween, readyBetween}
+use Rattle.limits.specs.Mark.{markBetween, markBetweenPacked}
+use Rattle.limits.specs.Listing.{listedBetween}
 use Rattle.marking.specs.Listing.{listTested, listed, listLeft}
 use Rattle.marking.specs.Mark.{turnedDown, markTested, markBy, repack, markPackedBy}
 use Rattle.marking.specs.Tests.{tested, untilPending, ready}
 use Rattle.marking.specs.Tour.{checkTested, tourChecked}
 use Rattle.marking.specs.declared.tests.Tested.{Tested}
-use Rattle.marking.specs.declared.tests.Tested.the-variants.{Refused}
+use Rattle.marking.specs.declared.tests.Tested.the-variants.{Points, Refused}
 
 -- n points have fewer bytes than more points: four edges are at least one byte more
 packed-size-rises : (m n : ℕ) → leastPoints ≤ m → m < n → packedSize m < packedSize n
@@ -74,45 +78,113 @@ meet {p} {bytes} some b n = by (inRange n) refl (ℕ-discrete n p)
         (ne-eqb 0 (edgeCount n) (λ e. omega (arith, some-edges n least)))
         (marks-none n (packed bytes) (rw wrong))
 
--- the shared tests refuse marks of a wrong number alike, whatever they are
-wrong-number : (n : ℕ) (table marks : List ℕ) → eqb (length marks) (edgeCount n) ≡ false
-    → tested n table marks ≡ unless (inRange n) (Refused 1) (unless (eqb (length table) (edgeCount n)) (Refused 2) (unless (allAtMost mostLength table) (Refused 5) (Refused 6)))
-unfolding tested
-wrong-number n table marks h = rw (tested, h)
+-- tests in front of the marks' own: they refuse n out of the limits, and marks of a wrong number alike, whatever they are
+record Shared (tests : List ℕ → Tested) (n : ℕ) : Type 0 where
+  pub outside : inRange n ≡ false → (marks : List ℕ) → tests marks ≡ Refused 1
+  pub number : ℕ
+  pub wrong : (marks : List ℕ) → eqb (length marks) (edgeCount n) ≡ false → tests marks ≡ Refused number
 
 pub out-of-limits : (n : ℕ) (table marks : List ℕ) → inRange n ≡ false → tested n table marks ≡ Refused 1
 unfolding tested
 out-of-limits n table marks h = rw (tested, h)
 
--- so both sets are refused alike, or the packed set holds the marks
-data Alike (n : ℕ) (table bytes : List ℕ) : Type 0 where
-  refused : (k : ℕ) → tested n table (marksOf n (packed bytes)) ≡ Refused k → tested n table bytes ≡ Refused k → Alike n table bytes
-  held : wellPacked n (packed bytes) ≡ true → marksOf n (packed bytes) ≡ bytes → Alike n table bytes
-
-alike : (n : ℕ) (table bytes : List ℕ) → Meeting n bytes → Alike n table bytes
-alike n table bytes (outside h) = refused 1 (out-of-limits n table (marksOf n (packed bytes)) h) (out-of-limits n table bytes h)
-alike n table bytes (stated w e) = held w e
-alike n table bytes (other r s q z e) = by (inRange n) (eqb (length table) (edgeCount n)) (allAtMost mostLength table) (ap (tested n table) e ∙ wrong-number n table [] z) (wrong-number n table bytes q)
+-- those over one table, and over two (Paper 11)
+shared-tested : (n : ℕ) (table : List ℕ) → Shared (tested n table) n
+unfolding tested
+shared-tested n table =
+    record {
+      outside = λ h marks. out-of-limits n table marks h;
+      number = unless (inRange n) 1 (unless (eqb (length table) (edgeCount n)) 2 (unless (allAtMost mostLength table) 5 6));
+      wrong = λ marks h. by (inRange n) (eqb (length table) (edgeCount n)) (allAtMost mostLength table) (areMarks marks) (eqb (length marks) (edgeCount n)) h;
+    }
   where
-    by : (a t l : Bool) → tested n table (marksOf n (packed bytes)) ≡ unless a (Refused 1) (unless t (Refused 2) (unless l (Refused 5) (Refused 6)))
-        → tested n table bytes ≡ unless a (Refused 1) (unless t (Refused 2) (unless l (Refused 5) (Refused 6))) → Alike n table bytes
-    by false t l f g = refused 1 f g
-    by true false l f g = refused 2 f g
-    by true true false f g = refused 5 f g
-    by true true true f g = refused 6 f g
+    by : (a t l m w : Bool) → w ≡ false →
+        unless a (Refused 1) (unless t (Refused 2) (unless l (Refused 5) (unless w (Refused 6) (unless m (Refused 6) (Points n))))) ≡ Refused (unless a 1 (unless t 2 (unless l 5 6)))
+    by false t l m w h = refl
+    by true false l m w h = refl
+    by true true false m w h = refl
+    by true true true m false h = refl
+    by true true true m true h = absurd (true≢false h)
+
+shared-between : (n : ℕ) (low high : List ℕ) → Shared (testedBetween n low high) n
+unfolding testedBetween testedLimits
+shared-between n low high =
+    record {
+      outside = λ h marks. rw (testedBetween, testedLimits, h);
+      number =
+          unless (inRange n) 1 (unless (eqb (length low) (edgeCount n)) 2 (unless (eqb (length high) (edgeCount n)) 2
+          (unless (allAtMost mostLength low) 5 (unless (allAtMost mostLength high) 5 (unless (eachAtMost low high) 25 6)))));
+      wrong = λ marks h. by marks h (inRange n) (eqb (length low) (edgeCount n)) (eqb (length high) (edgeCount n)) (allAtMost mostLength low) (allAtMost mostLength high) (eachAtMost low high);
+    }
+  where
+    by : (marks : List ℕ) → eqb (length marks) (edgeCount n) ≡ false → (a t u l k o : Bool) →
+        untilMarks (unless a (Refused 1) (unless t (Refused 2) (unless u (Refused 2) (unless l (Refused 5) (unless k (Refused 5) (unless o (Refused 25) (Points n))))))) marks
+        ≡ Refused (unless a 1 (unless t 2 (unless u 2 (unless l 5 (unless k 5 (unless o 25 6))))))
+    by marks h false t u l k o = refl
+    by marks h true false u l k o = refl
+    by marks h true true false l k o = refl
+    by marks h true true true false k o = refl
+    by marks h true true true true false o = refl
+    by marks h true true true true true false = refl
+    by marks h true true true true true true = rw h
+
+-- so both sets are refused alike, or the packed set holds the marks
+data Alike (tests : List ℕ → Tested) (n : ℕ) (bytes : List ℕ) : Type 0 where
+  refused : (k : ℕ) → tests (marksOf n (packed bytes)) ≡ Refused k → tests bytes ≡ Refused k → Alike tests n bytes
+  held : wellPacked n (packed bytes) ≡ true → marksOf n (packed bytes) ≡ bytes → Alike tests n bytes
+
+alike : (tests : List ℕ → Tested) {n : ℕ} {bytes : List ℕ} → Shared tests n → Meeting n bytes → Alike tests n bytes
+alike tests {n} {bytes} s (outside h) = refused 1 (s .outside h (marksOf n (packed bytes))) (s .outside h bytes)
+alike tests s (stated w e) = held w e
+alike tests {n} {bytes} s (other r size q z e) = refused (s .number) (ap tests e ∙ s .wrong [] z) (s .wrong bytes q)
 
 module _ {p : ℕ} {bytes : List ℕ} (some : leastPoints ≤ p) (b : ByteSet p bytes) (n : ℕ) where
-  -- MARKING AND ASKING
+  -- what is marked and listed behind such tests
+  module _ (tests : List ℕ → Tested) (shared : Shared tests n) (out put : List ℕ) where
+    marked-alike : (by : ℕ) (s : List ℕ) →
+        repack n (packed bytes) (markTested by (untilPending (tests (marksOf n (packed bytes))) (marksOf n (packed bytes))) out put (marksOf n (packed bytes)) s)
+        ≡ packedResult (markTested by (untilPending (tests bytes) bytes) out put bytes s)
+    unfolding repacked
+    marked-alike by s = on (alike tests shared (meet some b n))
+      where
+        on : Alike tests n bytes →
+            repack n (packed bytes) (markTested by (untilPending (tests (marksOf n (packed bytes))) (marksOf n (packed bytes))) out put (marksOf n (packed bytes)) s)
+            ≡ packedResult (markTested by (untilPending (tests bytes) bytes) out put bytes s)
+        on (refused k f g) =
+            ap (λ (t : Tested). repack n (packed bytes) (markTested by (untilPending t (marksOf n (packed bytes))) out put (marksOf n (packed bytes)) s)) f
+            ∙ ap (turnedDown k) (repacked-same n (packed bytes))
+            ∙ sym (ap (λ (t : Tested). packedResult (markTested by (untilPending t bytes) out put bytes s)) g)
+        on (held w e) = ap (λ (m : List ℕ). repack n (packed bytes) (markTested by (untilPending (tests m) m) out put m s)) e ∙ rw w
+
+    listed-alike : (x y c size : ℕ) → listTested (tests (marksOf n (packed bytes))) out put (marksOf n (packed bytes)) x y c size ≡ listTested (tests bytes) out put bytes x y c size
+    listed-alike x y c size = on (alike tests shared (meet some b n))
+      where
+        on : Alike tests n bytes → listTested (tests (marksOf n (packed bytes))) out put (marksOf n (packed bytes)) x y c size ≡ listTested (tests bytes) out put bytes x y c size
+        on (refused k f g) =
+            ap (λ (t : Tested). listTested t out put (marksOf n (packed bytes)) x y c size) f ∙ sym (ap (λ (t : Tested). listTested t out put bytes x y c size) g)
+        on (held w e) = ap (λ (m : List ℕ). listTested (tests m) out put m x y c size) e
+
+    list-left-alike : (x y c size : ℕ) (list : List ℕ) →
+        listLeft (listTested (tests (marksOf n (packed bytes))) out put (marksOf n (packed bytes)) x y c size) n out put (marksOf n (packed bytes)) x y c list
+        ≡ listLeft (listTested (tests bytes) out put bytes x y c size) n out put bytes x y c list
+    list-left-alike x y c size list = on (alike tests shared (meet some b n))
+      where
+        on : Alike tests n bytes →
+            listLeft (listTested (tests (marksOf n (packed bytes))) out put (marksOf n (packed bytes)) x y c size) n out put (marksOf n (packed bytes)) x y c list
+            ≡ listLeft (listTested (tests bytes) out put bytes x y c size) n out put bytes x y c list
+        on (refused k f g) =
+            ap (λ (t : Tested). listLeft (listTested t out put (marksOf n (packed bytes)) x y c size) n out put (marksOf n (packed bytes)) x y c list) f
+            ∙ sym (ap (λ (t : Tested). listLeft (listTested t out put bytes x y c size) n out put bytes x y c list) g)
+        on (held w e) = ap (λ (m : List ℕ). listLeft (listTested (tests m) out put m x y c size) n out put m x y c list) e
+
+  -- MARKING AND ASKING, and marking over two tables
   pub mark-on-packed : (by : ℕ) (table s : List ℕ) → markPackedBy by n table (packed bytes) s ≡ packedResult (markBy by n table bytes s)
-  unfolding markPackedBy markBy ready repacked
-  mark-on-packed by table s = on (alike n table bytes (meet some b n))
-    where
-      on : Alike n table bytes → markPackedBy by n table (packed bytes) s ≡ packedResult (markBy by n table bytes s)
-      on (refused k f g) =
-          ap (λ (t : Tested). repack n (packed bytes) (markTested by (untilPending t (marksOf n (packed bytes))) table (marksOf n (packed bytes)) s)) f
-          ∙ ap (turnedDown k) (repacked-same n (packed bytes))
-          ∙ sym (ap (λ (t : Tested). packedResult (markTested by (untilPending t bytes) table bytes s)) g)
-      on (held w e) = ap (λ (m : List ℕ). repack n (packed bytes) (markBy by n table m s)) e ∙ rw w
+  unfolding markPackedBy markBy ready
+  mark-on-packed by table s = marked-alike (tested n table) (shared-tested n table) table table by s
+
+  pub mark-between-on-packed : (low high s : List ℕ) → markBetweenPacked n low high (packed bytes) s ≡ packedResult (markBetween n low high bytes s)
+  unfolding markBetweenPacked markBetween readyBetween
+  mark-between-on-packed low high s = marked-alike (testedBetween n low high) (shared-between n low high) low high struckMark s
 
   -- CONFIRMING AND WITHDRAWING
   pub settle-on-packed-answer : settledSetAnswer n (packed bytes) ≡ settledAnswer n bytes
@@ -141,34 +213,31 @@ module _ {p : ℕ} {bytes : List ℕ} (some : leastPoints ≤ p) (b : ByteSet p 
       on (stated w e) = ap (λ (m : List ℕ). repacked n (packed bytes) (settledLeft (settledAnswer n m) mark m)) e ∙ rw w
       on (other r s q z e) = kept 6 (ap (settledAnswer n) e ∙ rw (r, z)) (rw (r, q))
 
-  -- LISTING PAIRS: the answer, and the list's bytes
+  -- LISTING PAIRS: the answer, and the list's bytes; and over two tables
   pub list-on-packed : (table : List ℕ) (x y c size : ℕ) → listed n table (marksOf n (packed bytes)) x y c size ≡ listed n table bytes x y c size
   unfolding listed
-  list-on-packed table x y c size = on (alike n table bytes (meet some b n))
-    where
-      on : Alike n table bytes → listed n table (marksOf n (packed bytes)) x y c size ≡ listed n table bytes x y c size
-      on (refused k f g) =
-          ap (λ (t : Tested). listTested t table (marksOf n (packed bytes)) x y c size) f ∙ sym (ap (λ (t : Tested). listTested t table bytes x y c size) g)
-      on (held w e) = ap (λ (m : List ℕ). listed n table m x y c size) e
+  list-on-packed table = listed-alike (tested n table) (shared-tested n table) table table
 
   pub list-left-on-packed : (table : List ℕ) (x y c size : ℕ) (list : List ℕ)
-      → listLeft (listed n table (marksOf n (packed bytes)) x y c size) n table (marksOf n (packed bytes)) x y c list ≡ listLeft (listed n table bytes x y c size) n table bytes x y c list
+      → listLeft (listed n table (marksOf n (packed bytes)) x y c size) n table table (marksOf n (packed bytes)) x y c list ≡ listLeft (listed n table bytes x y c size) n table table bytes x y c list
   unfolding listed
-  list-left-on-packed table x y c size list = on (alike n table bytes (meet some b n))
-    where
-      on : Alike n table bytes
-          → listLeft (listed n table (marksOf n (packed bytes)) x y c size) n table (marksOf n (packed bytes)) x y c list ≡ listLeft (listed n table bytes x y c size) n table bytes x y c list
-      on (refused k f g) =
-          ap (λ (t : Tested). listLeft (listTested t table (marksOf n (packed bytes)) x y c size) n table (marksOf n (packed bytes)) x y c list) f
-          ∙ sym (ap (λ (t : Tested). listLeft (listTested t table bytes x y c size) n table bytes x y c list) g)
-      on (held w e) = ap (λ (m : List ℕ). listLeft (listed n table m x y c size) n table m x y c list) e
+  list-left-on-packed table = list-left-alike (tested n table) (shared-tested n table) table table
+
+  pub list-between-on-packed : (low high : List ℕ) (x y c size : ℕ) → listedBetween n low high (marksOf n (packed bytes)) x y c size ≡ listedBetween n low high bytes x y c size
+  unfolding listedBetween
+  list-between-on-packed low high = listed-alike (testedBetween n low high) (shared-between n low high) low high
+
+  pub list-left-between-on-packed : (low high : List ℕ) (x y c size : ℕ) (list : List ℕ)
+      → listLeft (listedBetween n low high (marksOf n (packed bytes)) x y c size) n low high (marksOf n (packed bytes)) x y c list ≡ listLeft (listedBetween n low high bytes x y c size) n low high bytes x y c list
+  unfolding listedBetween
+  list-left-between-on-packed low high = list-left-alike (testedBetween n low high) (shared-between n low high) low high
 
   -- CHECKING A TOUR
   pub tour-on-packed : (table t : List ℕ) → tourChecked n table (marksOf n (packed bytes)) t ≡ tourChecked n table bytes t
   unfolding tourChecked
-  tour-on-packed table t = on (alike n table bytes (meet some b n))
+  tour-on-packed table t = on (alike (tested n table) (shared-tested n table) (meet some b n))
     where
-      on : Alike n table bytes → tourChecked n table (marksOf n (packed bytes)) t ≡ tourChecked n table bytes t
+      on : Alike (tested n table) n bytes → tourChecked n table (marksOf n (packed bytes)) t ≡ tourChecked n table bytes t
       on (refused k f g) = ap (λ (r : Tested). checkTested r table (marksOf n (packed bytes)) t) f ∙ sym (ap (λ (r : Tested). checkTested r table bytes t) g)
       on (held w e) = ap (λ (m : List ℕ). tourChecked n table m t) e
 

@@ -50,13 +50,13 @@ open-few {n} (edge a b ∷ es) marks edges once opens =
 -- marks in which every edge of a tour is open
 module _ {n : ℕ} (some : leastPoints ≤ n) {t : List ℕ} (T : Tour n t) (marks : List ℕ) (opens : (a b : ℕ) → Uses t a b → openIn n marks a b ≡ true) where
   -- the two neighbours of v in the tour are two points with an open edge to v
-  tour-degree : (v : ℕ) → Point n v → 2 ≤ openDegree n marks v
+  pub tour-degree : (v : ℕ) → Point n v → 2 ≤ openDegree n marks v
   tour-degree v p =
       let N : TourNeighbours n t v = tour-neighbours T (omega arith) v p in
       degree-two marks v (N .point-x) (N .point-y) (N .apart) (N .apart-x) (N .apart-y) (opens v (N .x) (N .uses-x)) (opens v (N .y) (N .uses-y))
 
   -- the tour has n edges, none of them twice
-  tour-count : n ≤ openCount marks
+  pub tour-count : n ≤ openCount marks
   unfolding tourLength
   tour-count =
       omega (

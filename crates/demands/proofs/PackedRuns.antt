@@ -23,20 +23,32 @@ use Rattle.tours.specs.Tour.{Uses, Shortest, ThreeOptimal}
 use Rattle.argument.specs.Sheet.{run}
 use Rattle.argument.proofs.Safe.{run-keeps}
 use Rattle.marking.proofs.PackedSheets.{mark-byte-set}
-use Rattle.demands.specs.Run.{Step, marking, asking, confirming, withdrawing, stepped, stepsOf, steppedPacked, stepsPacked, stepsInC, Call, runPacked, runInC}
+use Rattle.demands.specs.Run.{Step, marking, asking, confirming, withdrawing, stepped, stepsOf, steppedPacked, stepsPacked, steppedInC, stepsInC, Call, runPacked, runInC}
 use Rattle.demands.proofs.Demand3.{in-limits, marking-step, three-optimal-open, shortest-open}
 use Rattle.demands.proofs.OnPacked.{mark-on-packed, settle-on-packed}
 use Rattle.demands.proofs.OpenEdges.{two-open-edges, n-open-edges}
 
+-- calls of any kind, on marks of p points and on packed sets: what each leaves of marks of p points are such marks, and on the packed set it leaves their packed set
+module _ {p : ℕ} {C : Type 0} (on-marks on-set : C → List ℕ → List ℕ) (stays : (call : C) (m : List ℕ) → ByteSet p m → ByteSet p (on-marks call m))
+    (on-packed : (call : C) (m : List ℕ) → ByteSet p m → on-set call (packed m) ≡ packed (on-marks call m)) where
+  -- then so does a run
+  runs-on-packed : (calls : List C) (m : List ℕ) → ByteSet p m → run on-set calls (packed m) ≡ packed (run on-marks calls m)
+  unfolding run
+  runs-on-packed [] m b = refl
+  runs-on-packed (call ∷ calls) m b = ap (run on-set calls) (on-packed call m b) ∙ runs-on-packed calls (on-marks call m) (stays call m b)
+
+  pub runs-held : (calls : List C) (m : List ℕ) → ByteSet p m → marksOf p (run on-set calls (packed m)) ≡ run on-marks calls m
+  runs-held calls m b = ap (marksOf p) (runs-on-packed calls m b) ∙ marks-packed (run-keeps (ByteSet p) on-marks stays calls m b)
+
 -- what a step leaves of marks of p points are marks of p points
 module _ {p : ℕ} (table : List ℕ) (some : leastPoints ≤ p) where
-  step-stays : (step : Step) (m : List ℕ) → ByteSet p m → ByteSet p (stepped table step m)
+  pub step-stays : (step : Step) (m : List ℕ) → ByteSet p m → ByteSet p (stepped table step m)
   step-stays (marking n s) m b = mark-byte-set struckMark n table s (omega arith) b
   step-stays (asking n s) m b = mark-byte-set pendingMark n table s (omega arith) b
   step-stays (confirming n) m b = settled-byte-set struckMark (omega arith) b (settledAnswer n m)
   step-stays (withdrawing n) m b = settled-byte-set openMark (omega arith) b (settledAnswer n m)
 
-  step-on-packed : (step : Step) (m : List ℕ) → ByteSet p m → steppedPacked table step (packed m) ≡ packed (stepped table step m)
+  pub step-on-packed : (step : Step) (m : List ℕ) → ByteSet p m → steppedPacked table step (packed m) ≡ packed (stepped table step m)
   step-on-packed (marking n s) m b = ap (λ r. r .marks) (mark-on-packed some b n struckMark table s)
   step-on-packed (asking n s) m b = ap (λ r. r .marks) (mark-on-packed some b n pendingMark table s)
   step-on-packed (confirming n) m b = settle-on-packed some b n struckMark
@@ -44,14 +56,11 @@ module _ {p : ℕ} (table : List ℕ) (some : leastPoints ≤ p) where
 
   -- A RUN over packed sets leaves the packed set of what the run over the marks leaves
   pub run-on-packed : (steps : List Step) (m : List ℕ) → ByteSet p m → stepsPacked table steps (packed m) ≡ packed (stepsOf table steps m)
-  unfolding run
-  run-on-packed [] m b = refl
-  run-on-packed (step ∷ steps) m b =
-      ap (run (steppedPacked table) steps) (step-on-packed step m b) ∙ run-on-packed steps (stepped table step m) (step-stays step m b)
+  run-on-packed = runs-on-packed (stepped table) (steppedPacked table) step-stays step-on-packed
 
   -- so it holds them
   pub run-held : (steps : List Step) (m : List ℕ) → ByteSet p m → marksOf p (stepsPacked table steps (packed m)) ≡ stepsOf table steps m
-  run-held steps m b = ap (marksOf p) (run-on-packed steps m b) ∙ marks-packed (run-keeps (ByteSet p) (stepped table) step-stays steps m b)
+  run-held = runs-held (stepped table) (steppedPacked table) step-stays step-on-packed
 
 -- a run of *mark a sheet* alone is a run of steps
 run-steps-packed : (table : List ℕ) (calls : List Call) (set : List ℕ) → runPacked table calls set ≡ stepsPacked table (map marking-step calls) set
@@ -108,19 +117,22 @@ module _ (n : ℕ) (some : leastPoints ≤ n) (most : n ≤ mostPoints) (before 
         ∙ ap (opens openMark) (shortest-open-packed (map marking-step calls) t best a b u)
 
 -- a step over bytes is a step over the numbers that they are
-decoded : Step → Step
+abbrev pub decoded : Step → Step
 decoded (marking n s) = marking n (whole16 s)
 decoded (asking n s) = asking n (whole16 s)
 decoded (confirming n) = confirming n
 decoded (withdrawing n) = withdrawing n
 
+pub step-decoded : (table : List ℕ) (step : Step) (set : List ℕ) → steppedInC table step set ≡ steppedPacked (whole32 table) (decoded step) set
+step-decoded table (marking n s) set = refl
+step-decoded table (asking n s) set = refl
+step-decoded table (confirming n) set = refl
+step-decoded table (withdrawing n) set = refl
+
 steps-decoded : (table : List ℕ) (steps : List Step) (set : List ℕ) → stepsInC table steps set ≡ stepsPacked (whole32 table) (map decoded steps) set
-unfolding run decoded
+unfolding run
 steps-decoded table [] set = refl
-steps-decoded table (marking n s ∷ steps) set = steps-decoded table steps _
-steps-decoded table (asking n s ∷ steps) set = steps-decoded table steps _
-steps-decoded table (confirming n ∷ steps) set = steps-decoded table steps _
-steps-decoded table (withdrawing n ∷ steps) set = steps-decoded table steps _
+steps-decoded table (step ∷ steps) set = ap (stepsInC table steps) (step-decoded table step set) ∙ steps-decoded table steps _
 
 -- the same for runs of the functions for C, from the set that `revosti_fresh_marks` left: `table` and the sheets are bytes, and the lengths are those that the table's bytes are
 module _ (n : ℕ) (some : leastPoints ≤ n) (most : n ≤ mostPoints) (before : List ℕ) (sized : length before ≡ packedSize n) (table : List ℕ) (whole : length (whole32 table) ≡ edgeCount n) where

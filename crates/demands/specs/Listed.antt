@@ -11,12 +11,16 @@ use Rattle.marks.specs.Mark.{unstruckIn}
 use Rattle.sheets.specs.Rules.{rulesWhere}
 use Rattle.enumeration.specs.Find.{numbersOf}
 
--- the list's bytes, once `list` and now `left`, begin with those of the pairs that are feasible under {ab} at c, where a pending edge counts as
--- open, and nothing past them changed
-pub record ListsFeasible (n : ℕ) (table marks : List ℕ) (a b c : ℕ) (list left : List ℕ) (count : ℕ) : Type 0 where
+-- the list's bytes, once `list` and now `left`, begin with those of the pairs that are feasible under {ab} at c over low and high (02, Paper 11), where a pending
+-- edge counts as open, and nothing past them changed
+pub record ListsBetween (n : ℕ) (low high marks : List ℕ) (a b c : ℕ) (list left : List ℕ) (count : ℕ) : Type 0 where
   pub pairs : List Edge
-  pub feasible : NamesFeasible (rulesWhere n table (unstruckIn n marks)) (edge a b ∷ []) c pairs
+  pub feasible : NamesFeasible (rulesWhere n low high (unstruckIn n marks)) (edge a b ∷ []) c pairs
   pub counted : count ≡ length pairs
   pub front : take (4 * count) left ≡ bytes16 (numbersOf pairs)
   pub past : drop (4 * count) left ≡ drop (4 * count) list
   pub size : length left ≡ length list
+
+-- over one table
+abbrev pub ListsFeasible : (n : ℕ) (table marks : List ℕ) (a b c : ℕ) (list left : List ℕ) (count : ℕ) → Type 0
+ListsFeasible n table marks = ListsBetween n table table marks

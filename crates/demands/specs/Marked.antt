@@ -12,12 +12,18 @@ use Rattle.sets.specs.EdgeSet.{Has}
 use Rattle.marks.specs.Mark.{markAt, openMark, openIn}
 use Rattle.argument.specs.Line.{Struck, strikes}
 use Rattle.sheets.specs.Sheet.{wholeSheet}
+use Rattle.limits.specs.Tests.{readyBetween}
 use Rattle.marking.specs.Tests.{ready}
 use Rattle.marking.specs.declared.tests.Tested.the-variants.{Points}
 
 -- the call passes tests 1, 2, 5, 6 and 20, and test 7
 pub record Passes (n : ℕ) (table marks sheet : List ℕ) : Type 0 where
   pub points : ready n table marks ≡ Points n
+  pub whole : wholeSheet (length sheet) ≡ true
+
+-- the call over two tables passes tests 1, 2, 5, 25, 6 and 20, and test 7 (02, Paper 11)
+pub record PassesBetween (n : ℕ) (low high marks sheet : List ℕ) : Type 0 where
+  pub points : readyBetween n low high marks ≡ Points n
   pub whole : wholeSheet (length sheet) ≡ true
 
 -- the edges that lines strike

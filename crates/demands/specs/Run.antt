@@ -5,7 +5,9 @@ use mathlib.Core.List.{List}
 use Rattle.argument.specs.Sheet.{run}
 use Rattle.marks.specs.Mark.{struckMark, openMark, pendingMark}
 use Rattle.marks.specs.Pending.{settledAnswer, settledLeft, settledSet}
+use Rattle.revosti.specs.Between.{markBetweenInC}
 use Rattle.revosti.specs.Mark.{markInC}
+use Rattle.limits.specs.Mark.{markBetween, markBetweenPacked}
 use Rattle.marking.specs.Mark.{markSheet, askSheet, markPacked, askPacked}
 
 -- "any run of asking, confirming, withdrawing and direct marking"
@@ -65,3 +67,33 @@ markedInC table call set = markInC struckMark (call .n) table set (call .sheet) 
 
 abbrev pub runInC : List ℕ → List Call → List ℕ → List ℕ
 runInC table = run (markedInC table)
+
+-- a run of *mark a sheet* over two tables (02, Paper 11): each call gets the same two
+abbrev pub runBetween : (low high : List ℕ) → List Call → List ℕ → List ℕ
+runBetween low high = run (λ call m. markBetween (call .n) low high m (call .sheet) .marks)
+
+abbrev pub runBetweenPacked : (low high : List ℕ) → List Call → List ℕ → List ℕ
+runBetweenPacked low high = run (λ call set. markBetweenPacked (call .n) low high set (call .sheet) .marks)
+
+abbrev pub runBetweenInC : (low high : List ℕ) → List Call → List ℕ → List ℕ
+runBetweenInC low high = run (λ call set. markBetweenInC (call .n) low high set (call .sheet) .marks)
+
+-- a run over one set of marks that has both: sheets over the two tables, and steps over a table, that of the board which is cut
+pub data EitherStep : Type 0 where
+  over-limits : (call : Call) → EitherStep
+  over-table : (step : Step) → EitherStep
+
+abbrev pub eitherStepped : (low high table : List ℕ) → EitherStep → List ℕ → List ℕ
+eitherStepped low high table (over-limits call) m = markBetween (call .n) low high m (call .sheet) .marks
+eitherStepped low high table (over-table step) m = stepped table step m
+
+abbrev pub eitherSteps : (low high table : List ℕ) → List EitherStep → List ℕ → List ℕ
+eitherSteps low high table = run (eitherStepped low high table)
+
+-- over packed sets, with tables and sheets in bytes, by the functions for C
+abbrev pub eitherSteppedInC : (low high table : List ℕ) → EitherStep → List ℕ → List ℕ
+eitherSteppedInC low high table (over-limits call) set = markBetweenInC (call .n) low high set (call .sheet) .marks
+eitherSteppedInC low high table (over-table step) set = steppedInC table step set
+
+abbrev pub eitherStepsInC : (low high table : List ℕ) → List EitherStep → List ℕ → List ℕ
+eitherStepsInC low high table = run (eitherSteppedInC low high table)

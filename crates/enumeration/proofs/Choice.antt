@@ -24,29 +24,29 @@ use Rattle.search.proofs.SingleEdge.{EndOf, end-first, end-second, end-pairs, s
 use Rattle.enumeration.specs.Find.{pairsAt, numbersOf}
 use Rattle.enumeration.specs.asks.Find.{unbarred?, barredIn, passesApart?, atEnd?, FindAsked, Found}
 
-pub single-asked : {n : ℕ} {table marks : List ℕ} {a b c : ℕ} {found : List ℕ} {k : EdgeSet} → FindAsked n table marks a b c found → Single a b k → SingleAsked n table marks k c
+pub single-asked : {n : ℕ} {out put marks : List ℕ} {a b c : ℕ} {found : List ℕ} {k : EdgeSet} → FindAsked n out put marks a b c found → Single a b k → SingleAsked n out put marks k c
 single-asked {n} g s = record { legs = g .legs; held = s .held n (g .first) (g .second); one = s .one }
 
-pub prepared-single : {n : ℕ} {table marks : List ℕ} {a b c : ℕ} {k : EdgeSet} {legs : List ℕ} {bound : ℕ} → Single a b k → SplitOf pendingMark n table marks k c legs bound
-    → Prepared n (lengthOf n table) (unstruckIn n marks) (edge a b ∷ []) c legs bound
-prepared-single {n} {table} {marks} {c = c} {legs = legs} {bound = bound} k p = subst (λ (K : List Edge). Prepared n (lengthOf n table) (unstruckIn n marks) K c legs bound) (k .edges) (p .prepared)
+pub prepared-single : {n : ℕ} {out put marks : List ℕ} {a b c : ℕ} {k : EdgeSet} {legs : List ℕ} {bound : ℕ} → Single a b k → SplitOf pendingMark n out put marks k c legs bound
+    → Prepared n (lengthOf n out) (lengthOf n put) (unstruckIn n marks) (edge a b ∷ []) c legs bound
+prepared-single {n} {out} {put} {marks} {c = c} {legs = legs} {bound = bound} k p = subst (λ (K : List Edge). Prepared n (lengthOf n out) (lengthOf n put) (unstruckIn n marks) K c legs bound) (k .edges) (p .prepared)
 
 same-found : {ps qs : List Edge} {count : ℕ} {found : List ℕ} → ps ≡ qs → Found ps count found → Found qs count found
 same-found e f = record { counted = f .counted ∙ ap length e; front = f .front ∙ ap numbersOf e; few = f .few; room = f .room }
 
 -- c is a point of ab
 
-module _ {n : ℕ} {table marks : List ℕ} {a b c : ℕ} {found₀ legs : List ℕ} {bound : ℕ} (g : FindAsked n table marks a b c found₀)
-    (p : Prepared n (lengthOf n table) (unstruckIn n marks) (edge a b ∷ []) c legs bound) where
-  end-found : {other count : ℕ} {found : List ℕ} → EndOf (edge a b ∷ []) c other → Found (keep (atEnd? n table legs bound other) (edges n)) count found
-      → Found (pairsAt n table marks a b c) count found
+module _ {n : ℕ} {out put marks : List ℕ} {a b c : ℕ} {found₀ legs : List ℕ} {bound : ℕ} (g : FindAsked n out put marks a b c found₀)
+    (p : Prepared n (lengthOf n out) (lengthOf n put) (unstruckIn n marks) (edge a b ∷ []) c legs bound) where
+  end-found : {other count : ℕ} {found : List ℕ} → EndOf (edge a b ∷ []) c other → Found (keep (atEnd? n put legs bound other) (edges n)) count found
+      → Found (pairsAt n out put marks a b c) count found
   unfolding pairsAt atEnd?
-  end-found {other} e f = same-found (end-pairs (g .legs .lengths) p e (atEnd? n table legs bound other) (λ x y u. refl)) f
+  end-found {other} e f = same-found (end-pairs (g .legs .limits .out-lengths) (g .legs .limits .put-lengths) p e (atEnd? n put legs bound other) (λ x y u. refl)) f
 
-  pub first-found : {count : ℕ} {found : List ℕ} → c ≡ a → Found (keep (atEnd? n table legs bound b) (edges n)) count found → Found (pairsAt n table marks a b c) count found
+  pub first-found : {count : ℕ} {found : List ℕ} → c ≡ a → Found (keep (atEnd? n put legs bound b) (edges n)) count found → Found (pairsAt n out put marks a b c) count found
   first-found e f = end-found (subst (λ (v : ℕ). EndOf (edge a b ∷ []) v b) (sym e) (end-first a b (g .apart))) f
 
-  pub second-found : {count : ℕ} {found : List ℕ} → c ≡ b → Found (keep (atEnd? n table legs bound a) (edges n)) count found → Found (pairsAt n table marks a b c) count found
+  pub second-found : {count : ℕ} {found : List ℕ} → c ≡ b → Found (keep (atEnd? n put legs bound a) (edges n)) count found → Found (pairsAt n out put marks a b c) count found
   second-found e f = end-found (subst (λ (v : ℕ). EndOf (edge a b ∷ []) v a) (sym e) (end-second a b (g .apart))) f
 
 -- c is no point of ab
@@ -118,19 +118,19 @@ barred-edge {a} {b} {low} {high} o x z first up = go (o .points)
     go (inl e) = barred-up low high x z (o .rises) first up ∙ ap₂ (λ (p q : ℕ). joins? p q x z) (sym (e .0)) (sym (e .1))
     go (inr e) = barred-down low high x z (o .rises) first up ∙ ap₂ (λ (p q : ℕ). joins? p q x z) (sym (e .0)) (sym (e .1))
 
-module _ {n : ℕ} {table marks : List ℕ} {a b c : ℕ} {found₀ legs : List ℕ} {bound : ℕ} (g : FindAsked n table marks a b c found₀)
-    (p : Prepared n (lengthOf n table) (unstruckIn n marks) (edge a b ∷ []) c legs bound) (c-a : c ≡ a → ⊥) (c-b : c ≡ b → ⊥) where
-  apart-pairs : {low high : ℕ} → Ordered a b low high → keep (passesApart? n table legs bound low high) (edges n) ≡ pairsAt n table marks a b c
+module _ {n : ℕ} {out put marks : List ℕ} {a b c : ℕ} {found₀ legs : List ℕ} {bound : ℕ} (g : FindAsked n out put marks a b c found₀)
+    (p : Prepared n (lengthOf n out) (lengthOf n put) (unstruckIn n marks) (edge a b ∷ []) c legs bound) (c-a : c ≡ a → ⊥) (c-b : c ≡ b → ⊥) where
+  apart-pairs : {low high : ℕ} → Ordered a b low high → keep (passesApart? n put legs bound low high) (edges n) ≡ pairsAt n out put marks a b c
   unfolding pairsAt passesApart? unbarred?
-  apart-pairs {low} {high} o = single-pairs (g .legs .lengths) p (g .least) (g .apart) c-a c-b (passesApart? n table legs bound low high) same
+  apart-pairs {low} {high} o = single-pairs (g .legs .limits .out-lengths) (g .legs .limits .put-lengths) p (g .least) (g .apart) c-a c-b (passesApart? n put legs bound low high) same
     where
-      same : (x y : ℕ) → IsEdgeUp n x y → passes? n table legs bound x y && not (eqb y (barredIn low high x)) ≡ passes? n table legs bound x y && not (joins? a b x y)
-      same x y u = ap (λ (t : Bool). passes? n table legs bound x y && not t) (barred-edge o x y (u .low) (u .up))
+      same : (x y : ℕ) → IsEdgeUp n x y → passes? n put legs bound x y && not (eqb y (barredIn low high x)) ≡ passes? n put legs bound x y && not (joins? a b x y)
+      same x y u = ap (λ (t : Bool). passes? n put legs bound x y && not t) (barred-edge o x y (u .low) (u .up))
 
-  pub apart-up : {count : ℕ} {found : List ℕ} → a < b → Found (keep (passesApart? n table legs bound a b) (edges n)) count found → Found (pairsAt n table marks a b c) count found
+  pub apart-up : {count : ℕ} {found : List ℕ} → a < b → Found (keep (passesApart? n put legs bound a b) (edges n)) count found → Found (pairsAt n out put marks a b c) count found
   apart-up h f = same-found (apart-pairs (record { rises = h; points = inl (refl, refl) })) f
 
-  pub apart-down : {count : ℕ} {found : List ℕ} → b ≤ a → Found (keep (passesApart? n table legs bound b a) (edges n)) count found → Found (pairsAt n table marks a b c) count found
+  pub apart-down : {count : ℕ} {found : List ℕ} → b ≤ a → Found (keep (passesApart? n put legs bound b a) (edges n)) count found → Found (pairsAt n out put marks a b c) count found
   apart-down h f = same-found (apart-pairs (record { rises = below; points = inr (refl, refl) })) f
     where
       below : b < a

@@ -7,8 +7,8 @@ use Rattle.marks.specs.Mark.{unstruckIn}
 use Rattle.rules.specs.Pairs.{feasiblePairs}
 
 -- the feasible pairs of {ab} at c; the pair list counts a pending edge as open
-unfoldable pub pairsAt : ℕ → List ℕ → List ℕ → ℕ → ℕ → ℕ → List Edge
-pairsAt n table marks a b c = feasiblePairs n (lengthOf n table) (unstruckIn n marks) (edge a b ∷ []) c
+unfoldable pub pairsAt : ℕ → (out put marks : List ℕ) → ℕ → ℕ → ℕ → List Edge
+pairsAt n out put marks a b c = feasiblePairs n (lengthOf n out) (lengthOf n put) (unstruckIn n marks) (edge a b ∷ []) c
 
 -- x then y for each pair
 unfoldable pub numbersOf : List Edge → List ℕ

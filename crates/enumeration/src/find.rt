@@ -146,31 +146,33 @@ fn find_at_end(
     count
 }
 
-// Writes the feasible pairs of K = {ab} at c, x then y for each, and answers how many there are.
+// Writes the feasible pairs of K = {ab} at c, x then y for each, and answers how many there are. What is taken out is measured by the table `out`,
+// what is put in by the table `put`; the search in the rows reads the latter alone.
 pub fn find_pairs(
     n: u16,
-    table: &[u8],
+    out: &[u8],
+    put: &[u8],
     marks: &[u8],
     a: u16,
     b: u16,
     c: u16,
     found: &mut [u16],
 ) -> u16
-    requires { ⌜ FindAsked n (whole32 (now table)) (marksOf n (now marks)) a b c (now found) ⌝ }
-    ensures { λ r. ⌜ Found (pairsAt n (whole32 (now (table .entry))) (marksOf n (now (marks .entry))) a b c) r (now (found .exit)) ⌝ }
+    requires { ⌜ FindAsked n (whole32 (now out)) (whole32 (now put)) (marksOf n (now marks)) a b c (now found) ⌝ }
+    ensures { λ r. ⌜ Found (pairsAt n (whole32 (now (out .entry))) (whole32 (now (put .entry))) (marksOf n (now (marks .entry))) a b c) r (now (found .exit)) ⌝ }
 {
     let k = EdgeSet::single(a, b);
-    let split = prepare_single(n, table, marks, k, c);
+    let split = prepare_single(n, out, put, marks, k, c);
     let legs = split.legs;
     let bound = split.bound;
     if c == a {
-        return find_at_end(n, table, &legs, bound, b, found);
+        return find_at_end(n, put, &legs, bound, b, found);
     }
     if c == b {
-        return find_at_end(n, table, &legs, bound, a, found);
+        return find_at_end(n, put, &legs, bound, a, found);
     }
     if a < b {
-        return find_apart(n, table, &legs, bound, a, b, found);
+        return find_apart(n, put, &legs, bound, a, b, found);
     }
-    find_apart(n, table, &legs, bound, b, a, found)
+    find_apart(n, put, &legs, bound, b, a, found)
 }

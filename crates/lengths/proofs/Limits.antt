@@ -1,4 +1,4 @@
--- The test of a limit, one number after the other, and what it says of each. Assumes nothing.
+-- The tests of a limit, one for all numbers or one for each, one number after the other, and what they say of each. Assumes nothing.
 use Prim.Native.Nat.{ℕ, zero, suc, _+_, _≤_, _<_}
 use mathlib.Core.Path.{_≡_, refl}
 use mathlib.Core.Bool.{Bool, true, false, _&&_, and-true, and-false}
@@ -10,7 +10,7 @@ use lib.Dec.{leb}
 use lib.ListN.{length, getD, drop, drop-of-length-le}
 use lib.Seq.{drop-cons}
 use borrow.Author.Tests.{le-leb, lt-leb, leb-true}
-use Rattle.lists.specs.Test.{allAtMost, AtMost}
+use Rattle.lists.specs.Test.{allAtMost, AtMost, eachAtMost}
 use Rattle.lists.proofs.Bools.{and-left, and-right, and-both}
 
 -- the loop of the test, at number i: `within` and the numbers that are left say what the test of all says
@@ -52,3 +52,43 @@ pub each-limit : (limit : ℕ) (xs : List ℕ) → ((i : ℕ) → i < length xs 
 unfolding allAtMost
 each-limit limit [] h = refl
 each-limit limit (x ∷ xs) h = and-both (leb x limit) (allAtMost limit xs) (le-leb x limit (h 0 (omega arith))) (each-limit limit xs (λ i g. h (suc i) (omega arith)))
+
+-- the loop of the test of two lists of as many numbers, at number i
+pub record Ordering (lows highs : List ℕ) (within : Bool) (i : ℕ) : Type 0 where
+  pub inside : i ≤ length lows
+  pub same : (within && eachAtMost (drop i lows) (drop i highs)) ≡ eachAtMost lows highs
+
+module _ {lows highs : List ℕ} {within : Bool} {i : ℕ} (at : Ordering lows highs within i) where
+  -- one turn, by the way that its branch went: A, a number above its own limit decides; B, any other changes nothing
+  pub ordering-on : {next : Bool} {v w : ℕ} {A B : Type 0} → length lows ≡ length highs → i < length lows → v ≡ getD lows i 0 → w ≡ getD highs i 0
+      → (A → w < v) → (B → v ≤ w) → (A × (next ≡ false)) ⊎ (B × (next ≡ within)) → Ordering lows highs next (i + 1)
+  unfolding eachAtMost
+  ordering-on {v = v} {w} z h low high above below (inl (a, e)) = record {
+    inside = omega arith;
+    same = rw e (rw (drop-cons lows i 0 h, drop-cons highs i 0 (omega arith), lt-leb (getD lows i 0) (getD highs i 0) (omega (arith, low, high, above a)), and-false) at (at .same));
+  }
+  ordering-on {v = v} {w} z h low high above below (inr (b, e)) = record {
+    inside = omega arith;
+    same = rw (e, add-one) (rw (drop-cons lows i 0 h, drop-cons highs i 0 (omega arith), le-leb (getD lows i 0) (getD highs i 0) (omega (arith, low, high, below b))) at (at .same));
+  }
+
+  pub ordering-done : length lows ≤ i → within ≡ eachAtMost lows highs
+  unfolding eachAtMost
+  ordering-done h = rw (drop-of-length-le lows h, and-true) at (at .same)
+
+pub ordering-start : (lows highs : List ℕ) → Ordering lows highs true 0
+ordering-start lows highs = record { inside = omega arith; same = refl }
+
+-- the test says that each number is within its own limit, where there are as many limits
+pub order-each : (lows highs : List ℕ) → length lows ≡ length highs → eachAtMost lows highs ≡ true → (i : ℕ) → getD lows i 0 ≤ getD highs i 0
+unfolding eachAtMost
+order-each [] highs z h i = omega arith
+order-each (x ∷ xs) [] z h i = absurd (omega (arith, z))
+order-each (x ∷ xs) (y ∷ ys) z h zero = leb-true x y (and-left (leb x y) (eachAtMost xs ys) h)
+order-each (x ∷ xs) (y ∷ ys) z h (suc i) = order-each xs ys (omega arith) (and-right (leb x y) (eachAtMost xs ys) h) i
+
+-- numbers are within themselves
+pub order-same : (xs : List ℕ) → eachAtMost xs xs ≡ true
+unfolding eachAtMost
+order-same [] = refl
+order-same (x ∷ xs) = and-both (leb x x) (eachAtMost xs xs) (le-leb x x (omega arith)) (order-same xs)

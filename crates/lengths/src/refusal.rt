@@ -41,5 +41,7 @@ pub const NOTHING_PENDING: u8 = 21;
 
 pub const BUFFER: u8 = 22;
 
+pub const LIMITS: u8 = 25;
+
 // The record of a refusal where no record is at fault.
 pub const NO_RECORD: u16 = 0;

@@ -14,6 +14,12 @@ allAtMost limit (x ∷ xs) = leb x limit && allAtMost limit xs
 abbrev pub AtMost : ℕ → List ℕ → Type 0
 AtMost limit xs = (i : ℕ) → getD xs i 0 ≤ limit
 
+-- no number is above the one in its place in the other list
+unfoldable pub eachAtMost : List ℕ → List ℕ → Bool
+eachAtMost [] highs = true
+eachAtMost (x ∷ xs) [] = true
+eachAtMost (x ∷ xs) (h ∷ highs) = leb x h && eachAtMost xs highs
+
 -- the refusal unless the test passes: 01's "tests run in the order written" is one inside the other
 abbrev pub unless : {A : Type 0} → Bool → A → A → A
 unless true refusal rest = rest

@@ -1,4 +1,4 @@
--- "Mark a sheet" in code: room for the rows of lengths that its lines are marked by, and one lemma for each way out of `markBy`.
+-- "Mark a sheet" in code: room for the rows of lengths that its lines are marked by, and one lemma for each way out.
 -- Assumes nothing.
 use Prim.Native.Nat.{ℕ, _+_, _*_, _≤_, _<_}
 use mathlib.Core.Path.{_≡_, refl, sym, _∙_, ap}
@@ -15,12 +15,11 @@ use Rattle.lengths.specs.Edge.{edgeCount, place}
 use Rattle.marks.specs.Mark.{pendingMark, markIn}
 use Rattle.marks.specs.Packed.{ByteSet, packed, wellPacked, marksOf, repacked}
 use Rattle.marks.proofs.Marks.{length-marked, marks-set}
-use Rattle.marks.proofs.PackedSets.{repacked-same, whole-well, some-edges}
+use Rattle.marks.proofs.PackedSets.{repacked-same}
 use Rattle.marks.proofs.PackedMarks.{held-set, held-packed}
 use Rattle.argument.proofs.Safe.{sheet-keeps}
-use Rattle.sheet_lines.specs.asks.Line.{RowsAsked}
 use Rattle.sheets.specs.Verdict.{resultOf}
-use Rattle.sheets.specs.Rules.{markingBy}
+use Rattle.sheets.specs.Rules.{markingBetween, markingBy}
 use Rattle.sheets.specs.Sheet.{wholeSheet}
 use Rattle.sheets.specs.asks.Sheet.{sheetAdmission}
 use Rattle.sheets.specs.asks.Walk.{Admitted}
@@ -29,33 +28,37 @@ use Rattle.sheets.specs.declared.sheet.SheetAdmission.{SheetAdmission}
 use Rattle.sheets.specs.declared.sheet.SheetAdmission.the-variants as admitting
 use Rattle.sheets.specs.declared.verdict.Verdict.{Verdict}
 use Rattle.sheets.specs.declared.verdict.Verdict.the-variants as verdict
-use Rattle.marking.proofs.Tested.{InstancePassed, passed, ready-tested}
+use Rattle.marking.proofs.Tested.{BetweenPassed, both-passed, listable-set, passed-some, passed-well, passed, ready-tested}
 use Rattle.marking.specs.Mark.{turnedDown, markTested, markBy, repack, markPackedBy}
-use Rattle.marking.specs.asks.Mark.{AdmittedBy}
+use Rattle.marking.specs.asks.Mark.{AdmittedBy, RowsAsked}
 use Rattle.marking.specs.Tests.{ready}
 use Rattle.marking.specs.declared.tests.Tested.{Tested}
 use Rattle.marking.specs.declared.tests.Tested.the-variants.{Points, Refused}
 
 -- an array for the rows of `most` points has room for those of fewer
-pub rows-room : {by n : ℕ} {table rows marks s : List ℕ} {count : ℕ} (most : ℕ) → AdmittedBy by n table marks s count → n ≤ most → length rows ≡ (most + 1) * (most + 1) → RowsAsked by n table rows marks s count
+pub rows-room : {by n : ℕ} {table rows marks s : List ℕ} {count : ℕ} (most : ℕ) → AdmittedBy by n table table marks s count → n ≤ most → length rows ≡ (most + 1) * (most + 1) → RowsAsked by n table rows marks s count
 rows-room {by} {n} most a h e =
     let up : n + 1 ≤ most + 1 = omega arith in
     record { is-mark = a .is-mark; admitted = a .admitted; room = omega (arith, mul-le-mul up up) }
 
 -- a sheet that the tests pass is admitted with its instance
-pub sheet-admits : {by : ℕ} (n : ℕ) {table : List ℕ} (set : List ℕ) {s : List ℕ} {r : Tested} {p : ℕ} {a : SheetAdmission} {x : declared.Sheet} → by ≤ pendingMark → r ≡ ready n table (marksOf n set) → r ≡ Points p
-    → a ≡ sheetAdmission (length s) → a ≡ admitting.Admitted x → AdmittedBy by p table (marksOf p set) s (x .records)
+pub admits-between : {by n : ℕ} {out put : List ℕ} (set : List ℕ) {s : List ℕ} {p : ℕ} {a : SheetAdmission} {x : declared.Sheet} → by ≤ pendingMark → BetweenPassed n out put (marksOf n set) p
+    → a ≡ sheetAdmission (length s) → a ≡ admitting.Admitted x → AdmittedBy by p out put (marksOf p set) s (x .records)
 unfolding records
-sheet-admits n set {s = s} l e g w z =
-    let t = passed (ready-tested (sym e ∙ g) .tests) in
+admits-between set {s = s} l t w z =
     let i = sheet-admitted (sym w ∙ z) in
     let h = sheet-records s (i .passed) in
-    record { admitted = record { least = t .least; lengths = t .lengths; marked = ap (λ (k : ℕ). length (marksOf k set)) (t .same) ∙ t .marked; whole = record { exact = h .whole; counted = i .counted }; few = h .few }; is-mark = l }
+    let m = listable-set set t in
+    record { admitted = record { least = m .least; limits = m .limits; marked = m .marked; whole = record { exact = h .whole; counted = i .counted }; few = h .few }; is-mark = l }
+
+pub sheet-admits : {by : ℕ} (n : ℕ) {table : List ℕ} (set : List ℕ) {s : List ℕ} {r : Tested} {p : ℕ} {a : SheetAdmission} {x : declared.Sheet} → by ≤ pendingMark → r ≡ ready n table (marksOf n set) → r ≡ Points p
+    → a ≡ sheetAdmission (length s) → a ≡ admitting.Admitted x → AdmittedBy by p table table (marksOf p set) s (x .records)
+sheet-admits n set l e g w z = admits-between set l (both-passed (passed (ready-tested (sym e ∙ g) .tests))) w z
 
 -- marks of n points that a sheet has marked are marks of n points
-pub marked-set : (by p : ℕ) {n : ℕ} (table s : List ℕ) {marks : List ℕ} → by ≤ pendingMark → ByteSet n marks → ByteSet n (sheet (markingBy by p table) s marks .marks)
+pub marked-set : (by p : ℕ) {n : ℕ} (out put s : List ℕ) {marks : List ℕ} → by ≤ pendingMark → ByteSet n marks → ByteSet n (sheet (markingBetween by p out put) s marks .marks)
 unfolding markIn
-marked-set by p {n} table s {marks} l = sheet-keeps (markingBy by p table) (ByteSet n) struck s marks
+marked-set by p {n} out put s {marks} l = sheet-keeps (markingBetween by p out put) (ByteSet n) struck s marks
   where
     struck : (m : List ℕ) (a b : ℕ) → ByteSet n m → ByteSet n (markIn by p m a b)
     struck m a b k = record { size = length-marked by p m a b ∙ k .size; are = marks-set m (place p a b) by l (k .are) }
@@ -74,47 +77,55 @@ result-marks (verdict.Accepted lines) marks = refl
 result-marks (verdict.Refused number rec lines) marks = refl
 
 -- lines that are marked over the marks of a well packed set leave the packed set of what they leave
-marked-packed : (by p n : ℕ) (table s set : List ℕ) (v : Verdict) (left : List ℕ) → by ≤ pendingMark → 0 < edgeCount n → wellPacked n set ≡ true
-    → resultOf v (marksOf n left) ≡ sheet (markingBy by p table) s (marksOf n set) → resultOf v left ≡ repack n set (sheet (markingBy by p table) s (marksOf n set))
+marked-packed : (by p n : ℕ) (out put s set : List ℕ) (v : Verdict) (left : List ℕ) → by ≤ pendingMark → 0 < edgeCount n → wellPacked n set ≡ true
+    → resultOf v (marksOf n left) ≡ sheet (markingBetween by p out put) s (marksOf n set) → resultOf v left ≡ repack n set (sheet (markingBetween by p out put) s (marksOf n set))
 unfolding repacked
-marked-packed by p n table s set v left l some h q =
-    let m : marksOf n left ≡ sheet (markingBy by p table) s (marksOf n set) .marks = sym (result-marks v (marksOf n left)) ∙ ap (λ (r : Result (List ℕ)). r .marks) q in
-    let e : left ≡ packed (marksOf n left) = held-packed left some m (marked-set by p table s l (held-set n set h)) ∙ ap packed (sym m) in
+marked-packed by p n out put s set v left l some h q =
+    let m : marksOf n left ≡ sheet (markingBetween by p out put) s (marksOf n set) .marks = sym (result-marks v (marksOf n left)) ∙ ap (λ (r : Result (List ℕ)). r .marks) q in
+    let e : left ≡ packed (marksOf n left) = held-packed left some m (marked-set by p out put s l (held-set n set h)) ∙ ap packed (sym m) in
     packed-result v (marksOf n left) e ∙ ap packedResult q ∙ sym (rw h)
 
--- the ways out, over the packed set
-
-module _ (by n : ℕ) (table set s : List ℕ) {r : Tested} (e : r ≡ ready n table (marksOf n set)) where
-  abbrev marks : List ℕ
-  marks = marksOf n set
-
-  as-tested : {r′ : Tested} → r ≡ r′ → repack n set (markTested by r′ table marks s) ≡ markPackedBy by n table set s
-  unfolding markBy markPackedBy
-  as-tested g = ap (λ (t : Tested). repack n set (markTested by t table marks s)) (sym g ∙ e)
+-- the ways out, over the packed set, behind tests that answer `base`
+module _ (by n : ℕ) (out put set s : List ℕ) {r base : Tested} (e : r ≡ base) where
+  as-tested : {r′ : Tested} → r ≡ r′ → repack n set (markTested by r′ out put (marksOf n set) s) ≡ repack n set (markTested by base out put (marksOf n set) s)
+  as-tested g = ap (λ (t : Tested). repack n set (markTested by t out put (marksOf n set) s)) (sym g ∙ e)
 
   -- a call that is turned down leaves the set as it is
-  turns-down : {v : Verdict} {number : ℕ} → v ≡ verdict.Refused number 0 0 → resultOf v set ≡ repack n set (turnedDown number marks)
+  turns-down : {v : Verdict} {number : ℕ} → v ≡ verdict.Refused number 0 0 → resultOf v set ≡ repack n set (turnedDown number (marksOf n set))
   turns-down {number = number} h =
       ap (λ (v : Verdict). resultOf v set) h
       ∙ ap (λ (m : List ℕ). resultOf (verdict.Refused number 0 0) m) (sym (repacked-same n set))
 
-  pub sheet-untested : {number : ℕ} {v : Verdict} → r ≡ Refused number → v ≡ verdict.Refused number 0 0 → resultOf v set ≡ markPackedBy by n table set s
-  sheet-untested g h = turns-down h ∙ as-tested g
+  pub untested : {number : ℕ} {v : Verdict} → r ≡ Refused number → v ≡ verdict.Refused number 0 0 → resultOf v set ≡ repack n set (markTested by base out put (marksOf n set) s)
+  untested g h = turns-down h ∙ as-tested g
 
   module _ {p : ℕ} (g : r ≡ Points p) {a : SheetAdmission} (w : a ≡ sheetAdmission (length s)) where
-    as-whole : (b : Bool) → wholeSheet (length s) ≡ b → repack n set (unless b (turnedDown 7 marks) (sheet (markingBy by p table) s marks)) ≡ markPackedBy by n table set s
-    as-whole b h = ap (λ (t : Bool). repack n set (unless t (turnedDown 7 marks) (sheet (markingBy by p table) s marks))) (sym h) ∙ as-tested g
+    as-whole : (b : Bool) → wholeSheet (length s) ≡ b → repack n set (unless b (turnedDown 7 (marksOf n set)) (sheet (markingBetween by p out put) s (marksOf n set)))
+        ≡ repack n set (markTested by base out put (marksOf n set) s)
+    as-whole b h = ap (λ (t : Bool). repack n set (unless t (turnedDown 7 (marksOf n set)) (sheet (markingBetween by p out put) s (marksOf n set)))) (sym h) ∙ as-tested g
 
+    pub not-whole : {v : Verdict} → a ≡ admitting.Refused → v ≡ verdict.Refused 7 0 0 → resultOf v set ≡ repack n set (markTested by base out put (marksOf n set) s)
+    not-whole z h = turns-down h ∙ as-whole false (sheet-refused (length s) (sym w ∙ z))
+
+    pub marked : {x : declared.Sheet} → a ≡ admitting.Admitted x → BetweenPassed n out put (marksOf n set) p → (v : Verdict) (left : List ℕ) → by ≤ pendingMark
+        → resultOf v (marksOf p left) ≡ sheet (markingBetween by p out put) s (marksOf p set) → resultOf v left ≡ repack n set (markTested by base out put (marksOf n set) s)
+    marked z t v left l q =
+        marked-packed by p n out put s set v left l (passed-some t) (passed-well set t)
+        (ap (λ (k : ℕ). resultOf v (marksOf k left)) (sym (t .same)) ∙ q ∙ ap (λ (k : ℕ). sheet (markingBetween by p out put) s (marksOf k set)) (t .same))
+        ∙ as-whole true (sheet-admitted (sym w ∙ z) .passed)
+
+-- the ways out of `mark_with`
+module _ (by n : ℕ) (table set s : List ℕ) {r : Tested} (e : r ≡ ready n table (marksOf n set)) where
+  pub sheet-untested : {number : ℕ} {v : Verdict} → r ≡ Refused number → v ≡ verdict.Refused number 0 0 → resultOf v set ≡ markPackedBy by n table set s
+  unfolding markBy markPackedBy
+  sheet-untested g h = untested by n table table set s e g h
+
+  module _ {p : ℕ} (g : r ≡ Points p) {a : SheetAdmission} (w : a ≡ sheetAdmission (length s)) where
     pub sheet-not-whole : {v : Verdict} → a ≡ admitting.Refused → v ≡ verdict.Refused 7 0 0 → resultOf v set ≡ markPackedBy by n table set s
-    sheet-not-whole z h = turns-down h ∙ as-whole false (sheet-refused (length s) (sym w ∙ z))
+    unfolding markBy markPackedBy
+    sheet-not-whole z h = not-whole by n table table set s e g w z h
 
-    module _ {x : declared.Sheet} (z : a ≡ admitting.Admitted x) where
-      passes : InstancePassed n table marks p
-      passes = passed (ready-tested (sym e ∙ g) .tests)
-
-      pub sheet-marked : (v : Verdict) (left : List ℕ) → by ≤ pendingMark → resultOf v (marksOf p left) ≡ sheet (markingBy by p table) s (marksOf p set) → resultOf v left ≡ markPackedBy by n table set s
-      sheet-marked v left l q =
-          marked-packed by p n table s set v left l (some-edges n (omega (arith, passes .same, passes .least)))
-          (whole-well n set (passes .marked ∙ ap edgeCount (passes .same)) (some-edges n (omega (arith, passes .same, passes .least))))
-          (ap (λ (k : ℕ). resultOf v (marksOf k left)) (sym (passes .same)) ∙ q ∙ ap (λ (k : ℕ). sheet (markingBy by p table) s (marksOf k set)) (passes .same))
-          ∙ as-whole true (sheet-admitted (sym w ∙ z) .passed)
+    pub sheet-marked : {x : declared.Sheet} → a ≡ admitting.Admitted x → (v : Verdict) (left : List ℕ) → by ≤ pendingMark
+        → resultOf v (marksOf p left) ≡ sheet (markingBy by p table) s (marksOf p set) → resultOf v left ≡ markPackedBy by n table set s
+    unfolding markBy markPackedBy
+    sheet-marked z v left l q = marked by n table table set s e g w z (both-passed (passed (ready-tested (sym e ∙ g) .tests))) v left l q

@@ -10,7 +10,7 @@ use Rattle.argument.specs.Sheet.{Result, sheet}
 use Rattle.marks.specs.Mark.{pendingMark}
 use Rattle.marks.specs.Packed.{ByteSet, packed, marksOf, repacked}
 use Rattle.marks.proofs.PackedSets.{packed-is-well, marks-packed}
-use Rattle.sheets.specs.Rules.{markingBy}
+use Rattle.sheets.specs.Rules.{markingBetween}
 use Rattle.sheets.specs.Sheet.{wholeSheet}
 use Rattle.sheets.specs.Verdict.{resultOf}
 use Rattle.sheets.specs.declared.verdict.Verdict.{Verdict}
@@ -21,18 +21,18 @@ use Rattle.marking.specs.Tests.{ready}
 use Rattle.marking.specs.declared.tests.Tested.{Tested}
 use Rattle.marking.specs.declared.tests.Tested.the-variants.{Points, Refused}
 
--- marks of p points that are marked, or turned down, are marks of p points, whatever n a call states
+-- marks of p points that are marked behind any tests, or turned down, are marks of p points, whatever n a call states
+pub tested-byte-set : (by : ℕ) {p : ℕ} (out put s : List ℕ) {bytes : List ℕ} → by ≤ pendingMark → ByteSet p bytes → (t : Tested) → ByteSet p (markTested by t out put bytes s .marks)
+tested-byte-set by {p} out put s {bytes} l b (Refused number) = b
+tested-byte-set by {p} out put s {bytes} l b (Points q) = whole (wholeSheet (length s))
+  where
+    whole : (t : Bool) → ByteSet p (unless t (turnedDown 7 bytes) (sheet (markingBetween by q out put) s bytes) .marks)
+    whole true = marked-set by q out put s l b
+    whole false = b
+
 pub mark-byte-set : (by n : ℕ) {p : ℕ} (table s : List ℕ) {bytes : List ℕ} → by ≤ pendingMark → ByteSet p bytes → ByteSet p (markBy by n table bytes s .marks)
 unfolding markBy
-mark-byte-set by n {p} table s {bytes} l b = tests (ready n table bytes)
-  where
-    whole : (q : ℕ) (t : Bool) → ByteSet p (unless t (turnedDown 7 bytes) (sheet (markingBy by q table) s bytes) .marks)
-    whole q true = marked-set by q table s l b
-    whole q false = b
-
-    tests : (t : Tested) → ByteSet p (markTested by t table bytes s .marks)
-    tests (Refused number) = b
-    tests (Points q) = whole q (wholeSheet (length s))
+mark-byte-set by n {p} table s {bytes} l b = tested-byte-set by table table s l b (ready n table bytes)
 
 module _ (by : ℕ) {n : ℕ} (table s : List ℕ) {bytes : List ℕ} (b : ByteSet n bytes) where
   -- the packed set of marks, marked

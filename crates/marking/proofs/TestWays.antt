@@ -10,7 +10,7 @@ use borrow.Author.Tests.{eq-eqb, ne-eqb}
 use Rattle.marks.specs.Mark.{openMark, areMarks, nonePending}
 use Rattle.marks.specs.Packed.{wellPacked, marksOf}
 use Rattle.marks.specs.asks.Packed.{SetWithin}
-use Rattle.marks.proofs.PackedSets.{marks-none, marks-size, whole-well, some-edges, points-edges}
+use Rattle.marks.proofs.PackedSets.{marks-none, marks-size, points-edges}
 use Rattle.marks.proofs.Settling.{within-held}
 use Rattle.lengths.specs.Edge.{edgeCount}
 use Rattle.lengths.specs.Instance.{inRange, admission, mostLength}
@@ -18,7 +18,7 @@ use Rattle.lists.specs.Test.{allAtMost, unless}
 use Rattle.lengths.specs.declared.instance.Admission.the-variants.{OutOfRange}
 use Rattle.lengths.specs.declared.instance.Instance.{Instance}
 use Rattle.lengths.proofs.Instances.{Admits, out-of-range}
-use Rattle.marking.proofs.Tested.{InstancePassed, TablePassed, not-points, passed}
+use Rattle.marking.proofs.Tested.{TablePassed, BetweenPassed, both-passed, passed-well, not-points, passed}
 use Rattle.marking.specs.TableTests.{testedTable}
 use Rattle.marking.specs.Tests.{tested, untilPending, ready}
 use Rattle.marking.specs.declared.tests.Tested.{Tested}
@@ -92,28 +92,42 @@ wrong-size n table marks h = go (inRange n) refl
     go true e = rw (tested, e, ne-eqb (length table) (edgeCount n) (h e))
     go false e = rw (tested, e)
 
--- 20 behind them: `ready` at each way out of `test_ready`
--- over a packed set, whose test is that of the marks that it holds
+-- 20 behind tests that answer `base`, at each way out of a function that asks it. Over a packed set: its test is that of the marks that it holds
+module _ (n : ℕ) (s : List ℕ) {t base : Tested} (e : t ≡ base) where
+  as-pending : {t′ : Tested} → t ≡ t′ → untilPending t′ (marksOf n s) ≡ untilPending base (marksOf n s)
+  as-pending g = ap (λ (r : Tested). untilPending r (marksOf n s)) (sym g ∙ e)
+
+  pub pending-refused : {k : ℕ} → t ≡ Refused k → Refused k ≡ untilPending base (marksOf n s)
+  pending-refused g = as-pending g
+
+  module _ {m : ℕ} (g : t ≡ Points m) {out put : List ℕ} (p : BetweenPassed n out put (marksOf n s) m) {r : Bool} (w : SetWithin openMark s r) where
+    -- nothing in the set is pending exactly when none of the marks that it holds is
+    tells : r ≡ nonePending (marksOf n s)
+    tells = w .tested ∙ within-held n s (passed-well s p) openMark
+
+    as-told : (b : Bool) → r ≡ b → unless b (Refused 20) (Points m) ≡ untilPending base (marksOf n s)
+    as-told b h = ap (λ (b : Bool). unless b (Refused 20) (Points m)) (sym (sym tells ∙ h)) ∙ as-pending g
+
+    pub pending-found : r ≡ false → Refused 20 ≡ untilPending base (marksOf n s)
+    pending-found h = as-told false h
+
+    pub pending-none : r ≡ true → Points m ≡ untilPending base (marksOf n s)
+    pending-none h = as-told true h
+
+-- `ready` at each way out of `test_ready`
 module _ (n : ℕ) (table s : List ℕ) {t : Tested} (e : t ≡ tested n table (marksOf n s)) where
-  abbrev marks : List ℕ
-  marks = marksOf n s
-
-  as-ready : {t′ : Tested} → t ≡ t′ → untilPending t′ marks ≡ ready n table marks
+  pub ready-refused : {k : ℕ} → t ≡ Refused k → Refused k ≡ ready n table (marksOf n s)
   unfolding ready
-  as-ready g = ap (λ (r : Tested). untilPending r marks) (sym g ∙ e)
-
-  pub ready-refused : {k : ℕ} → t ≡ Refused k → Refused k ≡ ready n table marks
-  ready-refused g = as-ready g
+  ready-refused g = pending-refused n s e g
 
   module _ {m : ℕ} (g : t ≡ Points m) {r : Bool} (w : SetWithin openMark s r) where
-    -- nothing in the set is pending exactly when none of the marks that it holds is
-    tells : r ≡ nonePending marks
-    tells =
-        let p : InstancePassed n table marks m = passed (sym e ∙ g) in
-        w .tested ∙ within-held n s (whole-well n s (p .marked ∙ ap edgeCount (p .same)) (some-edges n (omega (arith, p .same, p .least)))) openMark
+    both : BetweenPassed n table table (marksOf n s) m
+    both = both-passed (passed (sym e ∙ g))
 
-    pub ready-pending : r ≡ false → Refused 20 ≡ ready n table marks
-    ready-pending h = ap (λ (b : Bool). unless b (Refused 20) (Points m)) (sym (sym tells ∙ h)) ∙ as-ready g
+    pub ready-pending : r ≡ false → Refused 20 ≡ ready n table (marksOf n s)
+    unfolding ready
+    ready-pending h = pending-found n s e g both w h
 
-    pub ready-passed : r ≡ true → Points m ≡ ready n table marks
-    ready-passed h = ap (λ (b : Bool). unless b (Refused 20) (Points m)) (sym (sym tells ∙ h)) ∙ as-ready g
+    pub ready-passed : r ≡ true → Points m ≡ ready n table (marksOf n s)
+    unfolding ready
+    ready-passed h = pending-none n s e g both w h

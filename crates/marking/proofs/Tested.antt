@@ -1,5 +1,5 @@
 -- What the shared tests say of an instance that they pass: each test is taken off in its order. Assumes nothing.
-use Prim.Native.Nat.{ℕ, _≤_}
+use Prim.Native.Nat.{ℕ, _≤_, _<_}
 use mathlib.Core.Path.{_≡_, refl, sym, _∙_, ap, subst}
 use mathlib.Core.Bool.{true}
 use mathlib.Core.List.{List}
@@ -8,7 +8,8 @@ use lib.Dec.{eqb}
 use lib.ListN.{length}
 use borrow.Author.Tests.{eqb-true}
 use Rattle.marks.specs.Mark.{areMarks, nonePending}
-use Rattle.marks.specs.Packed.{marksOf}
+use Rattle.marks.specs.Packed.{wellPacked, marksOf}
+use Rattle.marks.proofs.PackedSets.{whole-well, some-edges}
 use Rattle.lists.proofs.Tests.{answered}
 use Rattle.lengths.specs.Edge.{edgeCount}
 use Rattle.lengths.specs.Instance.{inRange, leastPoints, admission, mostLength}
@@ -16,6 +17,8 @@ use Rattle.lists.specs.Test.{allAtMost}
 use Rattle.lengths.proofs.Instances.{Admits, admitted}
 use Rattle.lengths.proofs.Limits.{limit-each}
 use Rattle.lengths.specs.Table.{Lengths}
+use Rattle.lengths.proofs.Tables.{limits-same}
+use Rattle.marking.specs.asks.Listing.{Listable}
 use Rattle.marking.specs.TableTests.{testedTable}
 use Rattle.marking.specs.Tests.{tested, ready}
 use Rattle.marking.specs.declared.tests.Tested.{Tested}
@@ -91,7 +94,26 @@ passed {n} {table} {marks} {m} h =
       bytes = p5 .0;
     }
 
+-- what tests of two tables and marks say that pass those of n points, and answer n
+pub record BetweenPassed (n : ℕ) (out put marks : List ℕ) (m : ℕ) : Type 0 where
+  pub same : m ≡ n
+  pub listable : Listable m out put marks
+
+-- one table is both
+pub both-passed : {n : ℕ} {table marks : List ℕ} {m : ℕ} → InstancePassed n table marks m → BetweenPassed n table table marks m
+both-passed p = record { same = p .same; listable = record { least = p .least; limits = limits-same (p .lengths); marked = p .marked } }
+
+pub passed-some : {n : ℕ} {out put marks : List ℕ} {m : ℕ} → BetweenPassed n out put marks m → 0 < edgeCount n
+passed-some {n} p = some-edges n (omega (arith, p .same, p .listable .least))
+
 -- over a packed set: the marks are those that it holds for the number of points that the tests answer
+pub listable-set : {n : ℕ} {out put : List ℕ} (s : List ℕ) {m : ℕ} → BetweenPassed n out put (marksOf n s) m → Listable m out put (marksOf m s)
+listable-set {n} {out} {put} s {m} p = subst (λ (k : List ℕ). Listable m out put k) (sym (ap (λ (k : ℕ). marksOf k s) (p .same))) (p .listable)
+
+-- and the set is well packed
+pub passed-well : {n : ℕ} {out put : List ℕ} (s : List ℕ) {m : ℕ} → BetweenPassed n out put (marksOf n s) m → wellPacked n s ≡ true
+passed-well {n} s p = whole-well n s (p .listable .marked ∙ ap edgeCount (p .same)) (passed-some p)
+
 pub held-same : (n : ℕ) (table s : List ℕ) {m : ℕ} → tested n table (marksOf n s) ≡ Points m → marksOf m s ≡ marksOf n s
 held-same n table s {m} h = let p : InstancePassed n table (marksOf n s) m = passed h in ap (λ (k : ℕ). marksOf k s) (p .same)
 

@@ -5,7 +5,7 @@ use lib.ListN.{length}
 use Rattle.lists.specs.Test.{unless}
 use Rattle.argument.specs.Verdict.{refused}
 use Rattle.argument.specs.Sheet.{Result, sheet}
-use Rattle.sheets.specs.Rules.{markingBy}
+use Rattle.sheets.specs.Rules.{markingBetween}
 use Rattle.sheets.specs.Sheet.{wholeSheet}
 use Rattle.marks.specs.Mark.{struckMark, pendingMark}
 use Rattle.marks.specs.Packed.{marksOf, repacked}
@@ -17,13 +17,13 @@ use Rattle.marking.specs.declared.tests.Tested.the-variants.{Points, Ref
 abbrev pub turnedDown : ℕ → List ℕ → Result (List ℕ)
 turnedDown number marks = record { marks = marks; lines = 0; verdict = refused number 0 }
 
-abbrev pub markTested : (by : ℕ) → Tested → List ℕ → List ℕ → List ℕ → Result (List ℕ)
-markTested by (Refused number) table marks s = turnedDown number marks
-markTested by (Points n) table marks s = unless (wholeSheet (length s)) (turnedDown 7 marks) (sheet (markingBy by n table) s marks)
+abbrev pub markTested : (by : ℕ) → Tested → (out put marks : List ℕ) → List ℕ → Result (List ℕ)
+markTested by (Refused number) out put marks s = turnedDown number marks
+markTested by (Points n) out put marks s = unless (wholeSheet (length s)) (turnedDown 7 marks) (sheet (markingBetween by n out put) s marks)
 
 -- a sheet whose accepted lines write the mark `by`: what it answers, and the marks that it leaves
 unfoldable pub markBy : (by : ℕ) → ℕ → List ℕ → List ℕ → List ℕ → Result (List ℕ)
-markBy by n table marks s = markTested by (ready n table marks) table marks s
+markBy by n table marks s = markTested by (ready n table marks) table table marks s
 
 -- "mark a sheet": its strikes are struck
 abbrev pub markSheet : ℕ → List ℕ → List ℕ → List ℕ → Result (List ℕ)

@@ -14,7 +14,7 @@ ghost use Rattle.endian.specs.Bytes.{whole32};
 ghost use Rattle.enumeration.specs.asks.Find.{FindAsked};
 ghost use Rattle.marks.specs.Packed.{marksOf};
 ghost use Rattle.marking.specs.Listing.{ListedAs};
-ghost use Rattle.marking.specs.asks.Listing.{listTests, ListedInto};
+ghost use Rattle.marking.specs.asks.Listing.{Listable, ListedInto, ListedTested};
 
 // The answer of "list pairs": how many pairs there are, or the number of the refusal and its record, always 0.
 pub enum Listed {
@@ -22,10 +22,21 @@ pub enum Listed {
     Refused { refusal: u8, record: u16 },
 }
 
+// The answer where a test of the call fails: no record is at fault.
+pub fn turned_down(number: u8) -> Listed
+    ensures { λ r. ⌜ r ≡ Listed.Refused number 0 ⌝ }
+{
+    Listed::Refused {
+        refusal: number,
+        record: refusal::NO_RECORD,
+    }
+}
+
 // Lists the feasible pairs of K = {ab} at c by way of `found`, which has room for all: test 18 comes before the list is written.
 fn list_into(
     n: u16,
-    table: &[u8],
+    out: &[u8],
+    put: &[u8],
     marks: &[u8],
     a: u16,
     b: u16,
@@ -33,42 +44,49 @@ fn list_into(
     found: &mut [u16],
     list: &mut [u8],
 ) -> Listed
-    requires { ⌜ FindAsked n (whole32 (now table)) (marksOf n (now marks)) a b c (now found) ⌝ }
-    ensures { λ r. ⌜ ListedInto n (whole32 (now (table .entry))) (marksOf n (now (marks .entry))) a b c (now (list .entry)) r (now (list .exit)) ⌝ }
+    requires { ⌜ FindAsked n (whole32 (now out)) (whole32 (now put)) (marksOf n (now marks)) a b c (now found) ⌝ }
+    ensures { λ r. ⌜ ListedInto n (whole32 (now (out .entry))) (whole32 (now (put .entry))) (marksOf n (now (marks .entry))) a b c (now (list .entry)) r (now (list .exit)) ⌝ }
 {
-    let count = find_pairs(n, table, marks, a, b, c, found);
+    let count = find_pairs(n, out, put, marks, a, b, c, found);
     let size = 2 * count as usize;
     if list.len() / 2 < size {
-        return Listed::Refused {
-            refusal: refusal::LIST,
-            record: refusal::NO_RECORD,
-        };
+        return turned_down(refusal::LIST);
     }
     encode16(&found[..size], list);
     Listed::Pairs(count)
 }
 
-// Tests 1, 2, 5, 6, 11 and 12, which a pending edge passes: the number of points, or the number of the first refusal.
-fn test_listing(n: u32, table: &[u8], marks: &[u8], a: u16, b: u16, c: u16) -> Tested
-    ensures { λ r. ⌜ r ≡ listTests n (whole32 (now (table .entry))) (marksOf n (now (marks .entry))) a b c ⌝ }
+// Tests 11 and 12, which a pending edge passes, then the list, of tables and marks that passed the tests before. A small instance takes a small
+// array, which is cleared sooner.
+pub fn list_tested(
+    n: u16,
+    out: &[u8],
+    put: &[u8],
+    marks: &[u8],
+    a: u16,
+    b: u16,
+    c: u16,
+    list: &mut [u8],
+) -> Listed
+    requires { ⌜ Listable n (whole32 (now out)) (whole32 (now put)) (marksOf n (now marks)) ⌝ }
+    ensures { λ r. ⌜ ListedTested n (whole32 (now (out .entry))) (whole32 (now (put .entry))) (marksOf n (now (marks .entry))) a b c (now (list .entry)) r (now (list .exit)) ⌝ }
 {
-    let tested = test_instance(n, table, marks);
-    let points = match tested {
-        Tested::Points(points) => points,
-        Tested::Refused(number) => return Tested::Refused(number),
-    };
     let split = Closing::Split { point: c, first: 0 };
-    if !points_fit(points, a, b, split) {
-        return Tested::Refused(refusal::POINT);
+    if !points_fit(n, a, b, split) {
+        return turned_down(refusal::POINT);
     }
-    if !is_open(points, marks, a, b, mark::PENDING) {
-        return Tested::Refused(refusal::STRUCK);
+    if !is_open(n, marks, a, b, mark::PENDING) {
+        return turned_down(refusal::STRUCK);
     }
-    Tested::Points(points)
+    if n <= Instance::FEW_POINTS {
+        let mut found = [0u16; 2 * Instance::FEW_EDGES];
+        return list_into(n, out, put, marks, a, b, c, &mut found, list);
+    }
+    let mut found = [0u16; 2 * Instance::MOST_EDGES];
+    list_into(n, out, put, marks, a, b, c, &mut found, list)
 }
 
-// Lists the feasible pairs of K = {ab} at the split point c, 16 bits a point: the list's places are its whole entries. A small instance takes a
-// small array, which is cleared sooner.
+// Lists the feasible pairs of K = {ab} at the split point c, 16 bits a point: the list's places are its whole entries.
 pub fn list_pairs(
     n: u32,
     table: &[u8],
@@ -80,18 +98,8 @@ pub fn list_pairs(
 ) -> Listed
     ensures { λ r. ⌜ ListedAs n (whole32 (now (table .entry))) (marksOf n (now (marks .entry))) a b c (now (list .entry)) r (now (list .exit)) ⌝ }
 {
-    let tested = test_listing(n, table, marks, a, b, c);
-    let points = match tested {
-        Tested::Points(points) => points,
-        Tested::Refused(number) => return Listed::Refused {
-            refusal: number,
-            record: refusal::NO_RECORD,
-        },
-    };
-    if points <= Instance::FEW_POINTS {
-        let mut found = [0u16; 2 * Instance::FEW_EDGES];
-        return list_into(points, table, marks, a, b, c, &mut found, list);
+    match test_instance(n, table, marks) {
+        Tested::Points(points) => list_tested(points, table, table, marks, a, b, c, list),
+        Tested::Refused(number) => turned_down(number),
     }
-    let mut found = [0u16; 2 * Instance::MOST_EDGES];
-    list_into(points, table, marks, a, b, c, &mut found, list)
 }

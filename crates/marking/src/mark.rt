@@ -16,19 +16,18 @@ ghost use Rattle.endian.specs.Bytes.{whole16, whole32};
 ghost use Rattle.argument.specs.Sheet as lines;
 ghost use Rattle.marks.specs.Mark.{pendingMark};
 ghost use Rattle.marks.specs.Packed.{marksOf};
-ghost use Rattle.sheet_lines.specs.asks.Line.{RowsAsked};
 ghost use Rattle.sheets.specs.Verdict.{resultOf};
 ghost use Rattle.sheets.specs.Rules.{markingBy};
 ghost use Rattle.marking.specs.Mark.{markPackedBy, markPacked, askPacked};
-ghost use Rattle.marking.specs.asks.Mark.{AdmittedBy};
+ghost use Rattle.marking.specs.asks.Mark.{AdmittedBy, RowsAsked};
 
 // The numbers in the rows of few points: a place for each point and one for 0, in the row of each point and of 0.
-const FEW_ROWS: usize = Instance::FEW_PLACES * Instance::FEW_PLACES;
+pub const FEW_ROWS: usize = Instance::FEW_PLACES * Instance::FEW_PLACES;
 
 // The numbers in the rows of most points.
-const MOST_ROWS: usize = Instance::PLACES * Instance::PLACES;
+pub const MOST_ROWS: usize = Instance::PLACES * Instance::PLACES;
 
-// Writes the rows of lengths, and marks the lines by them.
+// Writes the rows of lengths, and marks the lines by them: one table is what is taken out and what is put in.
 fn mark_by_rows(
     n: u16,
     by: u8,
@@ -42,7 +41,7 @@ fn mark_by_rows(
     ensures { λ r. ⌜ resultOf r (marksOf n (now (marks .exit))) ≡ lines.sheet (markingBy by n (whole32 (now (table .entry)))) (whole16 (now (sheet .entry))) (marksOf n (now (marks .entry))) ⌝ }
 {
     fill_rows(n, table, rows);
-    mark_lines(n, by, table, rows, marks, sheet, count)
+    mark_lines(n, by, table, table, rows, rows, marks, sheet, count)
 }
 
 // Marks the lines of a sheet that passed the tests, and has so many records. Few points take a small array, which is cleared sooner.
@@ -54,7 +53,7 @@ fn mark_admitted(
     sheet: &[u8],
     count: u16,
 ) -> Verdict
-    requires { ⌜ AdmittedBy by n (whole32 (now table)) (marksOf n (now marks)) (whole16 (now sheet)) count ⌝ }
+    requires { ⌜ AdmittedBy by n (whole32 (now table)) (whole32 (now table)) (marksOf n (now marks)) (whole16 (now sheet)) count ⌝ }
     ensures { λ r. ⌜ resultOf r (marksOf n (now (marks .exit))) ≡ lines.sheet (markingBy by n (whole32 (now (table .entry)))) (whole16 (now (sheet .entry))) (marksOf n (now (marks .entry))) ⌝ }
 {
     if n <= Instance::FEW_POINTS {
@@ -66,7 +65,7 @@ fn mark_admitted(
 }
 
 // The answer where a test of the call fails: no record is at fault, and no line was accepted.
-fn turned_down(number: u8) -> Verdict
+pub fn turned_down(number: u8) -> Verdict
     ensures { λ r. ⌜ r ≡ Verdict.Refused number 0 0 ⌝ }
 {
     Verdict::Refused {

@@ -1,4 +1,4 @@
--- "Mark a sheet" and "ask a sheet" for C: the number of a verdict. Assumes nothing.
+-- "Mark a sheet", over one table and over two, and "ask a sheet" for C: the number of a verdict. Assumes nothing.
 use Prim.Native.Nat.{ℕ, _+_, _*_}
 use mathlib.Core.Path.{_≡_, sym, _∙_, ap}
 use mathlib.Core.List.{List}
@@ -9,6 +9,8 @@ use Rattle.sheets.specs.declared.verdict.Verdict.the-variants as verdict
 use Rattle.endian.specs.Bytes.{whole16, whole32}
 use Rattle.marking.proofs.MarkingSheets.{result-marks}
 use Rattle.marking.specs.Mark.{markPackedBy}
+use Rattle.limits.specs.Mark.{markBetweenPacked}
+use Rattle.revosti.specs.Between.{MarkedBetweenInC}
 use Rattle.revosti.specs.Mark.{resultNumber, MarkedInC}
 use Rattle.revosti.specs.asks.Mark.{MarkNumber}
 
@@ -22,8 +24,18 @@ module _ {v : Verdict} {lines r : ℕ} where
   unfolding resultNumber
   refused-number h e = record { number = λ left. rw (resultNumber, h) e }
 
--- what the function for C returns, from what its callees ensure
+-- what the functions for C return, from what their callees ensure
+module _ (v : Verdict) (left : List ℕ) {x : Result (List ℕ)} (h : resultOf v left ≡ x) where
+  marks-left : left ≡ x .marks
+  marks-left = sym (result-marks v left) ∙ ap (λ (x : Result (List ℕ)). x .marks) h
+
+  answer-number : {r : ℕ} → MarkNumber v r → r ≡ resultNumber x
+  answer-number k = k .number left ∙ ap resultNumber h
+
 pub marked-in-c : (by n : ℕ) (table set s : List ℕ) {v : Verdict} {r : ℕ} {left : List ℕ} → resultOf v left ≡ markPackedBy by n (whole32 table) set (whole16 s)
     → MarkNumber v r → MarkedInC by n table set s r left
-marked-in-c by n table set s {v} {r} {left} h k =
-    record { answered = k .number left ∙ ap resultNumber h; set-left = sym (result-marks v left) ∙ ap (λ (x : Result (List ℕ)). x .marks) h }
+marked-in-c by n table set s {v} {left = left} h k = record { answered = answer-number v left h k; set-left = marks-left v left h }
+
+pub marked-between-in-c : (n : ℕ) (low high set s : List ℕ) {v : Verdict} {r : ℕ} {left : List ℕ} → resultOf v left ≡ markBetweenPacked n (whole32 low) (whole32 high) set (whole16 s)
+    → MarkNumber v r → MarkedBetweenInC n low high set s r left
+marked-between-in-c n low high set s {v} {left = left} h k = record { answered = answer-number v left h k; set-left = marks-left v left h }

@@ -1,4 +1,5 @@
 pub mod asks
+pub mod Between
 pub mod Converting
 pub mod Fresh
 pub mod Listing

@@ -1,4 +1,5 @@
 // The functions for C, one subject to a file: each is its operation over the same bytes, with the answer as one 64-bit number.
+pub mod between;
 pub mod converting;
 pub mod fresh;
 pub mod listing;

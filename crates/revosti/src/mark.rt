@@ -17,7 +17,7 @@ pub fn number_of(refusal: u8, rec: u16, lines: u16) -> u64
 }
 
 // The number of a verdict on a sheet.
-fn marked_number(verdict: Verdict) -> u64
+pub fn marked_number(verdict: Verdict) -> u64
     ensures { λ r. ⌜ MarkNumber verdict r ⌝ }
 {
     match verdict {

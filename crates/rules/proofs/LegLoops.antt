@@ -55,19 +55,19 @@ choice true h = omega arith
 choice false h = omega arith
 
 away-leg : (rows : List ℕ) (most n : ℕ) (marks : List ℕ) (c at x : ℕ) → (x ≡ c → ⊥)
-    → cond (openAt most marks (place n c x)) (getD rows (at + x) 0) far ≡ legOf (rowOf rows at) (openUpTo most n marks) [] c x
+    → cond (openAt most marks (place n c x)) (getD rows (at + x) 0) far ≡ legOf (rowOf rows at) (rowOf rows at) (openUpTo most n marks) [] c x
 unfolding openUpTo rowOf
 away-leg rows most n marks c at x h = go (openUpTo most n marks c x) refl
   where
-    go : (t : Bool) → openUpTo most n marks c x ≡ t → cond (openUpTo most n marks c x) (rowOf rows at c x) far ≡ legOf (rowOf rows at) (openUpTo most n marks) [] c x
-    go true e = rw e (sym (legOf-open (rowOf rows at) (openUpTo most n marks) c x h e))
-    go false e = rw e (sym (legOf-shut (rowOf rows at) (openUpTo most n marks) c x h e))
+    go : (t : Bool) → openUpTo most n marks c x ≡ t → cond (openUpTo most n marks c x) (rowOf rows at c x) far ≡ legOf (rowOf rows at) (rowOf rows at) (openUpTo most n marks) [] c x
+    go true e = rw e (sym (legOf-open (rowOf rows at) (rowOf rows at) (openUpTo most n marks) c x h e))
+    go false e = rw e (sym (legOf-shut (rowOf rows at) (rowOf rows at) (openUpTo most n marks) c x h e))
 
 open-self : {most n : ℕ} {marks rows : List ℕ} {c at : ℕ} {legs : List ℕ} → OpenAsked n marks rows c at → OpenBelow most n marks rows c at legs c → OpenBelow most n marks rows c at legs (c + 1)
 open-self {most} {n} {marks} {rows} {c} {at} {legs} a s = record {
   list = s .list;
   done = λ i g k. elim (ℕ-discrete i c) [
-    | yes q ↦ s .rest i (omega arith) (omega (arith, a .few, a .centre .high)) ∙ sym (legOf-self (rowOf rows at) (openUpTo most n marks) c i q)
+    | yes q ↦ s .rest i (omega arith) (omega (arith, a .few, a .centre .high)) ∙ sym (legOf-self (rowOf rows at) (rowOf rows at) (openUpTo most n marks) c i q)
     | no q ↦ s .done i g (omega arith)
   ];
   rest = λ i g k. s .rest i (omega arith) k;
@@ -97,7 +97,7 @@ open-on {most} {n} {marks} {rows} {c} {at} {legs} {x} {spot} {m} {b} a s p away 
     inside : x ≤ mostPoints
     inside = omega (arith, p .high, a .few)
 
-    leg : m ≡ legOf (rowOf rows at) (openUpTo most n marks) [] c x
+    leg : m ≡ legOf (rowOf rows at) (rowOf rows at) (openUpTo most n marks) [] c x
     leg = is ∙ ap (λ (t : Bool). cond t (getD rows (at + x) 0) far) (o ∙ ap (openAt most marks) e) ∙ away-leg rows most n marks c at x away
 
     at-most-far : m ≤ far

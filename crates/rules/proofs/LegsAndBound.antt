@@ -15,23 +15,23 @@ use Rattle.rules.specs.asks.Bound.{tightened, tightenedBy, boundOf, loos
 
 -- legs
 
-module _ (l : ℕ → ℕ → ℕ) (open? : ℕ → ℕ → Bool) (c x : ℕ) where
-  pub legOf-self : x ≡ c → legOf l open? [] c x ≡ far
+module _ (out put : ℕ → ℕ → ℕ) (open? : ℕ → ℕ → Bool) (c x : ℕ) where
+  pub legOf-self : x ≡ c → legOf out put open? [] c x ≡ far
   unfolding legOf leg?
   legOf-self h = rw (legOf, leg?, eq-eqb x c h)
 
-  pub legOf-shut : (x ≡ c → ⊥) → open? c x ≡ false → legOf l open? [] c x ≡ far
+  pub legOf-shut : (x ≡ c → ⊥) → open? c x ≡ false → legOf out put open? [] c x ≡ far
   unfolding legOf leg?
   legOf-shut h o = rw (legOf, leg?, ne-eqb x c h, o)
 
-  pub legOf-open : (x ≡ c → ⊥) → open? c x ≡ true → legOf l open? [] c x ≡ l c x
+  pub legOf-open : (x ≡ c → ⊥) → open? c x ≡ true → legOf out put open? [] c x ≡ out c x
   unfolding legOf leg? every
   legOf-open h o = rw (legOf, leg?, ne-eqb x c h, o)
 
 -- without edges of K a leg looks at one length only
-pub legOf-by : (l m : ℕ → ℕ → ℕ) (open? : ℕ → ℕ → Bool) (c x : ℕ) → l c x ≡ m c x → legOf l open? [] c x ≡ legOf m open? [] c x
+pub legOf-by : (l m out put : ℕ → ℕ → ℕ) (open? : ℕ → ℕ → Bool) (c x : ℕ) → l c x ≡ out c x → legOf l m open? [] c x ≡ legOf out put open? [] c x
 unfolding legOf leg? every
-legOf-by l m open? c x e = ap (λ (d : ℕ). cond (not (eqb x c) && (open? c x && true)) d far) e
+legOf-by l m out put open? c x e = ap (λ (d : ℕ). cond (not (eqb x c) && (open? c x && true)) d far) e
 
 narrow-tests : (a b e : Bool) (f : ℕ → Bool) (m far : ℕ) →
     cond (not a && (b && (f m && e))) m far ≡ cond (f (cond (not a && (b && e)) m far)) (cond (not a && (b && e)) m far) far
@@ -49,16 +49,16 @@ narrow-tests false true false f m far = go (f m) ∙ sym (cond-same (f far) far)
     go false = refl
 
 -- a leg takes in one more edge
-pub legOf-narrowed : (l : ℕ → ℕ → ℕ) (open? : ℕ → ℕ → Bool) (K : List Edge) (c x p q : ℕ)
-    → legOf l open? (edge p q ∷ K) c x ≡ narrowed l c p q x (legOf l open? K c x)
+pub legOf-narrowed : (out put : ℕ → ℕ → ℕ) (open? : ℕ → ℕ → Bool) (K : List Edge) (c x p q : ℕ)
+    → legOf out put open? (edge p q ∷ K) c x ≡ narrowed out put c p q x (legOf out put open? K c x)
 unfolding legOf leg? narrowed every compatible?
-legOf-narrowed l open? K c x p q =
+legOf-narrowed out put open? K c x p q =
     narrow-tests
     (eqb x c)
     (open? c x)
-    (every (compatible? l c x) K)
-    (λ (m : ℕ). leb (m + l p q) (max (l c p + l x q) (l c q + l x p)))
-    (l c x)
+    (every (compatible? out put c x) K)
+    (λ (m : ℕ). leb (m + out p q) (max (put c p + put x q) (put c q + put x p)))
+    (out c x)
     far
 
 module _ (m both one other : ℕ) where
@@ -82,10 +82,10 @@ module _ (m both one other : ℕ) where
       go true = h
       go false = omega arith
 
-pub narrowed-by : (l : ℕ → ℕ → ℕ) (c p q x m : ℕ) {pq cp cq qx px : ℕ} → pq ≡ l p q → cp ≡ l c p → cq ≡ l c q → qx ≡ l x q → px ≡ l x p
-    → narrowedBy m (m + pq) (cp + qx) (cq + px) ≡ narrowed l c p q x m
+pub narrowed-by : (out put : ℕ → ℕ → ℕ) (c p q x m : ℕ) {pq cp cq qx px : ℕ} → pq ≡ out p q → cp ≡ put c p → cq ≡ put c q → qx ≡ put x q → px ≡ put x p
+    → narrowedBy m (m + pq) (cp + qx) (cq + px) ≡ narrowed out put c p q x m
 unfolding narrowed narrowedBy
-narrowed-by l c p q x m e1 e2 e3 e4 e5 = rw (e1, e2, e3, e4, e5)
+narrowed-by out put c p q x m e1 e2 e3 e4 e5 = rw (e1, e2, e3, e4, e5)
 
 -- the bound
 
@@ -108,30 +108,30 @@ module _ (c u v uv cu cv b : ℕ) where
   pub tightened-over : (u ≡ c → ⊥) → (v ≡ c → ⊥) → b ≤ cu + cv + mostLength - uv → b ≡ tightenedBy c u v uv cu cv b
   tightened-over g h k = sym (tightened-free g h ∙ omega arith)
 
-pub tightened-by : (l : ℕ → ℕ → ℕ) (c u v b : ℕ) {uv cu cv : ℕ} → uv ≡ l u v → cu ≡ l u c → cv ≡ l v c → tightenedBy c u v uv cu cv b ≡ tightened l c u v b
+pub tightened-by : (out put : ℕ → ℕ → ℕ) (c u v b : ℕ) {uv cu cv : ℕ} → uv ≡ out u v → cu ≡ put u c → cv ≡ put v c → tightenedBy c u v uv cu cv b ≡ tightened out put c u v b
 unfolding tightened tightenedBy
-tightened-by l c u v b e1 e2 e3 = rw (e1, e2, e3)
+tightened-by out put c u v b e1 e2 e3 = rw (e1, e2, e3)
 
-module _ (l : ℕ → ℕ → ℕ) (c u v b : ℕ) where
-  pub tightened-le : tightened l c u v b ≤ b
+module _ (out put : ℕ → ℕ → ℕ) (c u v b : ℕ) where
+  pub tightened-le : tightened out put c u v b ≤ b
   unfolding tightened
   tightened-le = go (eqb u c) (eqb v c)
     where
-      go : (s t : Bool) → cond s b (cond t b (min (l u c + l v c + mostLength - l u v) b)) ≤ b
+      go : (s t : Bool) → cond s b (cond t b (min (put u c + put v c + mostLength - out u v) b)) ≤ b
       go true t = omega arith
       go false true = omega arith
       go false false = omega arith
 
-pub boundOf-le : (l : ℕ → ℕ → ℕ) (K : List Edge) (c : ℕ) → boundOf l K c ≤ loose
+pub boundOf-le : (out put : ℕ → ℕ → ℕ) (K : List Edge) (c : ℕ) → boundOf out put K c ≤ loose
 unfolding boundOf
-boundOf-le l [] c = omega arith
-boundOf-le l (edge u v ∷ es) c = omega (arith, tightened-le l c u v (boundOf l es c), boundOf-le l es c)
+boundOf-le out put [] c = omega arith
+boundOf-le out put (edge u v ∷ es) c = omega (arith, tightened-le out put c u v (boundOf out put es c), boundOf-le out put es c)
 
--- One comparison decides conditions 1, 4 and 5. Write M for 2,000,000, the most that a length can be, and A for l(cx) + M + l(cy).
--- Condition 5 at an edge uv that does not touch c says l(uv) + l(xc) + l(yc) ≤ l(xy) + l(uc) + l(vc): with M on both sides that is
--- A ≤ l(xy) + (l(uc) + l(vc) + M - l(uv)), where nothing is negative (`room-test`). It holds at every edge exactly when it holds with the
+-- One comparison decides conditions 1, 4 and 5. Write M for 2,000,000, the most that a length can be, l for the lengths of what is taken out, m for those of what is
+-- put in, and A for l(cx) + M + l(cy). Condition 5 at an edge uv that does not touch c says l(uv) + l(xc) + l(yc) ≤ m(xy) + m(uc) + m(vc): with M on both sides that is
+-- A ≤ m(xy) + (m(uc) + m(vc) + M - l(uv)), where nothing is negative (`room-test`). It holds at every edge exactly when it holds with the
 -- least of these rooms, which is the bound (`min-test`, `unmoved-bound`); 6,000,000 is no less than A, so that it asks nothing. A leg that
--- meets conditions 1 and 4 enters with its length. One that does not enters as FAR, 10,000,000, and FAR + M is more than l(xy) and the
+-- meets conditions 1 and 4 enters with its length. One that does not enters as FAR, 10,000,000, and FAR + M is more than m(xy) and the
 -- bound together, 8,000,000 at the most, so that the comparison fails as it should (`legs-bound`).
 
 min-test : (a x r b : ℕ) → leb a (x + min r b) ≡ leb a (x + r) && leb a (x + b)
@@ -142,38 +142,38 @@ min-test a x r b = go (leb a (x + r)) (leb a (x + b)) refl refl
     go true false e f = lt-leb a (x + min r b) (omega (arith, leb-false a (x + b) f))
     go false t e f = lt-leb a (x + min r b) (omega (arith, leb-false a (x + r) e))
 
-module _ (l : ℕ → ℕ → ℕ) (symmetric : (a b : ℕ) → l a b ≡ l b a) (small : (a b : ℕ) → l a b ≤ mostLength) (c x y : ℕ) where
+module _ (out put : ℕ → ℕ → ℕ) (turns : (a b : ℕ) → out a b ≡ out b a) (out-small : (a b : ℕ) → out a b ≤ mostLength) (put-small : (a b : ℕ) → put a b ≤ mostLength) (c x y : ℕ) where
   -- condition 5 at one edge that does not touch c
-  room-test : (u v : ℕ) → not (ltb (l x y + l u c + l v c) (l u v + l x c + l y c)) ≡ leb (l c x + mostLength + l c y) (l x y + (l u c + l v c + mostLength - l u v))
-  room-test u v = go (ltb (l x y + l u c + l v c) (l u v + l x c + l y c)) refl
+  room-test : (u v : ℕ) → not (ltb (put x y + put u c + put v c) (out u v + out x c + out y c)) ≡ leb (out c x + mostLength + out c y) (put x y + (put u c + put v c + mostLength - out u v))
+  room-test u v = go (ltb (put x y + put u c + put v c) (out u v + out x c + out y c)) refl
     where
-      go : (s : Bool) → ltb (l x y + l u c + l v c) (l u v + l x c + l y c) ≡ s → not s ≡ leb (l c x + mostLength + l c y) (l x y + (l u c + l v c + mostLength - l u v))
-      go true e = sym (lt-leb (l c x + mostLength + l c y) (l x y + (l u c + l v c + mostLength - l u v))
-          (omega (arith, ltb-true (l x y + l u c + l v c) (l u v + l x c + l y c) e, symmetric c x, symmetric c y, small u v)))
-      go false e = sym (le-leb (l c x + mostLength + l c y) (l x y + (l u c + l v c + mostLength - l u v))
-          (omega (arith, ltb-false (l x y + l u c + l v c) (l u v + l x c + l y c) e, symmetric c x, symmetric c y, small u v)))
+      go : (s : Bool) → ltb (put x y + put u c + put v c) (out u v + out x c + out y c) ≡ s → not s ≡ leb (out c x + mostLength + out c y) (put x y + (put u c + put v c + mostLength - out u v))
+      go true e = sym (lt-leb (out c x + mostLength + out c y) (put x y + (put u c + put v c + mostLength - out u v))
+          (omega (arith, ltb-true (put x y + put u c + put v c) (out u v + out x c + out y c) e, turns c x, turns c y, out-small u v)))
+      go false e = sym (le-leb (out c x + mostLength + out c y) (put x y + (put u c + put v c + mostLength - out u v))
+          (omega (arith, ltb-false (put x y + put u c + put v c) (out u v + out x c + out y c) e, turns c x, turns c y, out-small u v)))
 
-  step-test : (u v b : ℕ) → stays? l l c x y u v && leb (l c x + mostLength + l c y) (l x y + b) ≡ leb (l c x + mostLength + l c y) (l x y + tightened l c u v b)
+  step-test : (u v b : ℕ) → stays? out put c x y u v && leb (out c x + mostLength + out c y) (put x y + b) ≡ leb (out c x + mostLength + out c y) (put x y + tightened out put c u v b)
   unfolding stays? tightened
   step-test u v b = go (eqb u c) (eqb v c)
     where
-      go : (s t : Bool) → (s || (t || not (ltb (l x y + l u c + l v c) (l u v + l x c + l y c)))) && leb (l c x + mostLength + l c y) (l x y + b)
-          ≡ leb (l c x + mostLength + l c y) (l x y + cond s b (cond t b (min (l u c + l v c + mostLength - l u v) b)))
+      go : (s t : Bool) → (s || (t || not (ltb (put x y + put u c + put v c) (out u v + out x c + out y c)))) && leb (out c x + mostLength + out c y) (put x y + b)
+          ≡ leb (out c x + mostLength + out c y) (put x y + cond s b (cond t b (min (put u c + put v c + mostLength - out u v) b)))
       go true t = refl
       go false true = refl
-      go false false = ap (λ (r : Bool). r && leb (l c x + mostLength + l c y) (l x y + b)) (room-test u v)
-          ∙ sym (min-test (l c x + mostLength + l c y) (l x y) (l u c + l v c + mostLength - l u v) b)
+      go false false = ap (λ (r : Bool). r && leb (out c x + mostLength + out c y) (put x y + b)) (room-test u v)
+          ∙ sym (min-test (out c x + mostLength + out c y) (put x y) (put u c + put v c + mostLength - out u v) b)
 
   -- condition 5 is one comparison with the bound
-  pub unmoved-bound : (K : List Edge) → unmoved? l l K c x y ≡ leb (l c x + mostLength + l c y) (l x y + boundOf l K c)
+  pub unmoved-bound : (K : List Edge) → unmoved? out put K c x y ≡ leb (out c x + mostLength + out c y) (put x y + boundOf out put K c)
   unfolding unmoved? every boundOf
-  unmoved-bound [] = sym (le-leb (l c x + mostLength + l c y) (l x y + loose) (omega (arith, small c x, small c y)))
-  unmoved-bound (edge u v ∷ es) = ap (λ (t : Bool). stays? l l c x y u v && t) (unmoved-bound es) ∙ step-test u v (boundOf l es c)
+  unmoved-bound [] = sym (le-leb (out c x + mostLength + out c y) (put x y + loose) (omega (arith, out-small c x, out-small c y)))
+  unmoved-bound (edge u v ∷ es) = ap (λ (t : Bool). stays? out put c x y u v && t) (unmoved-bound es) ∙ step-test u v (boundOf out put es c)
 
   -- conditions 1, 4 and 5 as far as they go by legs and by c: one comparison of the legs with the bound
   pub legs-bound : (K : List Edge) (s t : Bool)
-      → leb (cond s (l c x) far + mostLength + cond t (l c y) far) (l x y + boundOf l K c) ≡ s && (t && unmoved? l l K c x y)
+      → leb (cond s (out c x) far + mostLength + cond t (out c y) far) (put x y + boundOf out put K c) ≡ s && (t && unmoved? out put K c x y)
   legs-bound K true true = sym (unmoved-bound K)
-  legs-bound K true false = lt-leb (l c x + mostLength + far) (l x y + boundOf l K c) (omega (arith, small x y, boundOf-le l K c))
-  legs-bound K false true = lt-leb (far + mostLength + l c y) (l x y + boundOf l K c) (omega (arith, small x y, boundOf-le l K c))
-  legs-bound K false false = lt-leb (far + mostLength + far) (l x y + boundOf l K c) (omega (arith, small x y, boundOf-le l K c))
+  legs-bound K true false = lt-leb (out c x + mostLength + far) (put x y + boundOf out put K c) (omega (arith, put-small x y, boundOf-le out put K c))
+  legs-bound K false true = lt-leb (far + mostLength + out c y) (put x y + boundOf out put K c) (omega (arith, put-small x y, boundOf-le out put K c))
+  legs-bound K false false = lt-leb (far + mostLength + far) (put x y + boundOf out put K c) (omega (arith, put-small x y, boundOf-le out put K c))

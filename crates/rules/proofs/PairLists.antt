@@ -224,29 +224,29 @@ in-edges n a b = (
 
 -- the feasible pairs
 
-module _ (n : ℕ) (l : ℕ → ℕ → ℕ) (open? : ℕ → ℕ → Bool) (K : List Edge) (c : ℕ) where
+module _ (n : ℕ) (out put : ℕ → ℕ → ℕ) (open? : ℕ → ℕ → Bool) (K : List Edge) (c : ℕ) where
   -- the search starts after 1-1
-  pub feasibleAfter-start : feasibleAfter n l open? K c 1 1 ≡ feasiblePairs n l open? K c
+  pub feasibleAfter-start : feasibleAfter n out put open? K c 1 1 ≡ feasiblePairs n out put open? K c
   unfolding feasibleAfter feasiblePairs
-  feasibleAfter-start = ap (keep (feasible? n l open? K c)) (pairsAfter-start n)
+  feasibleAfter-start = ap (keep (feasible? n out put open? K c)) (pairsAfter-start n)
 
   -- what is left after xy, less its first, is what is left after that first
-  pub feasibleAfter-next : {x y a b : ℕ} {rest : List Edge} → 1 ≤ x → x ≤ y → y ≤ n → feasibleAfter n l open? K c x y ≡ edge a b ∷ rest
-      → IsEdgeUp n a b × (feasible? n l open? K c a b ≡ true) × (rest ≡ feasibleAfter n l open? K c a b)
+  pub feasibleAfter-next : {x y a b : ℕ} {rest : List Edge} → 1 ≤ x → x ≤ y → y ≤ n → feasibleAfter n out put open? K c x y ≡ edge a b ∷ rest
+      → IsEdgeUp n a b × (feasible? n out put open? K c a b ≡ true) × (rest ≡ feasibleAfter n out put open? K c a b)
   unfolding feasibleAfter
   feasibleAfter-next {x} {y} {a} {b} {rest} h1 h2 h3 e =
-      let r = keep-head n (feasible? n l open? K c) (pairsAfter n x y) a b rest (order-after n x y h1 h2 h3) e in
+      let r = keep-head n (feasible? n out put open? K c) (pairsAfter n x y) a b rest (order-after n x y h1 h2 h3) e in
       (r .is-edge, r .passed, r .left)
 
   -- a pair is in the list exactly when it is a pair x < y of 1 to n and feasible
-  pub in-feasiblePairs : (x y : ℕ) → Among (feasiblePairs n l open? K c) x y ↔ (IsEdgeUp n x y × (feasible? n l open? K c x y ≡ true))
+  pub in-feasiblePairs : (x y : ℕ) → Among (feasiblePairs n out put open? K c) x y ↔ (IsEdgeUp n x y × (feasible? n out put open? K c x y ≡ true))
   unfolding feasiblePairs
   in-feasiblePairs x y = (
-    λ m. let r = kept-in (feasible? n l open? K c) (edges n) x y m in (in-edges n x y .0 (r .0), r .1),
-    λ h. in-kept (feasible? n l open? K c) (edges n) x y (in-edges n x y .1 (h .0)) (h .1),
+    λ m. let r = kept-in (feasible? n out put open? K c) (edges n) x y m in (in-edges n x y .0 (r .0), r .1),
+    λ h. in-kept (feasible? n out put open? K c) (edges n) x y (in-edges n x y .1 (h .0)) (h .1),
   )
 
   -- the list rises, so each pair is there once
-  pub feasiblePairs-rising : Rising (feasiblePairs n l open? K c)
+  pub feasiblePairs-rising : Rising (feasiblePairs n out put open? K c)
   unfolding feasiblePairs
-  feasiblePairs-rising = keep-rising (feasible? n l open? K c) (edges n) (edges-rising n)
+  feasiblePairs-rising = keep-rising (feasible? n out put open? K c) (edges n) (edges-rising n)

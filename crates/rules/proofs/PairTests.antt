@@ -23,72 +23,72 @@ use Rattle.sets.specs.Rising.{Among}
 use Rattle.sets.specs.Shape.{shape?}
 use Rattle.rules.proofs.PairLists.{in-feasiblePairs}
 
-pub compatible-iff : (l : ℕ → ℕ → ℕ) (p q x y : ℕ) → (compatible? l p q x y ≡ true) ↔ Compatible l l p q x y
+pub compatible-iff : (out put : ℕ → ℕ → ℕ) (p q x y : ℕ) → (compatible? out put p q x y ≡ true) ↔ Compatible out put p q x y
 unfolding compatible?
-compatible-iff l p q x y = (
-  λ h. compatible-sum l l p q x y .1 (leb-true (l p q + l x y) (max (l p x + l q y) (l p y + l q x)) h),
-  λ h. le-leb (l p q + l x y) (max (l p x + l q y) (l p y + l q x)) (compatible-sum l l p q x y .0 h),
+compatible-iff out put p q x y = (
+  λ h. compatible-sum out put p q x y .1 (leb-true (out p q + out x y) (max (put p x + put q y) (put p y + put q x)) h),
+  λ h. le-leb (out p q + out x y) (max (put p x + put q y) (put p y + put q x)) (compatible-sum out put p q x y .0 h),
 )
 
 -- EXCHANGING TWO EDGES shuts a case out exactly when its saving is above 0
-pub exchange-shuts : (l : ℕ → ℕ → ℕ) (p q x y : ℕ) → (compatible? l p q x y ≡ false) ↔ (gains? (exchangeSaving l l p q x y) ≡ true)
-exchange-shuts l p q x y = (
-  λ h. never-false _ (λ e. true≢false (sym (compatible-iff l p q x y .1 e) ∙ h)),
-  λ h. never-true _ (λ e. true≢false (sym h ∙ compatible-iff l p q x y .0 e)),
+pub exchange-shuts : (out put : ℕ → ℕ → ℕ) (p q x y : ℕ) → (compatible? out put p q x y ≡ false) ↔ (gains? (exchangeSaving out put p q x y) ≡ true)
+exchange-shuts out put p q x y = (
+  λ h. never-false _ (λ e. true≢false (sym (compatible-iff out put p q x y .1 e) ∙ h)),
+  λ h. never-true _ (λ e. true≢false (sym h ∙ compatible-iff out put p q x y .0 e)),
 )
 
 -- MOVING A POINT to an edge without it shuts a case out exactly when its saving is above 0
-pub move-shuts : (l : ℕ → ℕ → ℕ) (c x y u v : ℕ) → (u ≡ c → ⊥) → (v ≡ c → ⊥) → (stays? l l c x y u v ≡ false) ↔ (gains? (moveSaving l l c x y u v) ≡ true)
-move-shuts l c x y u v nu nv = (
-  λ h. never-false _ (λ e. true≢false (sym (stays-iff l l c x y u v .1 (λ _ _ m. true≢false (sym m ∙ e))) ∙ h)),
-  λ h. never-true _ (λ e. stays-iff l l c x y u v .0 e nu nv h),
+pub move-shuts : (out put : ℕ → ℕ → ℕ) (c x y u v : ℕ) → (u ≡ c → ⊥) → (v ≡ c → ⊥) → (stays? out put c x y u v ≡ false) ↔ (gains? (moveSaving out put c x y u v) ≡ true)
+move-shuts out put c x y u v nu nv = (
+  λ h. never-false _ (λ e. true≢false (sym (stays-iff out put c x y u v .1 (λ _ _ m. true≢false (sym m ∙ e))) ∙ h)),
+  λ h. never-true _ (λ e. stays-iff out put c x y u v .0 e nu nv h),
 )
 
-module _ (l : ℕ → ℕ → ℕ) (symmetric : (a b : ℕ) → l a b ≡ l b a) where
-  compatible-turn : (c x p q : ℕ) → compatible? l c x p q ≡ true → compatible? l c x q p ≡ true
+module _ (out put : ℕ → ℕ → ℕ) (out-turns : (a b : ℕ) → out a b ≡ out b a) (put-turns : (a b : ℕ) → put a b ≡ put b a) where
+  compatible-turn : (c x p q : ℕ) → compatible? out put c x p q ≡ true → compatible? out put c x q p ≡ true
   compatible-turn c x p q h =
-      compatible-iff l c x q p .1 (compatible-sum l l c x q p .1 (omega (arith, compatible-sum l l c x p q .0 (compatible-iff l c x p q .0 h), symmetric p q)))
+      compatible-iff out put c x q p .1 (compatible-sum out put c x q p .1 (omega (arith, compatible-sum out put c x p q .0 (compatible-iff out put c x p q .0 h), out-turns p q)))
 
   -- conditions 1 and 4 of one leg
   pub leg-iff : (open? : ℕ → ℕ → Bool) (K : List Edge) (c x : ℕ)
-      → (leg? l open? K c x ≡ true) ↔ ((x ≡ c → ⊥) × (open? c x ≡ true) × ((p q : ℕ) → Has K p q → Compatible l l c x p q))
+      → (leg? out put open? K c x ≡ true) ↔ ((x ≡ c → ⊥) × (open? c x ≡ true) × ((p q : ℕ) → Has K p q → Compatible out put c x p q))
   unfolding leg?
   leg-iff open? K c x = (to, from)
     where
-      to : not (eqb x c) && (open? c x && every (compatible? l c x) K) ≡ true
-          → (x ≡ c → ⊥) × (open? c x ≡ true) × ((p q : ℕ) → Has K p q → Compatible l l c x p q)
+      to : not (eqb x c) && (open? c x && every (compatible? out put c x) K) ≡ true
+          → (x ≡ c → ⊥) × (open? c x ≡ true) × ((p q : ℕ) → Has K p q → Compatible out put c x p q)
       to e =
-          let a = and-true (not (eqb x c)) (open? c x && every (compatible? l c x) K) e in
-          let b = and-true (open? c x) (every (compatible? l c x) K) (a .1) in (
+          let a = and-true (not (eqb x c)) (open? c x && every (compatible? out put c x) K) e in
+          let b = and-true (open? c x) (every (compatible? out put c x) K) (a .1) in (
             eqb-false x c (borrow.Author.Tests.not-true (eqb x c) (a .0)),
             b .0,
-            λ p q h. compatible-iff l c x p q .0 (every-has (compatible? l c x) (compatible-turn c x) K (b .1) p q h),
+            λ p q h. compatible-iff out put c x p q .0 (every-has (compatible? out put c x) (compatible-turn c x) K (b .1) p q h),
           )
 
-      from : (x ≡ c → ⊥) × (open? c x ≡ true) × ((p q : ℕ) → Has K p q → Compatible l l c x p q)
-          → not (eqb x c) && (open? c x && every (compatible? l c x) K) ≡ true
+      from : (x ≡ c → ⊥) × (open? c x ≡ true) × ((p q : ℕ) → Has K p q → Compatible out put c x p q)
+          → not (eqb x c) && (open? c x && every (compatible? out put c x) K) ≡ true
       from h = and-both _ _
           (ap not (ne-eqb x c (h .0)))
-          (and-both _ _ (h .1) (has-every (compatible? l c x) K (λ p q k. compatible-iff l c x p q .1 (h .2 p q k))))
+          (and-both _ _ (h .1) (has-every (compatible? out put c x) K (λ p q k. compatible-iff out put c x p q .1 (h .2 p q k))))
 
   -- the test of a pair x < y of 1 to n is true exactly when the pair is feasible, given that `shape?` decides conditions 2 and 3 and that no point of K can be moved
   pub feasible-iff : (n : ℕ) (open? : ℕ → ℕ → Bool) (K : List Edge) (c x y : ℕ) → IsEdgeUp n x y
       → ((x ≡ c → ⊥) → (y ≡ c → ⊥) → (shape? n K c x y ≡ true) ↔ (AtMostTwo (withPair K c x y) × NoShortCycle n (withPair K c x y)))
-      → Unmovable l l K
-      → (feasible? n l open? K c x y ≡ true) ↔ FeasiblePair n l l open? K c x y
+      → Unmovable out put K
+      → (feasible? n out put open? K c x y ≡ true) ↔ FeasiblePair n out put open? K c x y
   unfolding feasible? candidateLeg?
   feasible-iff n open? K c x y e shape free = (to, from)
     where
-      to : leg? l open? K c x && (settled? l l K c x && endStays? l l K c x) && (leg? l open? K c y && (settled? l l K c y && endStays? l l K c y) && (unmoved? l l K c x y && shape? n K c x y)) ≡ true
-          → FeasiblePair n l l open? K c x y
+      to : leg? out put open? K c x && (settled? out put K c x && endStays? out put K c x) && (leg? out put open? K c y && (settled? out put K c y && endStays? out put K c y) && (unmoved? out put K c x y && shape? n K c x y)) ≡ true
+          → FeasiblePair n out put open? K c x y
       to h =
-          let a = and-true (leg? l open? K c x && (settled? l l K c x && endStays? l l K c x)) _ h in
-          let b = and-true (leg? l open? K c y && (settled? l l K c y && endStays? l l K c y)) _ (a .1) in
-          let d = and-true (unmoved? l l K c x y) _ (b .1) in
-          let ax = and-true (leg? l open? K c x) _ (a .0) in
-          let ay = and-true (leg? l open? K c y) _ (b .0) in
-          let sx = and-true (settled? l l K c x) _ (ax .1) in
-          let sy = and-true (settled? l l K c y) _ (ay .1) in
+          let a = and-true (leg? out put open? K c x && (settled? out put K c x && endStays? out put K c x)) _ h in
+          let b = and-true (leg? out put open? K c y && (settled? out put K c y && endStays? out put K c y)) _ (a .1) in
+          let d = and-true (unmoved? out put K c x y) _ (b .1) in
+          let ax = and-true (leg? out put open? K c x) _ (a .0) in
+          let ay = and-true (leg? out put open? K c y) _ (b .0) in
+          let sx = and-true (settled? out put K c x) _ (ax .1) in
+          let sy = and-true (settled? out put K c y) _ (ay .1) in
           let legx = leg-iff open? K c x .0 (ax .0) in
           let legy = leg-iff open? K c y .0 (ay .0) in
           let two-three = shape (legx .0) (legy .0) .0 (d .1) in
@@ -103,51 +103,51 @@ module _ (l : ℕ → ℕ → ℕ) (symmetric : (a b : ℕ) → l a b ≡ l b a)
             three = two-three .1;
             four = λ p q k. (legx .2 p q k, legy .2 p q k);
             five =
-                tests-unmovable l l symmetric symmetric (adding-pair K c x y (λ q. omega (arith, e .up)) (legx .0) (legy .0) (two-three .0)) free (d .0) (sx .0) (sy .0) (sx .1) (sy .1);
+                tests-unmovable out put out-turns put-turns (adding-pair K c x y (λ q. omega (arith, e .up)) (legx .0) (legy .0) (two-three .0)) free (d .0) (sx .0) (sy .0) (sx .1) (sy .1);
           }
 
-      from : FeasiblePair n l l open? K c x y
-          → leg? l open? K c x && (settled? l l K c x && endStays? l l K c x) && (leg? l open? K c y && (settled? l l K c y && endStays? l l K c y) && (unmoved? l l K c x y && shape? n K c x y)) ≡ true
+      from : FeasiblePair n out put open? K c x y
+          → leg? out put open? K c x && (settled? out put K c x && endStays? out put K c x) && (leg? out put open? K c y && (settled? out put K c y && endStays? out put K c y) && (unmoved? out put K c x y && shape? n K c x y)) ≡ true
       from f =
           let s = adding-pair K c x y (λ q. omega (arith, e .up)) (f .apart-x) (f .apart-y) (f .two) in
           let t = adding-turned s in
           and-both _ _
-          (and-both _ _ (leg-iff open? K c x .1 (f .apart-x, f .one .0, λ p q k. f .four p q k .0)) (and-both _ _ (unmovable-leg l l symmetric symmetric s (f .five)) (unmovable-end l l symmetric symmetric s (f .five))))
+          (and-both _ _ (leg-iff open? K c x .1 (f .apart-x, f .one .0, λ p q k. f .four p q k .0)) (and-both _ _ (unmovable-leg out put out-turns put-turns s (f .five)) (unmovable-end out put out-turns put-turns s (f .five))))
           (and-both _ _
-          (and-both _ _ (leg-iff open? K c y .1 (f .apart-y, f .one .1, λ p q k. f .four p q k .1)) (and-both _ _ (unmovable-leg l l symmetric symmetric t (f .five)) (unmovable-end l l symmetric symmetric t (f .five))))
-          (and-both _ _ (unmovable-centre l l symmetric symmetric s (f .five)) (shape (f .apart-x) (f .apart-y) .1 (f .two, f .three))))
+          (and-both _ _ (leg-iff open? K c y .1 (f .apart-y, f .one .1, λ p q k. f .four p q k .1)) (and-both _ _ (unmovable-leg out put out-turns put-turns t (f .five)) (unmovable-end out put out-turns put-turns t (f .five))))
+          (and-both _ _ (unmovable-centre out put out-turns put-turns s (f .five)) (shape (f .apart-x) (f .apart-y) .1 (f .two, f .three))))
 
   -- the list has exactly the feasible pairs
   pub feasiblePairs-iff : (n : ℕ) (open? : ℕ → ℕ → Bool) (K : List Edge) (c x y : ℕ)
       → ((x ≡ c → ⊥) → (y ≡ c → ⊥) → IsEdgeUp n x y → (shape? n K c x y ≡ true) ↔ (AtMostTwo (withPair K c x y) × NoShortCycle n (withPair K c x y)))
-      → Unmovable l l K
-      → Among (feasiblePairs n l open? K c) x y ↔ FeasiblePair n l l open? K c x y
+      → Unmovable out put K
+      → Among (feasiblePairs n out put open? K c) x y ↔ FeasiblePair n out put open? K c x y
   feasiblePairs-iff n open? K c x y shape free = (to, from)
     where
-      to : Among (feasiblePairs n l open? K c) x y → FeasiblePair n l l open? K c x y
+      to : Among (feasiblePairs n out put open? K c) x y → FeasiblePair n out put open? K c x y
       to m =
-          let r = in-feasiblePairs n l open? K c x y .0 m in
+          let r = in-feasiblePairs n out put open? K c x y .0 m in
           feasible-iff n open? K c x y (r .0) (λ nx ny. shape nx ny (r .0)) free .0 (r .1)
 
-      from : FeasiblePair n l l open? K c x y → Among (feasiblePairs n l open? K c) x y
+      from : FeasiblePair n out put open? K c x y → Among (feasiblePairs n out put open? K c) x y
       from f =
           let e : IsEdgeUp n x y = record { low = f .point-x .low; up = f .rising; high = f .point-y .high } in
-          in-feasiblePairs n l open? K c x y .1 (e, feasible-iff n open? K c x y e (λ nx ny. shape nx ny e) free .1 f)
+          in-feasiblePairs n out put open? K c x y .1 (e, feasible-iff n open? K c x y e (λ nx ny. shape nx ny e) free .1 f)
 
 -- 01's test of a pair, in which condition 5 moves the split point alone
-unfoldable pub feasibleBy01? : ℕ → (ℕ → ℕ → ℕ) → (ℕ → ℕ → Bool) → List Edge → ℕ → ℕ → ℕ → Bool
-feasibleBy01? n l open? K c x y = leg? l open? K c x && (leg? l open? K c y && (unmoved? l l K c x y && shape? n K c x y))
+unfoldable pub feasibleBy01? : ℕ → (out put : ℕ → ℕ → ℕ) → (ℕ → ℕ → Bool) → List Edge → ℕ → ℕ → ℕ → Bool
+feasibleBy01? n out put open? K c x y = leg? out put open? K c x && (leg? out put open? K c y && (unmoved? out put K c x y && shape? n K c x y))
 
 -- THE PAIR LIST OF {ab} is the one that it was (02, Paper 7): no point of {ab} has degree two, and an end that gets a second edge has no edge of K without it to move to
-pub single-as-01 : (n : ℕ) (l : ℕ → ℕ → ℕ) (open? : ℕ → ℕ → Bool) (a b c : ℕ)
-    → feasiblePairs n l open? (edge a b ∷ []) c ≡ keep (feasibleBy01? n l open? (edge a b ∷ []) c) (edges n)
+pub single-as-01 : (n : ℕ) (out put : ℕ → ℕ → ℕ) (open? : ℕ → ℕ → Bool) (a b c : ℕ)
+    → feasiblePairs n out put open? (edge a b ∷ []) c ≡ keep (feasibleBy01? n out put open? (edge a b ∷ []) c) (edges n)
 unfolding feasiblePairs feasible? candidateLeg? feasibleBy01?
-single-as-01 n l open? a b c = ap (λ (t : ℕ → ℕ → Bool). keep t (edges n)) (fun-ext (λ x. fun-ext (λ y. same x y)))
+single-as-01 n out put open? a b c = ap (λ (t : ℕ → ℕ → Bool). keep t (edges n)) (fun-ext (λ x. fun-ext (λ y. same x y)))
   where
-    leg : (x : ℕ) → candidateLeg? l open? (edge a b ∷ []) c x ≡ leg? l open? (edge a b ∷ []) c x
+    leg : (x : ℕ) → candidateLeg? out put open? (edge a b ∷ []) c x ≡ leg? out put open? (edge a b ∷ []) c x
     leg x =
-        ap₂ (λ (s t : Bool). leg? l open? (edge a b ∷ []) c x && (s && t)) (single-settled l l a b c x) (single-end l l a b c x)
-        ∙ and-yes (leg? l open? (edge a b ∷ []) c x)
+        ap₂ (λ (s t : Bool). leg? out put open? (edge a b ∷ []) c x && (s && t)) (single-settled out put a b c x) (single-end out put a b c x)
+        ∙ and-yes (leg? out put open? (edge a b ∷ []) c x)
 
-    same : (x y : ℕ) → feasible? n l open? (edge a b ∷ []) c x y ≡ feasibleBy01? n l open? (edge a b ∷ []) c x y
-    same x y = ap₂ (λ (s t : Bool). s && (t && (unmoved? l l (edge a b ∷ []) c x y && shape? n (edge a b ∷ []) c x y))) (leg x) (leg y)
+    same : (x y : ℕ) → feasible? n out put open? (edge a b ∷ []) c x y ≡ feasibleBy01? n out put open? (edge a b ∷ []) c x y
+    same x y = ap₂ (λ (s t : Bool). s && (t && (unmoved? out put (edge a b ∷ []) c x y && shape? n (edge a b ∷ []) c x y))) (leg x) (leg y)

@@ -1,4 +1,4 @@
--- The conditions of a feasible pair as tests that compute.
+-- The conditions of a feasible pair as tests that compute, by the lengths of what is taken out and of what is put in.
 use Prim.Native.Nat.{ℕ, _+_, max}
 use mathlib.Core.Bool.{Bool, true, not, _&&_, _||_}
 use mathlib.Core.List.{List, [], _∷_}
@@ -12,12 +12,12 @@ every test [] = true
 every test (edge p q ∷ es) = test p q && every test es
 
 -- pq and xy are compatible
-unfoldable pub compatible? : (ℕ → ℕ → ℕ) → ℕ → ℕ → ℕ → ℕ → Bool
-compatible? l p q x y = leb (l p q + l x y) (max (l p x + l q y) (l p y + l q x))
+unfoldable pub compatible? : (out put : ℕ → ℕ → ℕ) → ℕ → ℕ → ℕ → ℕ → Bool
+compatible? out put p q x y = leb (out p q + out x y) (max (put p x + put q y) (put p y + put q x))
 
 -- the edge cx of a pair meets conditions 1 and 4, and x is not c
-unfoldable pub leg? : (ℕ → ℕ → ℕ) → (ℕ → ℕ → Bool) → List Edge → ℕ → ℕ → Bool
-leg? l open? K c x = not (eqb x c) && (open? c x && every (compatible? l c x) K)
+unfoldable pub leg? : (out put : ℕ → ℕ → ℕ) → (ℕ → ℕ → Bool) → List Edge → ℕ → ℕ → Bool
+leg? out put open? K c x = not (eqb x c) && (open? c x && every (compatible? out put c x) K)
 
 -- the edge uv touches w, or moving w from between s and t to between u and v does not make the sum smaller
 unfoldable pub stays? : (out put : ℕ → ℕ → ℕ) → (w s t u v : ℕ) → Bool
@@ -54,9 +54,9 @@ unfoldable pub endStays? : (out put : ℕ → ℕ → ℕ) → List Edge → (c 
 endStays? out put K c x = every (λ (p q : ℕ). endAt? out put K c x p q && endAt? out put K c x q p) K
 
 -- the edge cx of a pair meets conditions 1 and 4, and what condition 5 asks of it alone
-unfoldable pub candidateLeg? : (ℕ → ℕ → ℕ) → (ℕ → ℕ → Bool) → List Edge → (c x : ℕ) → Bool
-candidateLeg? l open? K c x = leg? l open? K c x && (settled? l l K c x && endStays? l l K c x)
+unfoldable pub candidateLeg? : (out put : ℕ → ℕ → ℕ) → (ℕ → ℕ → Bool) → List Edge → (c x : ℕ) → Bool
+candidateLeg? out put open? K c x = leg? out put open? K c x && (settled? out put K c x && endStays? out put K c x)
 
 -- the pair x < y is feasible, where K is {ab} or a set that a pair was added to; 2 and 3 are last, since they are the dearest
-unfoldable pub feasible? : ℕ → (ℕ → ℕ → ℕ) → (ℕ → ℕ → Bool) → List Edge → ℕ → ℕ → ℕ → Bool
-feasible? n l open? K c x y = candidateLeg? l open? K c x && (candidateLeg? l open? K c y && (unmoved? l l K c x y && shape? n K c x y))
+unfoldable pub feasible? : ℕ → (out put : ℕ → ℕ → ℕ) → (ℕ → ℕ → Bool) → List Edge → ℕ → ℕ → ℕ → Bool
+feasible? n out put open? K c x y = candidateLeg? out put open? K c x && (candidateLeg? out put open? K c y && (unmoved? out put K c x y && shape? n K c x y))

@@ -11,5 +11,5 @@ keep test [] = []
 keep test (edge x y ∷ es) = elim (test x y) [ true ↦ edge x y ∷ keep test es | false ↦ keep test es ]
 
 -- the feasible pairs of K at c: pairs x < y rise as 01's edges do
-unfoldable pub feasiblePairs : ℕ → (ℕ → ℕ → ℕ) → (ℕ → ℕ → Bool) → List Edge → ℕ → List Edge
-feasiblePairs n l open? K c = keep (feasible? n l open? K c) (edges n)
+unfoldable pub feasiblePairs : ℕ → (out put : ℕ → ℕ → ℕ) → (ℕ → ℕ → Bool) → List Edge → ℕ → List Edge
+feasiblePairs n out put open? K c = keep (feasible? n out put open? K c) (edges n)

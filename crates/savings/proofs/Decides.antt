@@ -37,20 +37,20 @@ told-is (tests.Points n) out z s h = by (every (isEdge n) out) h
     by false e = absurd (refused-none e)
 
 module _ (n : ℕ) (table : List ℕ) (s : ℤ) where
-  pub exchange-decides : (p q x y : ℕ) → exchangeSaved n table p q x y ≡ Saving s → (compatible? (lengthOf n table) p q x y ≡ false) ↔ (gains? s ≡ true)
+  pub exchange-decides : (p q x y : ℕ) → exchangeSaved n table p q x y ≡ Saving s → (compatible? (lengthOf n table) (lengthOf n table) p q x y ≡ false) ↔ (gains? s ≡ true)
   unfolding exchangeSaved
   exchange-decides p q x y h =
-      subst (λ (z : ℤ). (compatible? (lengthOf n table) p q x y ≡ false) ↔ (gains? z ≡ true)) (told-is (testedTable n table) _ _ s h) (exchange-shuts (lengthOf n table) p q x y)
+      subst (λ (z : ℤ). (compatible? (lengthOf n table) (lengthOf n table) p q x y ≡ false) ↔ (gains? z ≡ true)) (told-is (testedTable n table) _ _ s h) (exchange-shuts (lengthOf n table) (lengthOf n table) p q x y)
 
   pub move-decides : (c x y u v : ℕ) → moveSaved n table c x y u v ≡ Saving s → (u ≡ c → ⊥) → (v ≡ c → ⊥)
       → (stays? (lengthOf n table) (lengthOf n table) c x y u v ≡ false) ↔ (gains? s ≡ true)
   unfolding moveSaved
   move-decides c x y u v h nu nv =
-      subst (λ (z : ℤ). (stays? (lengthOf n table) (lengthOf n table) c x y u v ≡ false) ↔ (gains? z ≡ true)) (told-is (testedTable n table) _ _ s h) (move-shuts (lengthOf n table) c x y u v nu nv)
+      subst (λ (z : ℤ). (stays? (lengthOf n table) (lengthOf n table) c x y u v ≡ false) ↔ (gains? z ≡ true)) (told-is (testedTable n table) _ _ s h) (move-shuts (lengthOf n table) (lengthOf n table) c x y u v nu nv)
 
   pub crossing-decides : (K : List Edge) (p q r t x y z w : ℕ) → crossingSaved n table p q r t x y z w ≡ Saving s → ThreeOptMoves K p q r t x y z w
-      → (threeOptOutcome (lengthOf n table) K p q r t ≡ Settled) ↔ (gains? s ≡ true)
+      → (threeOptOutcome (lengthOf n table) (lengthOf n table) K p q r t ≡ Settled) ↔ (gains? s ≡ true)
   unfolding crossingSaved
   crossing-decides K p q r t x y z w h m =
-      subst (λ (a : ℤ). (threeOptOutcome (lengthOf n table) K p q r t ≡ Settled) ↔ (gains? a ≡ true)) (told-is (testedTable n table) _ _ s h)
-      (crossing-shuts (lengthOf n table) K p q r t x y z w m)
+      subst (λ (a : ℤ). (threeOptOutcome (lengthOf n table) (lengthOf n table) K p q r t ≡ Settled) ↔ (gains? a ≡ true)) (told-is (testedTable n table) _ _ s h)
+      (crossing-shuts (lengthOf n table) (lengthOf n table) K p q r t x y z w m)

@@ -18,18 +18,18 @@ regroup true true u s = refl
 regroup true false u s = refl
 regroup false b u s = refl
 
-module _ {n : ℕ} {table : List ℕ} {open? : ℕ → ℕ → Bool} {K : List Edge} {c : ℕ} {legs : List ℕ} {bound : ℕ}
-    (h : Lengths n table) (p : Prepared n (lengthOf n table) open? K c legs bound) (x y : ℕ) (px : Point n x) (py : Point n y) where
+module _ {n : ℕ} {out table : List ℕ} {open? : ℕ → ℕ → Bool} {K : List Edge} {c : ℕ} {legs : List ℕ} {bound : ℕ}
+    (f : Lengths n out) (h : Lengths n table) (p : Prepared n (lengthOf n out) (lengthOf n table) open? K c legs bound) (x y : ℕ) (px : Point n x) (py : Point n y) where
   one-comparison : passes? n table legs bound x y
-      ≡ candidateLeg? (lengthOf n table) open? K c x && (candidateLeg? (lengthOf n table) open? K c y && unmoved? (lengthOf n table) (lengthOf n table) K c x y)
+      ≡ candidateLeg? (lengthOf n out) (lengthOf n table) open? K c x && (candidateLeg? (lengthOf n out) (lengthOf n table) open? K c y && unmoved? (lengthOf n out) (lengthOf n table) K c x y)
   unfolding passes?
   one-comparison =
       rw (p .each x px, p .each y py, p .least)
-      (legs-bound (lengthOf n table) (length-symmetric n table) (length-small h) c x y K (candidateLeg? (lengthOf n table) open? K c x) (candidateLeg? (lengthOf n table) open? K c y))
+      (legs-bound (lengthOf n out) (lengthOf n table) (length-symmetric n out) (length-small f) (length-small h) c x y K (candidateLeg? (lengthOf n out) (lengthOf n table) open? K c x) (candidateLeg? (lengthOf n out) (lengthOf n table) open? K c y))
 
   -- a pair is feasible exactly when it passes the comparison and meets conditions 2 and 3
-  pub feasible-passes : feasible? n (lengthOf n table) open? K c x y ≡ passes? n table legs bound x y && shape? n K c x y
+  pub feasible-passes : feasible? n (lengthOf n out) (lengthOf n table) open? K c x y ≡ passes? n table legs bound x y && shape? n K c x y
   unfolding feasible?
   feasible-passes =
-      regroup (candidateLeg? (lengthOf n table) open? K c x) (candidateLeg? (lengthOf n table) open? K c y) (unmoved? (lengthOf n table) (lengthOf n table) K c x y) (shape? n K c x y)
+      regroup (candidateLeg? (lengthOf n out) (lengthOf n table) open? K c x) (candidateLeg? (lengthOf n out) (lengthOf n table) open? K c y) (unmoved? (lengthOf n out) (lengthOf n table) K c x y) (shape? n K c x y)
       ∙ ap (λ (t : Bool). t && shape? n K c x y) (sym one-comparison)

@@ -12,7 +12,7 @@ use lib.ListN.{getD}
 use borrow.Author.Tests.{eq-eqb, le-leb}
 use Rattle.lists.proofs.Bools.{cond-same, and-both, and-yes}
 use Rattle.lengths.specs.Edge.{Edge, edge, Point}
-use Rattle.lengths.specs.Table.{lengthOf, Lengths}
+use Rattle.lengths.specs.Table.{lengthOf, Lengths, Limits}
 use Rattle.lengths.specs.asks.Rows.{RowAt, Rows, RowFilled}
 use Rattle.lengths.proofs.Tables.{length-symmetric, length-small}
 use Rattle.lengths.specs.Instance.{mostLength, pointPlaces}
@@ -34,151 +34,156 @@ use Rattle.rules.proofs.LegsAndBound.{legOf-by, legOf-narrowed, narrowed-by, ti
 row-lent : {n : ℕ} {table rows : List ℕ} {at v : ℕ} → Lengths n table → RowAt n table rows at v → RowLent n rows at
 row-lent {n} {table} {rows} {at} {v} l r = record { room = r .room; small = λ x p. omega (arith, r .each x p, length-small l v x) }
 
-row-opens : {most n : ℕ} {table marks rows : List ℕ} {c at : ℕ} {legs : List ℕ} → RowAt n table rows at c → OpenLegs most n marks rows c at legs
-    → LegsOf n (lengthOf n table) (openUpTo most n marks) [] c legs
+row-opens : {most n : ℕ} {out marks rows : List ℕ} (put : ℕ → ℕ → ℕ) {c at : ℕ} {legs : List ℕ} → RowAt n out rows at c → OpenLegs most n marks rows c at legs
+    → LegsOf n (lengthOf n out) put (openUpTo most n marks) [] c legs
 unfolding rowOf
-row-opens {most} {n} {table} {marks} {rows} {c} {at} r o x p = o .each x p ∙ legOf-by (rowOf rows at) (lengthOf n table) (openUpTo most n marks) c x (r .each x p)
+row-opens {most} {n} {out} {marks} {rows} put {c} {at} r o x p = o .each x p ∙ legOf-by (rowOf rows at) (rowOf rows at) (lengthOf n out) put (openUpTo most n marks) c x (r .each x p)
 
-short-of : {n : ℕ} {table : List ℕ} → Lengths n table → (p q c : ℕ) {pq cp cq : ℕ} → pq ≡ lengthOf n table p q → cp ≡ lengthOf n table c p → cq ≡ lengthOf n table c q → Short pq cp cq
+short-of : {n : ℕ} {out put : List ℕ} → Limits n out put → (p q c : ℕ) {pq cp cq : ℕ} → pq ≡ lengthOf n out p q → cp ≡ lengthOf n put c p → cq ≡ lengthOf n put c q → Short pq cp cq
 short-of l p q c e1 e2 e3 =
-    let small = length-small l in
-    record { first = omega (arith, e1, small p q); second = omega (arith, e2, small c p); third = omega (arith, e3, small c q) }
+    let small = length-small (l .put-lengths) in
+    record { first = omega (arith, e1, length-small (l .out-lengths) p q); second = omega (arith, e2, small c p); third = omega (arith, e3, small c q) }
 
-tightened-sides : (n : ℕ) (table : List ℕ) (c p q b : ℕ) {pq cp cq : ℕ} → pq ≡ lengthOf n table p q → cp ≡ lengthOf n table c p → cq ≡ lengthOf n table c q
-    → tightenedBy c p q pq cp cq b ≡ tightened (lengthOf n table) c p q b
-tightened-sides n table c p q b e1 e2 e3 = tightened-by (lengthOf n table) c p q b e1 (e2 ∙ length-symmetric n table c p) (e3 ∙ length-symmetric n table c q)
+tightened-sides : (n : ℕ) (out put : List ℕ) (c p q b : ℕ) {pq cp cq : ℕ} → pq ≡ lengthOf n out p q → cp ≡ lengthOf n put c p → cq ≡ lengthOf n put c q
+    → tightenedBy c p q pq cp cq b ≡ tightened (lengthOf n out) (lengthOf n put) c p q b
+tightened-sides n out put c p q b e1 e2 e3 =
+    tightened-by (lengthOf n out) (lengthOf n put) c p q b e1 (e2 ∙ length-symmetric n put c p) (e3 ∙ length-symmetric n put c q)
 
--- the rows of p and q and the lengths pq, cp and cq are at hand
-record AtHand (n : ℕ) (table rows : List ℕ) (c p q ps qs pq cp cq : ℕ) : Type 0 where
-  lengths : Lengths n table
-  row-p : RowAt n table rows ps p
-  row-q : RowAt n table rows qs q
-  is-pq : pq ≡ lengthOf n table p q
-  is-cp : cp ≡ lengthOf n table c p
-  is-cq : cq ≡ lengthOf n table c q
+-- the rows of p and q of what is put in and the lengths pq, cp and cq are at hand
+record AtHand (n : ℕ) (out put rows : List ℕ) (c p q ps qs pq cp cq : ℕ) : Type 0 where
+  limits : Limits n out put
+  row-p : RowAt n put rows ps p
+  row-q : RowAt n put rows qs q
+  is-pq : pq ≡ lengthOf n out p q
+  is-cp : cp ≡ lengthOf n put c p
+  is-cq : cq ≡ lengthOf n put c q
 
-module _ {n : ℕ} {table rows : List ℕ} {c p q ps qs pq cp cq : ℕ} (h : AtHand n table rows c p q ps qs pq cp cq) where
+module _ {n : ℕ} {out put rows : List ℕ} {c p q ps qs pq cp cq : ℕ} (h : AtHand n out put rows c p q ps qs pq cp cq) where
   hand-short : Short pq cp cq
-  hand-short = short-of (h .lengths) p q c (h .is-pq) (h .is-cp) (h .is-cq)
+  hand-short = short-of (h .limits) p q c (h .is-pq) (h .is-cp) (h .is-cq)
 
   hand-asks : {legs : List ℕ} → LegList legs → NarrowAsked n rows legs ps qs pq cp cq
-  hand-asks l = record { few = h .lengths .few; list = l; row-p = row-lent (h .lengths) (h .row-p); row-q = row-lent (h .lengths) (h .row-q); sums = record { first = omega (arith, hand-short .first); second = omega (arith, hand-short .second); third = omega (arith, hand-short .third) } }
+  hand-asks l = record {
+    few = h .limits .put-lengths .few;
+    list = l;
+    row-p = row-lent (h .limits .put-lengths) (h .row-p);
+    row-q = row-lent (h .limits .put-lengths) (h .row-q);
+    sums = record { first = omega (arith, hand-short .first); second = omega (arith, hand-short .second); third = omega (arith, hand-short .third) };
+  }
 
   hand-narrowed : {legs r : List ℕ} → Narrowed n rows legs ps qs pq cp cq r → (x : ℕ) → Point n x
-      → getD r x 0 ≡ narrowed (lengthOf n table) c p q x (getD legs x 0)
+      → getD r x 0 ≡ narrowed (lengthOf n out) (lengthOf n put) c p q x (getD legs x 0)
   hand-narrowed {legs} w x i =
       w .each x i
-      ∙ narrowed-by (lengthOf n table) c p q x (getD legs x 0) (h .is-pq) (h .is-cp) (h .is-cq)
-      (h .row-q .each x i ∙ length-symmetric n table q x)
-      (h .row-p .each x i ∙ length-symmetric n table p x)
+      ∙ narrowed-by (lengthOf n out) (lengthOf n put) c p q x (getD legs x 0) (h .is-pq) (h .is-cp) (h .is-cq)
+      (h .row-q .each x i ∙ length-symmetric n put q x)
+      (h .row-p .each x i ∙ length-symmetric n put p x)
 
-  hand-tightened : (b : ℕ) {r : ℕ} → r ≡ tightenedBy c p q pq cp cq b → r ≡ tightened (lengthOf n table) c p q b
-  hand-tightened b e = e ∙ tightened-sides n table c p q b (h .is-pq) (h .is-cp) (h .is-cq)
+  hand-tightened : (b : ℕ) {r : ℕ} → r ≡ tightenedBy c p q pq cp cq b → r ≡ tightened (lengthOf n out) (lengthOf n put) c p q b
+  hand-tightened b e = e ∙ tightened-sides n out put c p q b (h .is-pq) (h .is-cp) (h .is-cq)
 
   -- one more edge of K
-  hand-legs : (open? : ℕ → ℕ → Bool) (K : List Edge) {legs r : List ℕ} → LegsOf n (lengthOf n table) open? K c legs → Narrowed n rows legs ps qs pq cp cq r
-      → LegsOf n (lengthOf n table) open? (edge p q ∷ K) c r
+  hand-legs : (open? : ℕ → ℕ → Bool) (K : List Edge) {legs r : List ℕ} → LegsOf n (lengthOf n out) (lengthOf n put) open? K c legs → Narrowed n rows legs ps qs pq cp cq r
+      → LegsOf n (lengthOf n out) (lengthOf n put) open? (edge p q ∷ K) c r
   hand-legs open? K s w x i =
-      hand-narrowed w x i ∙ ap (narrowed (lengthOf n table) c p q x) (s x i) ∙ sym (legOf-narrowed (lengthOf n table) open? K c x p q)
+      hand-narrowed w x i ∙ ap (narrowed (lengthOf n out) (lengthOf n put) c p q x) (s x i) ∙ sym (legOf-narrowed (lengthOf n out) (lengthOf n put) open? K c x p q)
 
-row-of : {n : ℕ} {table rows marks : List ℕ} {k : EdgeSet} {c v : ℕ} → SplitAsked n table rows marks k c → Point n v → RowAt n table rows ((n + 1) * v) v
-row-of {v = v} a p = a .in-rows .row v p
+row-own : {n : ℕ} {out put outs puts marks : List ℕ} {k : EdgeSet} {c at : ℕ} → SplitAsked n out put outs puts marks k c → at ≡ (n + 1) * c → RowAt n out outs at c
+row-own {c = c} a e = rw e (a .in-out .row c (a .legs .centre))
 
-row-own : {n : ℕ} {table rows marks : List ℕ} {k : EdgeSet} {c at : ℕ} → SplitAsked n table rows marks k c → at ≡ (n + 1) * c → RowAt n table rows at c
-row-own a e = rw e (row-of a (a .legs .centre))
-
-pub take-open : {n : ℕ} {table rows marks : List ℕ} {k : EdgeSet} {c at : ℕ} → SplitAsked n table rows marks k c → at ≡ (n + 1) * c → OpenAsked n marks rows c at
-take-open a e = record { few = a .legs .lengths .few; marked = a .legs .marked; centre = a .legs .centre; row = row-lent (a .legs .lengths) (row-own a e) }
+pub take-open : {n : ℕ} {out put outs puts marks : List ℕ} {k : EdgeSet} {c at : ℕ} → SplitAsked n out put outs puts marks k c → at ≡ (n + 1) * c → OpenAsked n marks outs c at
+take-open a e = record { few = a .legs .limits .out-lengths .few; marked = a .legs .marked; centre = a .legs .centre; row = row-lent (a .legs .limits .out-lengths) (row-own a e) }
 
 -- taking in the edges of K one by one: the legs and the bound are those of the first i
 
-pub record Taking (n : ℕ) (table rows marks : List ℕ) (k : EdgeSet) (c : ℕ) (legs : List ℕ) (bound i : ℕ) : Type 0 where
-  pub asked : SplitAsked n table rows marks k c
+pub record Taking (n : ℕ) (out put outs puts marks : List ℕ) (k : EdgeSet) (c : ℕ) (legs : List ℕ) (bound i : ℕ) : Type 0 where
+  pub asked : SplitAsked n out put outs puts marks k c
   pub within : i ≤ k .count
   pub bounded : Bounded legs bound
-  pub prepared : TakenOf n (lengthOf n table) (openIn n marks) (edgesOf (k .from) (k .to) i) c legs bound
+  pub prepared : TakenOf n (lengthOf n out) (lengthOf n put) (openIn n marks) (edgesOf (k .from) (k .to) i) c legs bound
 
-pub take-start : {n : ℕ} {table rows marks : List ℕ} {k : EdgeSet} {c at : ℕ} {legs : List ℕ} → SplitAsked n table rows marks k c → at ≡ (n + 1) * c
-    → OpenLegs openMark n marks rows c at legs → Taking n table rows marks k c legs loose 0
+pub take-start : {n : ℕ} {out put outs puts marks : List ℕ} {k : EdgeSet} {c at : ℕ} {legs : List ℕ} → SplitAsked n out put outs puts marks k c → at ≡ (n + 1) * c
+    → OpenLegs openMark n marks outs c at legs → Taking n out put outs puts marks k c legs loose 0
 unfolding edgesOf boundOf
-take-start a e o = record {
+take-start {n} {out} {put} a e o = record {
   asked = a;
   within = omega arith;
   bounded = record { list = o .list; tight = omega arith };
-  prepared = record { each = row-opens (row-own a e) o; least = refl };
+  prepared = record { each = row-opens (lengthOf n put) (row-own a e) o; least = refl };
 }
 
--- an edge that touches c changes neither the legs nor the bound: it shares a point with every leg
+-- an edge that touches c changes neither the legs nor the bound: it shares a point with every leg, and no length is above its limit
 
-touched : (l : ℕ → ℕ → ℕ) → ((x y : ℕ) → l x y ≡ l y x) → (open? : ℕ → ℕ → Bool) (K : List Edge) (c p q : ℕ) → (p ≡ c) ⊎ (q ≡ c)
-    → (x : ℕ) → narrowed l c p q x (legOf l open? K c x) ≡ legOf l open? K c x
+touched : (out put : ℕ → ℕ → ℕ) → ((x y : ℕ) → put x y ≡ put y x) → ((x y : ℕ) → out x y ≤ put x y) → (open? : ℕ → ℕ → Bool) (K : List Edge) (c p q : ℕ) → (p ≡ c) ⊎ (q ≡ c)
+    → (x : ℕ) → narrowed out put c p q x (legOf out put open? K c x) ≡ legOf out put open? K c x
 unfolding narrowed legOf
-touched l symmetric open? K c p q t x = go (leg? l open? K c x) t
+touched out put turns order open? K c p q t x = go (leg? out put open? K c x) t
   where
-    go : (s : Bool) → (p ≡ c) ⊎ (q ≡ c) → cond (leb (cond s (l c x) far + l p q) (max (l c p + l x q) (l c q + l x p))) (cond s (l c x) far) far ≡ cond s (l c x) far
-    go true (inl e) = rw (le-leb (l c x + l p q) (max (l c p + l x q) (l c q + l x p)) (omega (arith, symmetric c x, ap (λ (y : ℕ). l y q) e, ap (λ (y : ℕ). l x y) e)))
-    go true (inr e) = rw (le-leb (l c x + l p q) (max (l c p + l x q) (l c q + l x p)) (omega (arith, symmetric c x, symmetric c p, ap (λ (y : ℕ). l p y) e, ap (λ (y : ℕ). l x y) e)))
-    go false t = cond-same (leb (far + l p q) (max (l c p + l x q) (l c q + l x p))) far
+    go : (s : Bool) → (p ≡ c) ⊎ (q ≡ c) → cond (leb (cond s (out c x) far + out p q) (max (put c p + put x q) (put c q + put x p))) (cond s (out c x) far) far ≡ cond s (out c x) far
+    go true (inl e) = rw (le-leb (out c x + out p q) (max (put c p + put x q) (put c q + put x p)) (omega (arith, order c x, order p q, turns c x, ap (λ (y : ℕ). put y q) e, ap (λ (y : ℕ). put x y) e)))
+    go true (inr e) = rw (le-leb (out c x + out p q) (max (put c p + put x q) (put c q + put x p)) (omega (arith, order c x, order p q, turns c x, turns c p, ap (λ (y : ℕ). put p y) e, ap (λ (y : ℕ). put x y) e)))
+    go false t = cond-same (leb (far + out p q) (max (put c p + put x q) (put c q + put x p))) far
 
-untightened : (l : ℕ → ℕ → ℕ) (c u v b : ℕ) → (u ≡ c) ⊎ (v ≡ c) → tightened l c u v b ≡ b
+untightened : (out put : ℕ → ℕ → ℕ) (c u v b : ℕ) → (u ≡ c) ⊎ (v ≡ c) → tightened out put c u v b ≡ b
 unfolding tightened
-untightened l c u v b (inl e) = rw (eq-eqb u c e)
-untightened l c u v b (inr e) = go (eqb u c)
+untightened out put c u v b (inl e) = rw (eq-eqb u c e)
+untightened out put c u v b (inr e) = go (eqb u c)
   where
-    go : (s : Bool) → cond s b (cond (eqb v c) b (min (l u c + l v c + mostLength - l u v) b)) ≡ b
+    go : (s : Bool) → cond s b (cond (eqb v c) b (min (put u c + put v c + mostLength - out u v) b)) ≡ b
     go true = refl
     go false = rw (eq-eqb v c e)
 
-module _ {n : ℕ} {table rows : List ℕ} {c u v : ℕ} {legs : List ℕ} {bound : ℕ} (a : TakeAsked n table rows c u v legs bound) where
-  row-at : {w : ℕ} → Point n w → RowAt n table rows ((n + 1) * w) w
-  row-at {w} p = a .in-rows .row w p
-
-  pub taken-touching : (u ≡ c) ⊎ (v ≡ c) → TakenIn n table c u v legs bound legs bound
+module _ {n : ℕ} {out put outs puts : List ℕ} {c u v : ℕ} {legs : List ℕ} {bound : ℕ} (a : TakeAsked n out put outs puts c u v legs bound) where
+  pub taken-touching : (u ≡ c) ⊎ (v ≡ c) → TakenIn n out put c u v legs bound legs bound
   taken-touching t = record {
     list = a .bounded .list;
-    each = λ open? K s x p. s x p ∙ sym (touched (lengthOf n table) (length-symmetric n table) open? K c u v t x) ∙ sym (legOf-narrowed (lengthOf n table) open? K c x u v);
-    least = sym (untightened (lengthOf n table) c u v bound t);
+    each = λ open? K s x p.
+        s x p
+        ∙ sym (touched (lengthOf n out) (lengthOf n put) (length-symmetric n put) (a .asked .limits .order) open? K c u v t x)
+        ∙ sym (legOf-narrowed (lengthOf n out) (lengthOf n put) open? K c x u v);
+    least = sym (untightened (lengthOf n out) (lengthOf n put) c u v bound t);
   }
 
-  pub take-asks : TriangleAsked n rows c u v
-  take-asks = record { room-c = row-at (a .asked .centre) .room; room-p = row-at (a .asked .from) .room; from = a .asked .from; to = a .asked .to }
+  pub take-asks : TriangleAsked n outs puts c u v
+  take-asks = record { room-c = a .in-put .row c (a .asked .centre) .room; room-p = a .in-out .row u (a .asked .from) .room; from = a .asked .from; to = a .asked .to }
 
-  module _ {t : Triangle} (r : TriangleIn n rows c u v t) where
+  module _ {t : Triangle} (r : TriangleIn n outs puts c u v t) where
     -- what narrowing and tightening read stands in the rows
-    take-hand : AtHand n table rows c u v (t .ps) (t .qs) (t .pq) (t .cp) (t .cq)
+    take-hand : AtHand n out put puts c u v (t .ps) (t .qs) (t .pq) (t .cp) (t .cq)
     take-hand = record {
-      lengths = a .asked .lengths;
-      row-p = rw (r .start-p) (row-at (a .asked .from));
-      row-q = rw (r .start-q) (row-at (a .asked .to));
-      is-pq = r .is-pq ∙ row-at (a .asked .from) .each v (a .asked .to);
-      is-cp = r .is-cp ∙ row-at (a .asked .centre) .each u (a .asked .from);
-      is-cq = r .is-cq ∙ row-at (a .asked .centre) .each v (a .asked .to);
+      limits = a .asked .limits;
+      row-p = rw (r .start-p) (a .in-put .row u (a .asked .from));
+      row-q = rw (r .start-q) (a .in-put .row v (a .asked .to));
+      is-pq = r .is-pq ∙ a .in-out .row u (a .asked .from) .each v (a .asked .to);
+      is-cp = r .is-cp ∙ a .in-put .row c (a .asked .centre) .each u (a .asked .from);
+      is-cq = r .is-cq ∙ a .in-put .row c (a .asked .centre) .each v (a .asked .to);
     }
 
     pub take-short : Short (t .pq) (t .cp) (t .cq)
     take-short = hand-short take-hand
 
-    pub take-narrow : NarrowAsked n rows legs (t .ps) (t .qs) (t .pq) (t .cp) (t .cq)
+    pub take-narrow : NarrowAsked n puts legs (t .ps) (t .qs) (t .pq) (t .cp) (t .cq)
     take-narrow = hand-asks take-hand (a .bounded .list)
 
-    pub taken-in : {legs′ : List ℕ} {bound′ : ℕ} → Narrowed n rows legs (t .ps) (t .qs) (t .pq) (t .cp) (t .cq) legs′
-        → bound′ ≡ tightenedBy c u v (t .pq) (t .cp) (t .cq) bound → TakenIn n table c u v legs bound legs′ bound′
+    pub taken-in : {legs′ : List ℕ} {bound′ : ℕ} → Narrowed n puts legs (t .ps) (t .qs) (t .pq) (t .cp) (t .cq) legs′
+        → bound′ ≡ tightenedBy c u v (t .pq) (t .cp) (t .cq) bound → TakenIn n out put c u v legs bound legs′ bound′
     taken-in w e = record { list = w .list; each = λ open? K s. hand-legs take-hand open? K s w; least = hand-tightened take-hand bound e }
 
-module _ {n : ℕ} {table rows marks : List ℕ} {k : EdgeSet} {c : ℕ} {legs : List ℕ} {bound i : ℕ} (s : Taking n table rows marks k c legs bound i) (h : i < k .count) where
-  pub take-edge : TakeAsked n table rows c (getD (k .from) i 0) (getD (k .to) i 0) legs bound
+module _ {n : ℕ} {out put outs puts marks : List ℕ} {k : EdgeSet} {c : ℕ} {legs : List ℕ} {bound i : ℕ} (s : Taking n out put outs puts marks k c legs bound i) (h : i < k .count) where
+  pub take-edge : TakeAsked n out put outs puts c (getD (k .from) i 0) (getD (k .to) i 0) legs bound
   take-edge = record {
     asked = record {
-      lengths = s .asked .legs .lengths;
+      limits = s .asked .legs .limits;
       centre = s .asked .legs .centre;
       from = s .asked .held .points .from-point i h;
       to = s .asked .held .points .to-point i h;
     };
-    in-rows = s .asked .in-rows;
+    in-out = s .asked .in-out;
+    in-put = s .asked .in-put;
     bounded = s .bounded;
   }
 
-  pub take-on : {legs′ : List ℕ} {bound′ : ℕ} → TakenIn n table c (getD (k .from) i 0) (getD (k .to) i 0) legs bound legs′ bound′ → Taking n table rows marks k c legs′ bound′ (i + 1)
+  pub take-on : {legs′ : List ℕ} {bound′ : ℕ} → TakenIn n out put c (getD (k .from) i 0) (getD (k .to) i 0) legs bound legs′ bound′ → Taking n out put outs puts marks k c legs′ bound′ (i + 1)
   unfolding edgesOf boundOf
   take-on {legs′} {bound′} w =
       let u = getD (k .from) i 0 in
@@ -186,32 +191,33 @@ module _ {n : ℕ} {table rows marks : List ℕ} {k : EdgeSet} {c : ℕ} {legs :
       record {
         asked = s .asked;
         within = omega arith;
-        bounded = record { list = w .list; tight = omega (arith, w .least, tightened-le (lengthOf n table) c u v bound, s .bounded .tight) };
+        bounded = record { list = w .list; tight = omega (arith, w .least, tightened-le (lengthOf n out) (lengthOf n put) c u v bound, s .bounded .tight) };
         prepared =
             subst
-            (λ (j : ℕ). TakenOf n (lengthOf n table) (openIn n marks) (edgesOf (k .from) (k .to) j) c legs′ bound′)
+            (λ (j : ℕ). TakenOf n (lengthOf n out) (lengthOf n put) (openIn n marks) (edgesOf (k .from) (k .to) j) c legs′ bound′)
             (sym (add-one i))
             (record {
               each = w .each (openIn n marks) (edgesOf (k .from) (k .to) i) (s .prepared .each);
-              least = w .least ∙ ap (tightened (lengthOf n table) c u v) (s .prepared .least);
+              least = w .least ∙ ap (tightened (lengthOf n out) (lengthOf n put) c u v) (s .prepared .least);
             });
       }
 
-pub take-end : {n : ℕ} {table rows marks : List ℕ} {k : EdgeSet} {c : ℕ} {legs : List ℕ} {bound i : ℕ}
-    → Taking n table rows marks k c legs bound i → k .count ≤ i → AllTaken n table marks k c legs bound
+pub take-end : {n : ℕ} {out put outs puts marks : List ℕ} {k : EdgeSet} {c : ℕ} {legs : List ℕ} {bound i : ℕ}
+    → Taking n out put outs puts marks k c legs bound i → k .count ≤ i → AllTaken n out put marks k c legs bound
 unfolding edgeList
-take-end {n} {table} {rows} {marks} {k} {c} {legs} {bound} {i} s h =
+take-end {n} {out} {put} {outs} {puts} {marks} {k} {c} {legs} {bound} {i} s h =
     let e : i ≡ k .count = omega (arith, s .within) in
     record {
       bounded = s .bounded;
-      taken = subst (λ (j : ℕ). TakenOf n (lengthOf n table) (openIn n marks) (edgesOf (k .from) (k .to) j) c legs bound) e (s .prepared);
+      taken = subst (λ (j : ℕ). TakenOf n (lengthOf n out) (lengthOf n put) (openIn n marks) (edgesOf (k .from) (k .to) j) c legs bound) e (s .prepared);
     }
 
 -- and then its points of degree two
 
-leg-both : (l : ℕ → ℕ → ℕ) (open? : ℕ → ℕ → Bool) (K : List Edge) (c x : ℕ) → endStays? l l K c x && (settled? l l K c x && leg? l open? K c x) ≡ candidateLeg? l open? K c x
+leg-both : (out put : ℕ → ℕ → ℕ) (open? : ℕ → ℕ → Bool) (K : List Edge) (c x : ℕ)
+    → endStays? out put K c x && (settled? out put K c x && leg? out put open? K c x) ≡ candidateLeg? out put open? K c x
 unfolding candidateLeg?
-leg-both l open? K c x = go (endStays? l l K c x) (settled? l l K c x) (leg? l open? K c x)
+leg-both out put open? K c x = go (endStays? out put K c x) (settled? out put K c x) (leg? out put open? K c x)
   where
     go : (e s t : Bool) → e && (s && t) ≡ t && (s && e)
     go true true true = refl
@@ -226,43 +232,49 @@ leg-both l open? K c x = go (endStays? l l K c x) (settled? l l K c x) (leg? l o
 pub rows-lent : {n : ℕ} {table rows : List ℕ} → Lengths n table → Rows n table rows → RowsLent n rows
 rows-lent l r = record { row = λ v p. row-lent l (r .row v p) }
 
-module _ {n : ℕ} {table rows marks : List ℕ} {k : EdgeSet} {c : ℕ} (a : SplitAsked n table rows marks k c) {legs : List ℕ} {bound : ℕ} (t : AllTaken n table marks k c legs bound) where
-  pub settle-asks : AllAsked n rows rows k c legs
-  settle-asks =
-      let lent = rows-lent (a .legs .lengths) (a .in-rows) in
-      record { lent = record { few = a .legs .lengths .few; centre = a .legs .centre; out-rows = lent; put-rows = lent; list = t .bounded .list }; held = a .held }
+module _ {n : ℕ} {out put outs puts marks : List ℕ} {k : EdgeSet} {c : ℕ} (a : SplitAsked n out put outs puts marks k c) {legs : List ℕ} {bound : ℕ}
+    (t : AllTaken n out put marks k c legs bound) where
+  out-lent : RowsLent n outs
+  out-lent = rows-lent (a .legs .limits .out-lengths) (a .in-out)
 
-  module _ {mid : List ℕ} (m : Settled n rows rows k c legs mid) where
-    pub ends-asks : EndsAsked n rows rows k c mid
-    ends-asks =
-        let lent = rows-lent (a .legs .lengths) (a .in-rows) in
-        record { lent = record { few = a .legs .lengths .few; out-rows = lent; put-rows = lent }; held = a .held; centre = a .legs .centre; list = m .list }
+  put-lent : RowsLent n puts
+  put-lent = rows-lent (a .legs .limits .put-lengths) (a .in-put)
 
-    pub settled-split : {left : List ℕ} → EndsTold n rows rows k c mid left → SplitOf openMark n table marks k c left bound
+  pub settle-asks : AllAsked n outs puts k c legs
+  settle-asks = record {
+    lent = record { few = a .legs .limits .out-lengths .few; centre = a .legs .centre; out-rows = out-lent; put-rows = put-lent; list = t .bounded .list };
+    held = a .held;
+  }
+
+  module _ {mid : List ℕ} (m : Settled n outs puts k c legs mid) where
+    pub ends-asks : EndsAsked n outs puts k c mid
+    ends-asks = record { lent = record { few = a .legs .limits .out-lengths .few; out-rows = out-lent; put-rows = put-lent }; held = a .held; centre = a .legs .centre; list = m .list }
+
+    pub settled-split : {left : List ℕ} → EndsTold n outs puts k c mid left → SplitOf openMark n out put marks k c left bound
     unfolding legOf
     settled-split s = record {
       bounded = record { list = s .list; tight = t .bounded .tight };
       prepared = record {
         each = λ x p.
-            s .each table table (a .in-rows) (a .in-rows)
-            (λ (z : ℕ). settled? (lengthOf n table) (lengthOf n table) (edgeList k) c z && leg? (lengthOf n table) (openIn n marks) (edgeList k) c z)
-            (m .each table table (a .in-rows) (a .in-rows) (leg? (lengthOf n table) (openIn n marks) (edgeList k) c) (t .taken .each))
+            s .each out put (a .in-out) (a .in-put)
+            (λ (z : ℕ). settled? (lengthOf n out) (lengthOf n put) (edgeList k) c z && leg? (lengthOf n out) (lengthOf n put) (openIn n marks) (edgeList k) c z)
+            (m .each out put (a .in-out) (a .in-put) (leg? (lengthOf n out) (lengthOf n put) (openIn n marks) (edgeList k) c) (t .taken .each))
             x p
-            ∙ ap (λ (b : Bool). cond b (lengthOf n table c x) far) (leg-both (lengthOf n table) (openIn n marks) (edgeList k) c x);
+            ∙ ap (λ (b : Bool). cond b (lengthOf n out c x) far) (leg-both (lengthOf n out) (lengthOf n put) (openIn n marks) (edgeList k) c x);
         least = t .taken .least;
       };
     }
 
 -- K = {ab}, by the rows of c, a and b alone
 
--- a row is kept where another is written behind it
-row-kept : {n : ℕ} {table rows : List ℕ} {at u behind v : ℕ} {r : List ℕ} → RowAt n table rows at u → RowFilled n table rows behind v r → at + n < behind → RowAt n table r at u
+-- a row is kept where another, of the same table or the other, is written behind it
+row-kept : {n : ℕ} {table other rows : List ℕ} {at u behind v : ℕ} {r : List ℕ} → RowAt n table rows at u → RowFilled n other rows behind v r → at + n < behind → RowAt n table r at u
 row-kept {at = at} o f h = record { room = omega (arith, o .room, f .size); each = λ x p. f .kept (at + x) (inl (omega (arith, p .high))) ∙ o .each x p }
 
-pub edge-rows : {n : ℕ} {table : List ℕ} {a b c : ℕ} {rows r s t : List ℕ} → EdgeRowsAsked n table a b c rows
-    → RowFilled n table rows 0 c r → RowFilled n table r pointPlaces a s → RowFilled n table s (2 * pointPlaces) b t → EdgeRows n table a b c t
+pub edge-rows : {n : ℕ} {out put : List ℕ} {a b c : ℕ} {rows r s t : List ℕ} → EdgeRowsAsked n out put a b c rows
+    → RowFilled n out rows 0 c r → RowFilled n put r pointPlaces a s → RowFilled n put s (2 * pointPlaces) b t → EdgeRows n out put a b c t
 edge-rows {n} q f g h =
-    let few = q .asked .lengths .few in
+    let few = q .asked .limits .out-lengths .few in
     record {
       row-c = row-kept (row-kept (f .row) g (omega arith)) h (omega arith);
       row-a = row-kept (g .row) h (omega arith);
@@ -270,22 +282,22 @@ edge-rows {n} q f g h =
       size = h .size ∙ g .size ∙ f .size ∙ q .size;
     }
 
-module _ {n : ℕ} {table : List ℕ} {a b c : ℕ} {t : Triangle} (q : EdgeAsked n table a b c) (i : EdgeTriangle n table a b c t) where
+module _ {n : ℕ} {out put : List ℕ} {a b c : ℕ} {t : Triangle} (q : EdgeAsked n out put a b c) (i : EdgeTriangle n out put a b c t) where
   pub edge-short : Short (t .pq) (t .cp) (t .cq)
-  edge-short = short-of (q .lengths) a b c (i .is-ab) (i .is-ca) (i .is-cb)
+  edge-short = short-of (q .limits) a b c (i .is-ab) (i .is-ca) (i .is-cb)
 
-  pub edge-bound : {r : ℕ} → r ≡ tightenedBy c a b (t .pq) (t .cp) (t .cq) loose → r ≡ boundOf (lengthOf n table) (edge a b ∷ []) c
+  pub edge-bound : {r : ℕ} → r ≡ tightenedBy c a b (t .pq) (t .cp) (t .cq) loose → r ≡ boundOf (lengthOf n out) (lengthOf n put) (edge a b ∷ []) c
   unfolding boundOf
-  edge-bound e = e ∙ tightened-sides n table c a b loose (i .is-ab) (i .is-ca) (i .is-cb)
+  edge-bound e = e ∙ tightened-sides n out put c a b loose (i .is-ab) (i .is-ca) (i .is-cb)
 
-module _ {n : ℕ} {table marks rows : List ℕ} {a b c : ℕ} (q : EdgeLegsAsked n table marks a b c) (s : EdgeRows n table a b c rows) where
+module _ {n : ℕ} {out put marks rows : List ℕ} {a b c : ℕ} (q : EdgeLegsAsked n out put marks a b c) (s : EdgeRows n out put a b c rows) where
   pub edge-open : OpenAsked n marks rows c 0
-  edge-open = record { few = q .asked .lengths .few; marked = q .marked; centre = q .asked .centre; row = row-lent (q .asked .lengths) (s .row-c) }
+  edge-open = record { few = q .asked .limits .out-lengths .few; marked = q .marked; centre = q .asked .centre; row = row-lent (q .asked .limits .out-lengths) (s .row-c) }
 
-  module _ {t : Triangle} (i : EdgeTriangle n table a b c t) {legs : List ℕ} (o : OpenLegs pendingMark n marks rows c 0 legs) where
-    edge-hand : AtHand n table rows c a b (t .ps) (t .qs) (t .pq) (t .cp) (t .cq)
+  module _ {t : Triangle} (i : EdgeTriangle n out put a b c t) {legs : List ℕ} (o : OpenLegs pendingMark n marks rows c 0 legs) where
+    edge-hand : AtHand n out put rows c a b (t .ps) (t .qs) (t .pq) (t .cp) (t .cq)
     edge-hand = record {
-      lengths = q .asked .lengths;
+      limits = q .asked .limits;
       row-p = rw (i .start-a) (s .row-a);
       row-q = rw (i .start-b) (s .row-b);
       is-pq = i .is-ab;
@@ -296,18 +308,18 @@ module _ {n : ℕ} {table marks rows : List ℕ} {a b c : ℕ} (q : EdgeLegsAske
     pub edge-narrow : NarrowAsked n rows legs (t .ps) (t .qs) (t .pq) (t .cp) (t .cq)
     edge-narrow = hand-asks edge-hand (o .list)
 
-    pub edge-legs : {r : List ℕ} → Narrowed n rows legs (t .ps) (t .qs) (t .pq) (t .cp) (t .cq) r → EdgeLegs n table marks a b c r
-    edge-legs w = record { list = w .list; each = hand-legs edge-hand (unstruckIn n marks) [] (row-opens (s .row-c) o) w }
+    pub edge-legs : {r : List ℕ} → Narrowed n rows legs (t .ps) (t .qs) (t .pq) (t .cp) (t .cq) r → EdgeLegs n out put marks a b c r
+    edge-legs w = record { list = w .list; each = hand-legs edge-hand (unstruckIn n marks) [] (row-opens (lengthOf n put) (s .row-c) o) w }
 
 -- the set of one edge: its only edge is the first that is stored
-module _ {n : ℕ} {table marks : List ℕ} {k : EdgeSet} {c : ℕ} (g : SingleAsked n table marks k c) where
+module _ {n : ℕ} {out put marks : List ℕ} {k : EdgeSet} {c : ℕ} (g : SingleAsked n out put marks k c) where
   pub single-first : 0 < k .count
   single-first = omega (arith, g .one)
 
-  pub single-asked : EdgeLegsAsked n table marks (getD (k .from) 0 0) (getD (k .to) 0 0) c
+  pub single-asked : EdgeLegsAsked n out put marks (getD (k .from) 0 0) (getD (k .to) 0 0) c
   single-asked = record {
     asked = record {
-      lengths = g .legs .lengths;
+      limits = g .legs .limits;
       centre = g .legs .centre;
       from = g .held .points .from-point 0 single-first;
       to = g .held .points .to-point 0 single-first;
@@ -319,24 +331,26 @@ module _ {n : ℕ} {table marks : List ℕ} {k : EdgeSet} {c : ℕ} (g : SingleA
   unfolding edgeList edgesOf
   single-list = ap (edgesOf (k .from) (k .to)) (g .one)
 
-  single-tight : boundOf (lengthOf n table) (edge (getD (k .from) 0 0) (getD (k .to) 0 0) ∷ []) c ≤ loose
+  single-tight : boundOf (lengthOf n out) (lengthOf n put) (edge (getD (k .from) 0 0) (getD (k .to) 0 0) ∷ []) c ≤ loose
   unfolding boundOf
-  single-tight = tightened-le (lengthOf n table) c (getD (k .from) 0 0) (getD (k .to) 0 0) loose
+  single-tight = tightened-le (lengthOf n out) (lengthOf n put) c (getD (k .from) 0 0) (getD (k .to) 0 0) loose
 
-  pub single-split : {legs : List ℕ} {bound : ℕ} → EdgeLegs n table marks (getD (k .from) 0 0) (getD (k .to) 0 0) c legs
-      → bound ≡ boundOf (lengthOf n table) (edge (getD (k .from) 0 0) (getD (k .to) 0 0) ∷ []) c → SplitOf pendingMark n table marks k c legs bound
-  unfolding legOf candidateLeg?
+  -- nothing of condition 5 falls on a leg of {ab}
+  single-leg : (l m : ℕ → ℕ → ℕ) (open? : ℕ → ℕ → Bool) (a b x : ℕ) → candidateLeg? l m open? (edge a b ∷ []) c x ≡ leg? l m open? (edge a b ∷ []) c x
+  unfolding candidateLeg?
+  single-leg l m open? a b x =
+      ap (λ (t : Bool). leg? l m open? (edge a b ∷ []) c x && t)
+      (and-both (settled? l m (edge a b ∷ []) c x) (endStays? l m (edge a b ∷ []) c x) (single-settled l m a b c x) (single-end l m a b c x))
+      ∙ and-yes (leg? l m open? (edge a b ∷ []) c x)
+
+  pub single-split : {legs : List ℕ} {bound : ℕ} → EdgeLegs n out put marks (getD (k .from) 0 0) (getD (k .to) 0 0) c legs
+      → bound ≡ boundOf (lengthOf n out) (lengthOf n put) (edge (getD (k .from) 0 0) (getD (k .to) 0 0) ∷ []) c → SplitOf pendingMark n out put marks k c legs bound
+  unfolding legOf
   single-split {legs} {bound} l b = record {
     bounded = record { list = l .list; tight = omega (arith, b, single-tight) };
-    prepared = subst (λ (K : List Edge). Prepared n (lengthOf n table) (unstruckIn n marks) K c legs bound) (sym single-list) (record { each = single-each; least = b });
+    prepared = subst (λ (K : List Edge). Prepared n (lengthOf n out) (lengthOf n put) (unstruckIn n marks) K c legs bound) (sym single-list) (record {
+      each = λ x p.
+          l .each x p ∙ ap (λ (t : Bool). cond t (lengthOf n out c x) far) (sym (single-leg (lengthOf n out) (lengthOf n put) (unstruckIn n marks) (getD (k .from) 0 0) (getD (k .to) 0 0) x));
+      least = b;
+    });
   }
-    where
-      single-each : LegsBy n (lengthOf n table) c (λ (x : ℕ). leg? (lengthOf n table) (unstruckIn n marks) (edge (getD (k .from) 0 0) (getD (k .to) 0 0) ∷ []) c x && (settled? (lengthOf n table) (lengthOf n table) (edge (getD (k .from) 0 0) (getD (k .to) 0 0) ∷ []) c x && endStays? (lengthOf n table) (lengthOf n table) (edge (getD (k .from) 0 0) (getD (k .to) 0 0) ∷ []) c x)) legs
-      single-each x p =
-          let K = edge (getD (k .from) 0 0) (getD (k .to) 0 0) ∷ [] in
-          let both : settled? (lengthOf n table) (lengthOf n table) K c x && endStays? (lengthOf n table) (lengthOf n table) K c x ≡ true =
-          and-both (settled? (lengthOf n table) (lengthOf n table) K c x) (endStays? (lengthOf n table) (lengthOf n table) K c x)
-          (single-settled (lengthOf n table) (lengthOf n table) (getD (k .from) 0 0) (getD (k .to) 0 0) c x) (single-end (lengthOf n table) (lengthOf n table) (getD (k .from) 0 0) (getD (k .to) 0 0) c x) in
-          let e : leg? (lengthOf n table) (unstruckIn n marks) K c x && (settled? (lengthOf n table) (lengthOf n table) K c x && endStays? (lengthOf n table) (lengthOf n table) K c x) ≡ leg? (lengthOf n table) (unstruckIn n marks) K c x =
-          ap (λ (b : Bool). leg? (lengthOf n table) (unstruckIn n marks) K c x && b) both ∙ and-yes (leg? (lengthOf n table) (unstruckIn n marks) K c x) in
-          l .each x p ∙ ap (λ (b : Bool). cond b (lengthOf n table c x) far) (sym e)

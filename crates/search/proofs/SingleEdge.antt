@@ -145,12 +145,12 @@ module _ {K : List Edge} {c other : ℕ} (end : EndOf K c other) (n x y : ℕ) (
 -- which pairs are feasible
 
 -- a pair is feasible exactly when it passes the comparison and is not a, b
-pub single-feasible : {n : ℕ} {table : List ℕ} {open? : ℕ → ℕ → Bool} {a b c : ℕ} {legs : List ℕ} {bound : ℕ}
-    → Lengths n table → Prepared n (lengthOf n table) open? (edge a b ∷ []) c legs bound → 4 ≤ n → (a ≡ b → ⊥) → (c ≡ a → ⊥) → (c ≡ b → ⊥)
+pub single-feasible : {n : ℕ} {out table : List ℕ} {open? : ℕ → ℕ → Bool} {a b c : ℕ} {legs : List ℕ} {bound : ℕ}
+    → Lengths n out → Lengths n table → Prepared n (lengthOf n out) (lengthOf n table) open? (edge a b ∷ []) c legs bound → 4 ≤ n → (a ≡ b → ⊥) → (c ≡ a → ⊥) → (c ≡ b → ⊥)
     → (x y : ℕ) → Point n x → Point n y → (x ≡ y → ⊥)
-    → feasible? n (lengthOf n table) open? (edge a b ∷ []) c x y ≡ passes? n table legs bound x y && not (joins? a b x y)
-single-feasible {n} {table} {open?} {a} {b} {c} {legs} {bound} h p least apart c-a c-b x y px py x-y =
-    feasible-passes h p x y px py ∙ ap (λ (t : Bool). passes? n table legs bound x y && t) (shape-single a b c apart c-a c-b n least x y x-y)
+    → feasible? n (lengthOf n out) (lengthOf n table) open? (edge a b ∷ []) c x y ≡ passes? n table legs bound x y && not (joins? a b x y)
+single-feasible {n} {out} {table} {open?} {a} {b} {c} {legs} {bound} f h p least apart c-a c-b x y px py x-y =
+    feasible-passes f h p x y px py ∙ ap (λ (t : Bool). passes? n table legs bound x y && t) (shape-single a b c apart c-a c-b n least x y x-y)
 
 -- two tests that agree on the pairs x < y of 1 to n keep the same pairs
 keep-agree : (n : ℕ) (t u : ℕ → ℕ → Bool) → ((x y : ℕ) → IsEdgeUp n x y → t x y ≡ u x y) → (es : List Edge) → PairsInOrder n es → keep t es ≡ keep u es
@@ -163,33 +163,33 @@ keep-agree n t u h (edge x y ∷ es) ch = go (t x y) refl (keep-agree n t u h es
     go false e ih = keep-no t x y es e ∙ ih ∙ sym (keep-no u x y es (sym (h x y (ch .0)) ∙ e))
 
 -- the feasible pairs are those that a test keeps which passes a pair on the same terms
-pub single-pairs : {n : ℕ} {table : List ℕ} {open? : ℕ → ℕ → Bool} {a b c : ℕ} {legs : List ℕ} {bound : ℕ}
-    → Lengths n table → Prepared n (lengthOf n table) open? (edge a b ∷ []) c legs bound → 4 ≤ n → (a ≡ b → ⊥) → (c ≡ a → ⊥) → (c ≡ b → ⊥)
+pub single-pairs : {n : ℕ} {out table : List ℕ} {open? : ℕ → ℕ → Bool} {a b c : ℕ} {legs : List ℕ} {bound : ℕ}
+    → Lengths n out → Lengths n table → Prepared n (lengthOf n out) (lengthOf n table) open? (edge a b ∷ []) c legs bound → 4 ≤ n → (a ≡ b → ⊥) → (c ≡ a → ⊥) → (c ≡ b → ⊥)
     → (t : ℕ → ℕ → Bool) → ((x y : ℕ) → IsEdgeUp n x y → t x y ≡ passes? n table legs bound x y && not (joins? a b x y))
-    → keep t (edges n) ≡ feasiblePairs n (lengthOf n table) open? (edge a b ∷ []) c
+    → keep t (edges n) ≡ feasiblePairs n (lengthOf n out) (lengthOf n table) open? (edge a b ∷ []) c
 unfolding feasiblePairs
-single-pairs {n} {table} {open?} {a} {b} {c} h p least apart c-a c-b t same =
-    keep-agree n t (feasible? n (lengthOf n table) open? (edge a b ∷ []) c)
+single-pairs {n} {out} {table} {open?} {a} {b} {c} f h p least apart c-a c-b t same =
+    keep-agree n t (feasible? n (lengthOf n out) (lengthOf n table) open? (edge a b ∷ []) c)
     (λ x y e.
     same x y e
-    ∙ sym (single-feasible h p least apart c-a c-b x y
+    ∙ sym (single-feasible f h p least apart c-a c-b x y
     (record { low = e .low; high = omega (arith, e .up, e .high) })
     (record { low = omega (arith, e .low, e .up); high = e .high })
     (λ q. omega (arith, e .up))))
     (edges n) (order-edges n)
 
 -- at an end of the edge: a pair is feasible exactly when it passes the comparison and the other end is one of it
-pub end-pairs : {n : ℕ} {table : List ℕ} {open? : ℕ → ℕ → Bool} {K : List Edge} {c other : ℕ} {legs : List ℕ} {bound : ℕ}
-    → Lengths n table → Prepared n (lengthOf n table) open? K c legs bound → EndOf K c other
+pub end-pairs : {n : ℕ} {out table : List ℕ} {open? : ℕ → ℕ → Bool} {K : List Edge} {c other : ℕ} {legs : List ℕ} {bound : ℕ}
+    → Lengths n out → Lengths n table → Prepared n (lengthOf n out) (lengthOf n table) open? K c legs bound → EndOf K c other
     → (t : ℕ → ℕ → Bool) → ((x y : ℕ) → IsEdgeUp n x y → t x y ≡ passes? n table legs bound x y && either? other x y)
-    → keep t (edges n) ≡ feasiblePairs n (lengthOf n table) open? K c
+    → keep t (edges n) ≡ feasiblePairs n (lengthOf n out) (lengthOf n table) open? K c
 unfolding feasiblePairs
-end-pairs {n} {table} {open?} {K} {c} {other} {legs} {bound} h p end t same =
-    keep-agree n t (feasible? n (lengthOf n table) open? K c)
+end-pairs {n} {out} {table} {open?} {K} {c} {other} {legs} {bound} f h p end t same =
+    keep-agree n t (feasible? n (lengthOf n out) (lengthOf n table) open? K c)
     (λ x y e.
     same x y e
     ∙ ap (λ (s : Bool). passes? n table legs bound x y && s) (sym (shape-end end n x y (λ q. omega (arith, e .up))))
-    ∙ sym (feasible-passes h p x y
+    ∙ sym (feasible-passes f h p x y
     (record { low = e .low; high = omega (arith, e .up, e .high) })
     (record { low = omega (arith, e .low, e .up); high = e .high })))
     (edges n) (order-edges n)

@@ -1,4 +1,4 @@
-// What the search at a split point looks up for every pair, computed once.
+// What the search at a split point looks up for every pair, computed once. What is taken out is measured by the table `out`, what is put in by the table `put`.
 use lengths::edge;
 use lengths::instance::Instance;
 use lengths::rows::fill_row;
@@ -28,8 +28,8 @@ ghost use Rattle.lengths.specs.Table.{lengthOf};
 ghost use Rattle.marks.specs.Mark.{openMark, pendingMark};
 ghost use Rattle.marks.specs.Packed.{marksOf};
 
-// legs[x] is the length from the split point c to x where cx is open and compatible with every edge of K, no point of degree two of K moves
-// between c and x, and x itself stays; else FAR. A pair x, y meets conditions 1, 4 and 5 exactly when legs[x] + legs[y] + MOST_LENGTH is at most l(xy) + bound.
+// legs[x] is the length from the split point c to x, as it is taken out, where cx is open and compatible with every edge of K, no point of degree two of K moves
+// between c and x, and x itself stays; else FAR. A pair x, y meets conditions 1, 4 and 5 exactly when legs[x] + legs[y] + MOST_LENGTH is at most put(xy) + bound.
 pub struct Split {
     pub legs: [u32; Instance::PLACES],
     pub bound: u32,
@@ -44,17 +44,17 @@ struct Triangle {
     cq: u32,
 }
 
-// The triangle of c and the edge pq, by the rows of all points.
-fn triangle_of(n: u16, rows: &[u32], c: u16, p: u16, q: u16) -> Triangle
-    requires { ⌜ TriangleAsked n (now rows) c p q ⌝ }
-    ensures { λ r. ⌜ TriangleIn n (now (rows .entry)) c p q r ⌝ }
+// The triangle of c and the edge pq, by the rows of all points: pq is taken out, cp and cq are put in.
+fn triangle_of(n: u16, out: &[u32], put: &[u32], c: u16, p: u16, q: u16) -> Triangle
+    requires { ⌜ TriangleAsked n (now out) (now put) c p q ⌝ }
+    ensures { λ r. ⌜ TriangleIn n (now (out .entry)) (now (put .entry)) c p q r ⌝ }
 {
     let cs = row_start(n, c);
     let ps = row_start(n, p);
     let qs = row_start(n, q);
-    let pq = length_in(rows, ps, q);
-    let cp = length_in(rows, cs, p);
-    let cq = length_in(rows, cs, q);
+    let pq = length_in(out, ps, q);
+    let cp = length_in(put, cs, p);
+    let cq = length_in(put, cs, q);
     Triangle {
         ps: ps,
         qs: qs,
@@ -67,16 +67,18 @@ fn triangle_of(n: u16, rows: &[u32], c: u16, p: u16, q: u16) -> Triangle
 // Takes the edge uv of K into the legs, and answers the bound with it: an edge that touches c changes neither.
 fn take_in(
     n: u16,
-    table: &[u8],
-    rows: &[u32],
+    out: &[u8],
+    put: &[u8],
+    outs: &[u32],
+    puts: &[u32],
     c: u16,
     u: u16,
     v: u16,
     legs: &mut [u32; Instance::PLACES],
     bound: u32,
 ) -> u32
-    requires { ⌜ TakeAsked n (whole32 (now table)) (now rows) c u v (now legs) bound ⌝ }
-    ensures { λ r. ⌜ TakenIn n (whole32 (now (table .entry))) c u v (now (legs .entry)) bound (now (legs .exit)) r ⌝ }
+    requires { ⌜ TakeAsked n (whole32 (now out)) (whole32 (now put)) (now outs) (now puts) c u v (now legs) bound ⌝ }
+    ensures { λ r. ⌜ TakenIn n (whole32 (now (out .entry))) (whole32 (now (put .entry))) c u v (now (legs .entry)) bound (now (legs .exit)) r ⌝ }
 {
     if u == c {
         return bound;
@@ -84,35 +86,37 @@ fn take_in(
     if v == c {
         return bound;
     }
-    let t = triangle_of(n, rows, c, u, v);
-    narrow(n, rows, legs, t.ps, t.qs, t.pq, t.cp, t.cq);
+    let t = triangle_of(n, outs, puts, c, u, v);
+    narrow(n, puts, legs, t.ps, t.qs, t.pq, t.cp, t.cq);
     tighten(c, u, v, t.pq, t.cp, t.cq, bound)
 }
 
 // Takes all edges of k into the legs, which are all FAR when lent, within a sheet, to which a pending edge is struck; and answers the bound.
-// The table is there to name the lengths: the rows hold them.
+// The tables are there to name the lengths: the rows hold them.
 fn take_in_all(
     n: u16,
-    table: &[u8],
-    rows: &[u32],
+    out: &[u8],
+    put: &[u8],
+    outs: &[u32],
+    puts: &[u32],
     marks: &[u8],
     k: EdgeSet,
     c: u16,
     legs: &mut [u32; Instance::PLACES],
 ) -> u32
-    requires { ⌜ SplitAsked n (whole32 (now table)) (now rows) (marksOf n (now marks)) k c ⌝ }
+    requires { ⌜ SplitAsked n (whole32 (now out)) (whole32 (now put)) (now outs) (now puts) (marksOf n (now marks)) k c ⌝ }
     requires { ⌜ now legs ≡ replicate pointPlaces far ⌝ }
-    ensures { λ r. ⌜ AllTaken n (whole32 (now (table .entry))) (marksOf n (now (marks .entry))) k c (now (legs .exit)) r ⌝ }
+    ensures { λ r. ⌜ AllTaken n (whole32 (now (out .entry))) (whole32 (now (put .entry))) (marksOf n (now (marks .entry))) k c (now (legs .exit)) r ⌝ }
 {
     let from = k.from;
     let to = k.to;
     let count = k.count;
     let at = row_start(n, c);
-    open_legs(n, marks, mark::OPEN, c, rows, at, legs);
+    open_legs(n, marks, mark::OPEN, c, outs, at, legs);
     let mut bound = bound::LOOSE;
     let mut i = 0;
     while i < count {
-        bound = take_in(n, table, rows, c, from[i], to[i], legs, bound);
+        bound = take_in(n, out, put, outs, puts, c, from[i], to[i], legs, bound);
         i += 1;
     }
     bound
@@ -121,41 +125,43 @@ fn take_in_all(
 // What the search looks up for k at c within a sheet: writes the legs, which are all FAR when lent, and answers the bound.
 pub fn prepare(
     n: u16,
-    table: &[u8],
-    rows: &[u32],
+    out: &[u8],
+    put: &[u8],
+    outs: &[u32],
+    puts: &[u32],
     marks: &[u8],
     k: EdgeSet,
     c: u16,
     legs: &mut [u32; Instance::PLACES],
 ) -> u32
-    requires { ⌜ SplitAsked n (whole32 (now table)) (now rows) (marksOf n (now marks)) k c ⌝ }
+    requires { ⌜ SplitAsked n (whole32 (now out)) (whole32 (now put)) (now outs) (now puts) (marksOf n (now marks)) k c ⌝ }
     requires { ⌜ now legs ≡ replicate pointPlaces far ⌝ }
-    ensures { λ r. ⌜ SplitOf openMark n (whole32 (now (table .entry))) (marksOf n (now (marks .entry))) k c (now (legs .exit)) r ⌝ }
+    ensures { λ r. ⌜ SplitOf openMark n (whole32 (now (out .entry))) (whole32 (now (put .entry))) (marksOf n (now (marks .entry))) k c (now (legs .exit)) r ⌝ }
 {
-    let bound = take_in_all(n, table, rows, marks, k, c, legs);
-    settle_all(n, rows, rows, k, c, legs);
-    settle_ends(n, rows, rows, k, c, legs);
+    let bound = take_in_all(n, out, put, outs, puts, marks, k, c, legs);
+    settle_all(n, outs, puts, k, c, legs);
+    settle_ends(n, outs, puts, k, c, legs);
     bound
 }
 
-// Writes the rows of c, a and b side by side.
-fn fill_edge_rows(n: u16, table: &[u8], a: u16, b: u16, c: u16, rows: &mut [u32])
-    requires { ⌜ EdgeRowsAsked n (whole32 (now table)) a b c (now rows) ⌝ }
-    ensures { λ _. ⌜ EdgeRows n (whole32 (now (table .entry))) a b c (now (rows .exit)) ⌝ }
+// Writes the row of c of what is taken out and those of a and b of what is put in side by side.
+fn fill_edge_rows(n: u16, out: &[u8], put: &[u8], a: u16, b: u16, c: u16, rows: &mut [u32])
+    requires { ⌜ EdgeRowsAsked n (whole32 (now out)) (whole32 (now put)) a b c (now rows) ⌝ }
+    ensures { λ _. ⌜ EdgeRows n (whole32 (now (out .entry))) (whole32 (now (put .entry))) a b c (now (rows .exit)) ⌝ }
 {
-    fill_row(n, table, c, rows, 0);
-    fill_row(n, table, a, rows, Instance::PLACES);
-    fill_row(n, table, b, rows, 2 * Instance::PLACES);
+    fill_row(n, out, c, rows, 0);
+    fill_row(n, put, a, rows, Instance::PLACES);
+    fill_row(n, put, b, rows, 2 * Instance::PLACES);
 }
 
-// The triangle of c and the edge ab, by the table and these rows.
-fn edge_triangle(n: u16, table: &[u8], a: u16, b: u16, c: u16) -> Triangle
-    requires { ⌜ EdgeAsked n (whole32 (now table)) a b c ⌝ }
-    ensures { λ r. ⌜ EdgeTriangle n (whole32 (now (table .entry))) a b c r ⌝ }
+// The triangle of c and the edge ab, by the tables and these rows.
+fn edge_triangle(n: u16, out: &[u8], put: &[u8], a: u16, b: u16, c: u16) -> Triangle
+    requires { ⌜ EdgeAsked n (whole32 (now out)) (whole32 (now put)) a b c ⌝ }
+    ensures { λ r. ⌜ EdgeTriangle n (whole32 (now (out .entry))) (whole32 (now (put .entry))) a b c r ⌝ }
 {
-    let ab = length_between(n, table, a, b) as u32;
-    let ca = length_between(n, table, c, a) as u32;
-    let cb = length_between(n, table, c, b) as u32;
+    let ab = length_between(n, out, a, b) as u32;
+    let ca = length_between(n, put, c, a) as u32;
+    let cb = length_between(n, put, c, b) as u32;
     Triangle {
         ps: Instance::PLACES,
         qs: 2 * Instance::PLACES,
@@ -168,44 +174,45 @@ fn edge_triangle(n: u16, table: &[u8], a: u16, b: u16, c: u16) -> Triangle
 // The legs of K = {ab} at c, where a pending edge counts as open.
 fn legs_for_edge(
     n: u16,
-    table: &[u8],
+    out: &[u8],
+    put: &[u8],
     marks: &[u8],
     a: u16,
     b: u16,
     c: u16,
 ) -> [u32; Instance::PLACES]
-    requires { ⌜ EdgeLegsAsked n (whole32 (now table)) (marksOf n (now marks)) a b c ⌝ }
-    ensures { λ r. ⌜ EdgeLegs n (whole32 (now (table .entry))) (marksOf n (now (marks .entry))) a b c r ⌝ }
+    requires { ⌜ EdgeLegsAsked n (whole32 (now out)) (whole32 (now put)) (marksOf n (now marks)) a b c ⌝ }
+    ensures { λ r. ⌜ EdgeLegs n (whole32 (now (out .entry))) (whole32 (now (put .entry))) (marksOf n (now (marks .entry))) a b c r ⌝ }
 {
     let mut rows = [0u32; 3 * Instance::PLACES];
-    fill_edge_rows(n, table, a, b, c, &mut rows);
+    fill_edge_rows(n, out, put, a, b, c, &mut rows);
     let mut legs = [legs::FAR; Instance::PLACES];
     open_legs(n, marks, mark::PENDING, c, &rows, 0, &mut legs);
-    let t = edge_triangle(n, table, a, b, c);
+    let t = edge_triangle(n, out, put, a, b, c);
     narrow(n, &rows, &mut legs, t.ps, t.qs, t.pq, t.cp, t.cq);
     legs
 }
 
 // The bound of K = {ab} at c.
-fn bound_for_edge(n: u16, table: &[u8], a: u16, b: u16, c: u16) -> u32
-    requires { ⌜ EdgeAsked n (whole32 (now table)) a b c ⌝ }
-    ensures { λ r. ⌜ r ≡ boundOf (lengthOf n (whole32 (now (table .entry)))) (edge a b ∷ []) c ⌝ }
+fn bound_for_edge(n: u16, out: &[u8], put: &[u8], a: u16, b: u16, c: u16) -> u32
+    requires { ⌜ EdgeAsked n (whole32 (now out)) (whole32 (now put)) a b c ⌝ }
+    ensures { λ r. ⌜ r ≡ boundOf (lengthOf n (whole32 (now (out .entry)))) (lengthOf n (whole32 (now (put .entry)))) (edge a b ∷ []) c ⌝ }
 {
-    let t = edge_triangle(n, table, a, b, c);
+    let t = edge_triangle(n, out, put, a, b, c);
     tighten(c, a, b, t.pq, t.cp, t.cq, bound::LOOSE)
 }
 
 // What the search looks up for a set k of one edge at c in the pair list, which counts a pending edge as open, by three rows alone.
-pub fn prepare_single(n: u16, table: &[u8], marks: &[u8], k: EdgeSet, c: u16) -> Split
-    requires { ⌜ SingleAsked n (whole32 (now table)) (marksOf n (now marks)) k c ⌝ }
-    ensures { λ r. ⌜ SplitOf pendingMark n (whole32 (now (table .entry))) (marksOf n (now (marks .entry))) k c (r .legs) (r .bound) ⌝ }
+pub fn prepare_single(n: u16, out: &[u8], put: &[u8], marks: &[u8], k: EdgeSet, c: u16) -> Split
+    requires { ⌜ SingleAsked n (whole32 (now out)) (whole32 (now put)) (marksOf n (now marks)) k c ⌝ }
+    ensures { λ r. ⌜ SplitOf pendingMark n (whole32 (now (out .entry))) (whole32 (now (put .entry))) (marksOf n (now (marks .entry))) k c (r .legs) (r .bound) ⌝ }
 {
     let from = k.from;
     let to = k.to;
     let a = from[0];
     let b = to[0];
-    let legs = legs_for_edge(n, table, marks, a, b, c);
-    let bound = bound_for_edge(n, table, a, b, c);
+    let legs = legs_for_edge(n, out, put, marks, a, b, c);
+    let bound = bound_for_edge(n, out, put, a, b, c);
     Split {
         legs: legs,
         bound: bound,

@@ -27,7 +27,7 @@ use Rattle.argument.proofs.Equations.{close-splits, judged}
 use Rattle.argument.proofs.Sheet.{turn-over, turn-8, turn-9, turn-stops, turn-strikes, turn-rises, lines-over, lines-stop, lines-go-on}
 use Rattle.sheet_lines.specs.asks.Line.{LineAsked, MarkingAsked, TurnedAs, judgedOf, placeOf, turnedOf, marksAfter}
 use Rattle.sheets.specs.Verdict.{resultOf}
-use Rattle.sheets.specs.Rules.{rulesOf, markingBy}
+use Rattle.sheets.specs.Rules.{rulesBetween, markingBetween}
 use Rattle.sheets.specs.Sheet.{mostRecords}
 use Rattle.sheets.specs.asks.Sheet.{recordOf}
 use Rattle.sheets.specs.asks.Walk.{walkedOf, Tried, ChainAsked}
@@ -70,14 +70,14 @@ module _ (R : Rules) (open? : ℕ → ℕ → Bool) (s : List ℕ) (i a b c firs
       unfolding andThen
       line-stops g = sym (line-walks g)
 
-module _ {n : ℕ} {table rows marks s : List ℕ} {count i : ℕ} (asked : LineAsked n table rows marks s count i) (a b c first : ℕ) (f : fits n a b (splits c first) ≡ true) where
+module _ {n : ℕ} {out put outs puts marks s : List ℕ} {count i : ℕ} (asked : LineAsked n out put outs puts marks s count i) (a b c first : ℕ) (f : fits n a b (splits c first) ≡ true) where
   pub line-marked : MarkAsked n marks a b
   line-marked =
       let t = fits-means n a b (splits c first) f in
       record { is-edge = record { first = t .point-a; second = t .point-b; apart = t .apart }; whole = asked .tried .admitted .marked }
 
   -- the first split: five more may lie inside it
-  pub line-chain : {k : EdgeSet} → Single a b k → ChainAsked n table rows marks s count k (splitLimit - 1) c
+  pub line-chain : {k : EdgeSet} → Single a b k → ChainAsked n out put outs puts marks s count k (splitLimit - 1) c
   line-chain one =
       let t = fits-means n a b (splits c first) f in
       record { tried = asked .tried; held = one .held n (t .point-a) (t .point-b); room = omega (arith, one .one); centre = t .how-fits }
@@ -102,81 +102,81 @@ module _ (R : Rules) (open? : ℕ → ℕ → Bool) (s : List ℕ) (i : ℕ) {r 
 
 -- one line from an index
 
-module _ (by n : ℕ) (table marks s : List ℕ) (last index high : ℕ) where
+module _ (by n : ℕ) (out put marks s : List ℕ) (last index high : ℕ) where
   abbrev at : ℕ → Place (List ℕ)
   at lines = placeOf marks lines last index high
 
-  turned-as : (r : Turned) (left : List ℕ) → length left ≡ length marks → ((lines : ℕ) → turn (markingBy by n table) s (at lines) ≡ turnedOf (at lines) r left) → ((lines : ℕ) → left ≡ marksAfter (at lines) (turnedOf (at lines) r left)) → TurnedAs by n table marks s last index high r left
+  turned-as : (r : Turned) (left : List ℕ) → length left ≡ length marks → ((lines : ℕ) → turn (markingBetween by n out put) s (at lines) ≡ turnedOf (at lines) r left) → ((lines : ℕ) → left ≡ marksAfter (at lines) (turnedOf (at lines) r left)) → TurnedAs by n out put marks s last index high r left
   turned-as r left k t m = record { answered = λ lines. sym (t lines); size = k; marks-left = λ lines. m lines ∙ ap (marksAfter (at lines)) (sym (t lines)) }
 
-  pub mark-over : index ≡ 0 → TurnedAs by n table marks s last index high turned.Over marks
-  mark-over e = turned-as turned.Over marks refl (λ lines. turn-over (markingBy by n table) s (at lines) e) (λ lines. refl)
+  pub mark-over : index ≡ 0 → TurnedAs by n out put marks s last index high turned.Over marks
+  mark-over e = turned-as turned.Over marks refl (λ lines. turn-over (markingBetween by n out put) s (at lines) e) (λ lines. refl)
 
-  pub mark-above : records s < index → TurnedAs by n table marks s last index high (turned.Refused 8 last) marks
-  mark-above h = turned-as (turned.Refused 8 last) marks refl (λ lines. turn-8 (markingBy by n table) s (at lines) h) (λ lines. refl)
+  pub mark-above : records s < index → TurnedAs by n out put marks s last index high (turned.Refused 8 last) marks
+  mark-above h = turned-as (turned.Refused 8 last) marks refl (λ lines. turn-8 (markingBetween by n out put) s (at lines) h) (λ lines. refl)
 
-  pub mark-low : (index ≡ 0 → ⊥) → index ≤ records s → index ≤ high → TurnedAs by n table marks s last index high (turned.Refused 9 last) marks
-  mark-low z h l = turned-as (turned.Refused 9 last) marks refl (λ lines. turn-9 (markingBy by n table) s (at lines) z h l) (λ lines. refl)
+  pub mark-low : (index ≡ 0 → ⊥) → index ≤ records s → index ≤ high → TurnedAs by n out put marks s last index high (turned.Refused 9 last) marks
+  mark-low z h l = turned-as (turned.Refused 9 last) marks refl (λ lines. turn-9 (markingBetween by n out put) s (at lines) z h l) (λ lines. refl)
 
-  module _ (h : Enters s high index) {v : Judged} (z : judgedOf v ≡ judge (rulesOf n table marks) (openIn n marks) s index) where
-    judges : {v′ : Judged} → v ≡ v′ → judge (rulesOf n table marks) (openIn n marks) s index ≡ judgedOf v′
+  module _ (h : Enters s high index) {v : Judged} (z : judgedOf v ≡ judge (rulesBetween n out put marks) (openIn n marks) s index) where
+    judges : {v′ : Judged} → v ≡ v′ → judge (rulesBetween n out put marks) (openIn n marks) s index ≡ judgedOf v′
     judges g = sym z ∙ ap judgedOf g
 
-    pub mark-stops : {m r : ℕ} → v ≡ judging.Refused m r → TurnedAs by n table marks s last index high (turned.Refused m r) marks
-    mark-stops {m} {r} g = turned-as (turned.Refused m r) marks refl (λ lines. turn-stops (markingBy by n table) s (at lines) h m r (judges g)) (λ lines. refl)
+    pub mark-stops : {m r : ℕ} → v ≡ judging.Refused m r → TurnedAs by n out put marks s last index high (turned.Refused m r) marks
+    mark-stops {m} {r} g = turned-as (turned.Refused m r) marks refl (λ lines. turn-stops (markingBetween by n out put) s (at lines) h m r (judges g)) (λ lines. refl)
 
-    pub mark-strikes : {a b next reached : ℕ} {left : List ℕ} → v ≡ judging.Strikes a b next reached → left ≡ markIn by n marks a b → TurnedAs by n table marks s last index high (turned.Struck next reached) left
+    pub mark-strikes : {a b next reached : ℕ} {left : List ℕ} → v ≡ judging.Strikes a b next reached → left ≡ markIn by n marks a b → TurnedAs by n out put marks s last index high (turned.Struck next reached) left
     unfolding struck
     mark-strikes {a} {b} {next} {reached} {left} g e =
         turned-as (turned.Struck next reached) left (ap length e ∙ length-marked by n marks a b) (λ lines.
-        turn-strikes (markingBy by n table) s (at lines) h (strikes a b next reached) (judges g) ∙ ap (λ (m : List ℕ). accepted (onward (placeOf m (suc lines) index next reached))) (sym e))
+        turn-strikes (markingBetween by n out put) s (at lines) h (strikes a b next reached) (judges g) ∙ ap (λ (m : List ℕ). accepted (onward (placeOf m (suc lines) index next reached))) (sym e))
         (λ lines. refl)
 
 -- an accepted line strikes an edge
-pub mark-marked : {by n : ℕ} {table rows marks s : List ℕ} {count : ℕ} → MarkingAsked by n table rows marks s count → (index : ℕ) {v : Judged} {a b next reached : ℕ} → judgedOf v ≡ judge (rulesOf n table marks) (openIn n marks) s index → v ≡ judging.Strikes a b next reached → SetAsked n marks a b by
-mark-marked {by} {n} {table} {rows} {marks} {s} {count} t index {v} {a} {b} {next} {reached} z g =
-    let l = judged (rulesOf n table marks) (openIn n marks) s index a b next reached (sym z ∙ ap judgedOf g) .at-line in
+pub mark-marked : {by n : ℕ} {out put outs puts marks s : List ℕ} {count : ℕ} → MarkingAsked by n out put outs puts marks s count → (index : ℕ) {v : Judged} {a b next reached : ℕ} → judgedOf v ≡ judge (rulesBetween n out put marks) (openIn n marks) s index → v ≡ judging.Strikes a b next reached → SetAsked n marks a b by
+mark-marked {by} {n} {out} {put} {outs} {puts} {marks} {s} {count} t index {v} {a} {b} {next} {reached} z g =
+    let l = judged (rulesBetween n out put marks) (openIn n marks) s index a b next reached (sym z ∙ ap judgedOf g) .at-line in
     record { asked = record { is-edge = record { first = l .point-a; second = l .point-b; apart = l .apart }; whole = t .tried .admitted .marked }; is-mark = t .is-mark }
 
 -- the lines of a sheet
 
 -- the loop's invariant: the lines from here are the lines of the sheet
-pub record Proceeding (by n : ℕ) (table rows marks₀ s : List ℕ) (count : ℕ) (marks : List ℕ) (lines last index high : ℕ) : Type 0 where
-  pub tried : Tried n table rows marks s count
+pub record Proceeding (by n : ℕ) (out put outs puts marks₀ s : List ℕ) (count : ℕ) (marks : List ℕ) (lines last index high : ℕ) : Type 0 where
+  pub tried : Tried n out put outs puts marks s count
   pub counted : lines ≤ high
-  pub goes : linesFrom (markingBy by n table) s (placeOf marks lines last index high) ≡ sheet (markingBy by n table) s marks₀
+  pub goes : linesFrom (markingBetween by n out put) s (placeOf marks lines last index high) ≡ sheet (markingBetween by n out put) s marks₀
 
-pub lines-start : {by n : ℕ} {table rows marks s : List ℕ} {count : ℕ} → Tried n table rows marks s count → Proceeding by n table rows marks s count marks 0 0 1 0
+pub lines-start : {by n : ℕ} {out put outs puts marks s : List ℕ} {count : ℕ} → Tried n out put outs puts marks s count → Proceeding by n out put outs puts marks s count marks 0 0 1 0
 unfolding sheet start
 lines-start t = record { tried = t; counted = omega arith; goes = refl }
 
-module _ {by n : ℕ} {table rows marks₀ s : List ℕ} {count : ℕ} {marks : List ℕ} {lines last index high : ℕ} (p : Proceeding by n table rows marks₀ s count marks lines last index high) {r : Turned} {left : List ℕ} (t : TurnedAs by n table marks s last index high r left) where
+module _ {by n : ℕ} {out put outs puts marks₀ s : List ℕ} {count : ℕ} {marks : List ℕ} {lines last index high : ℕ} (p : Proceeding by n out put outs puts marks₀ s count marks lines last index high) {r : Turned} {left : List ℕ} (t : TurnedAs by n out put marks s last index high r left) where
   abbrev here : Place (List ℕ)
   here = placeOf marks lines last index high
 
-  turns : {r′ : Turned} → r ≡ r′ → turn (markingBy by n table) s here ≡ turnedOf here r′ left
+  turns : {r′ : Turned} → r ≡ r′ → turn (markingBetween by n out put) s here ≡ turnedOf here r′ left
   turns g = sym (t .answered lines) ∙ ap (λ (x : Turned). turnedOf here x left) g
 
   leaves : {r′ : Turned} → r ≡ r′ → left ≡ marksAfter here (turnedOf here r′ left)
   leaves g = t .marks-left lines ∙ ap (marksAfter here) (turns g)
 
-  pub lines-accepted : r ≡ turned.Over → resultOf (verdict.Accepted lines) left ≡ sheet (markingBy by n table) s marks₀
+  pub lines-accepted : r ≡ turned.Over → resultOf (verdict.Accepted lines) left ≡ sheet (markingBetween by n out put) s marks₀
   unfolding answer
   lines-accepted g =
       ap (λ (m : List ℕ). resultOf (verdict.Accepted lines) m) (leaves g)
-      ∙ sym (lines-over (markingBy by n table) s here (turns g))
+      ∙ sym (lines-over (markingBetween by n out put) s here (turns g))
       ∙ p .goes
 
-  pub lines-refused : {m i : ℕ} → r ≡ turned.Refused m i → resultOf (verdict.Refused m i lines) left ≡ sheet (markingBy by n table) s marks₀
+  pub lines-refused : {m i : ℕ} → r ≡ turned.Refused m i → resultOf (verdict.Refused m i lines) left ≡ sheet (markingBetween by n out put) s marks₀
   unfolding answer
   lines-refused {m} {i} g =
       ap (λ (x : List ℕ). resultOf (verdict.Refused m i lines) x) (leaves g)
-      ∙ sym (lines-stop (markingBy by n table) s here m i (turns g))
+      ∙ sym (lines-stop (markingBetween by n out put) s here m i (turns g))
       ∙ p .goes
 
   module _ {next reached : ℕ} (g : r ≡ turned.Struck next reached) where
     risen : Enters s high index × (index ≤ reached)
-    risen = turn-rises (markingBy by n table) s here (placeOf left (suc lines) index next reached) (turns g)
+    risen = turn-rises (markingBetween by n out put) s here (placeOf left (suc lines) index next reached) (turns g)
 
     pub lines-few : lines + 1 ≤ mostRecords
     lines-few = omega (arith, risen .0, p .tried .admitted .few, p .counted)
@@ -184,10 +184,10 @@ module _ {by n : ℕ} {table rows marks₀ s : List ℕ} {count : ℕ} {marks : 
     pub lines-fall : records s - reached < records s - high
     lines-fall = omega (arith, risen .0, risen .1)
 
-    pub lines-on : Proceeding by n table rows marks₀ s count left (lines + 1) index next reached
+    pub lines-on : Proceeding by n out put outs puts marks₀ s count left (lines + 1) index next reached
     lines-on =
         record {
-          tried = let a = p .tried .admitted in record { admitted = record { least = a .least; lengths = a .lengths; marked = t .size ∙ a .marked; whole = a .whole; few = a .few }; in-rows = p .tried .in-rows };
+          tried = let a = p .tried .admitted in record { admitted = record { least = a .least; limits = a .limits; marked = t .size ∙ a .marked; whole = a .whole; few = a .few }; in-out = p .tried .in-out; in-put = p .tried .in-put };
           counted = omega (arith, risen .0, risen .1, p .counted);
-          goes = ap (λ (m : ℕ). linesFrom (markingBy by n table) s (placeOf left m index next reached)) (add-one lines) ∙ sym (lines-go-on (markingBy by n table) s here (placeOf left (suc lines) index next reached) (turns g)) ∙ p .goes;
+          goes = ap (λ (m : ℕ). linesFrom (markingBetween by n out put) s (placeOf left m index next reached)) (add-one lines) ∙ sym (lines-go-on (markingBetween by n out put) s here (placeOf left (suc lines) index next reached) (turns g)) ∙ p .goes;
         }

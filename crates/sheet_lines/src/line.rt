@@ -1,4 +1,5 @@
-// One line of a sheet: judged against the marks as they are, and then marked; and a sheet as the repetition of one line.
+// One line of a sheet: judged against the marks as they are, and then marked; and a sheet as the repetition of one line. What is taken out is measured
+// by the table `out`, what is put in by the table `put`; `outs` and `puts` are their rows.
 use lengths::refusal;
 use marks::mark;
 use marks::mark::is_open;
@@ -21,7 +22,7 @@ ghost use Rattle.argument.specs.Line as judging;
 ghost use Rattle.argument.specs.Sheet as lines;
 ghost use Rattle.sheet_lines.specs.asks.Line.{MarkingAsked, LineAsked, TurnedAs, judgedOf};
 ghost use Rattle.sheets.specs.Verdict.{resultOf};
-ghost use Rattle.sheets.specs.Rules.{rulesOf, markingBy};
+ghost use Rattle.sheets.specs.Rules.{rulesBetween, markingBetween};
 ghost use Rattle.sheets.specs.asks.Sheet.{recordOf};
 
 // What a line that was entered comes to: it strikes its edge, with the next index and the highest record entered, or it is refused.
@@ -45,16 +46,18 @@ pub enum Turned {
 // Judges the line that was read as record i.
 fn judge_line(
     n: u16,
-    table: &[u8],
-    rows: &[u32],
+    out: &[u8],
+    put: &[u8],
+    outs: &[u32],
+    puts: &[u32],
     marks: &[u8],
     sheet: &[u8],
     count: u16,
     i: u16,
     line: Line,
 ) -> Judged
-    requires { ⌜ LineAsked n (whole32 (now table)) (now rows) (marksOf n (now marks)) (whole16 (now sheet)) count i ⌝ }
-    ensures { λ r. ⌜ judgedOf r ≡ judgeRecord (rulesOf n (whole32 (now (table .entry))) (marksOf n (now (marks .entry)))) (openIn n (marksOf n (now (marks .entry)))) (whole16 (now (sheet .entry))) i (recordOf (Record.Line line)) ⌝ }
+    requires { ⌜ LineAsked n (whole32 (now out)) (whole32 (now put)) (now outs) (now puts) (marksOf n (now marks)) (whole16 (now sheet)) count i ⌝ }
+    ensures { λ r. ⌜ judgedOf r ≡ judgeRecord (rulesBetween n (whole32 (now (out .entry))) (whole32 (now (put .entry))) (marksOf n (now (marks .entry)))) (openIn n (marksOf n (now (marks .entry)))) (whole16 (now (sheet .entry))) i (recordOf (Record.Line line)) ⌝ }
 {
     let closing = Closing::Split {
         point: line.point,
@@ -69,8 +72,10 @@ fn judge_line(
     let k = EdgeSet::single(line.a, line.b);
     match chain(
         n,
-        table,
-        rows,
+        out,
+        put,
+        outs,
+        puts,
         marks,
         sheet,
         count,
@@ -93,18 +98,20 @@ fn judge_line(
 // Judges the line that record i should be.
 pub fn judge(
     n: u16,
-    table: &[u8],
-    rows: &[u32],
+    out: &[u8],
+    put: &[u8],
+    outs: &[u32],
+    puts: &[u32],
     marks: &[u8],
     sheet: &[u8],
     count: u16,
     i: u16,
 ) -> Judged
-    requires { ⌜ LineAsked n (whole32 (now table)) (now rows) (marksOf n (now marks)) (whole16 (now sheet)) count i ⌝ }
-    ensures { λ r. ⌜ judgedOf r ≡ judging.judge (rulesOf n (whole32 (now (table .entry))) (marksOf n (now (marks .entry)))) (openIn n (marksOf n (now (marks .entry)))) (whole16 (now (sheet .entry))) i ⌝ }
+    requires { ⌜ LineAsked n (whole32 (now out)) (whole32 (now put)) (now outs) (now puts) (marksOf n (now marks)) (whole16 (now sheet)) count i ⌝ }
+    ensures { λ r. ⌜ judgedOf r ≡ judging.judge (rulesBetween n (whole32 (now (out .entry))) (whole32 (now (put .entry))) (marksOf n (now (marks .entry)))) (openIn n (marksOf n (now (marks .entry)))) (whole16 (now (sheet .entry))) i ⌝ }
 {
     match Sheet::record(sheet, i) {
-        Record::Line(line) => judge_line(n, table, rows, marks, sheet, count, i, line),
+        Record::Line(line) => judge_line(n, out, put, outs, puts, marks, sheet, count, i, line),
         Record::Case(_) => Judged::Refused(refusal::KIND, i),
         Record::Other => Judged::Refused(refusal::KIND, i),
     }
@@ -114,8 +121,10 @@ pub fn judge(
 pub fn mark_line(
     n: u16,
     by: u8,
-    table: &[u8],
-    rows: &[u32],
+    out: &[u8],
+    put: &[u8],
+    outs: &[u32],
+    puts: &[u32],
     marks: &mut [u8],
     sheet: &[u8],
     count: u16,
@@ -123,8 +132,8 @@ pub fn mark_line(
     index: u16,
     high: u16,
 ) -> Turned
-    requires { ⌜ MarkingAsked by n (whole32 (now table)) (now rows) (marksOf n (now marks)) (whole16 (now sheet)) count ⌝ }
-    ensures { λ r. ⌜ TurnedAs by n (whole32 (now (table .entry))) (marksOf n (now (marks .entry))) (whole16 (now (sheet .entry))) last index high r (marksOf n (now (marks .exit))) ⌝ }
+    requires { ⌜ MarkingAsked by n (whole32 (now out)) (whole32 (now put)) (now outs) (now puts) (marksOf n (now marks)) (whole16 (now sheet)) count ⌝ }
+    ensures { λ r. ⌜ TurnedAs by n (whole32 (now (out .entry))) (whole32 (now (put .entry))) (marksOf n (now (marks .entry))) (whole16 (now (sheet .entry))) last index high r (marksOf n (now (marks .exit))) ⌝ }
 {
     if index == 0 {
         return Turned::Over;
@@ -135,7 +144,7 @@ pub fn mark_line(
     if index <= high {
         return Turned::Refused(refusal::INDEX_NOT_ABOVE, last);
     }
-    match judge(n, table, rows, marks, sheet, count, index) {
+    match judge(n, out, put, outs, puts, marks, sheet, count, index) {
         Judged::Strikes { a, b, next, high } => {
             set_mark(n, marks, a, b, by);
             Turned::Struck {
@@ -151,21 +160,36 @@ pub fn mark_line(
 pub fn mark_lines(
     n: u16,
     by: u8,
-    table: &[u8],
-    rows: &[u32],
+    out: &[u8],
+    put: &[u8],
+    outs: &[u32],
+    puts: &[u32],
     marks: &mut [u8],
     sheet: &[u8],
     count: u16,
 ) -> Verdict
-    requires { ⌜ MarkingAsked by n (whole32 (now table)) (now rows) (marksOf n (now marks)) (whole16 (now sheet)) count ⌝ }
-    ensures { λ r. ⌜ resultOf r (marksOf n (now (marks .exit))) ≡ lines.sheet (markingBy by n (whole32 (now (table .entry)))) (whole16 (now (sheet .entry))) (marksOf n (now (marks .entry))) ⌝ }
+    requires { ⌜ MarkingAsked by n (whole32 (now out)) (whole32 (now put)) (now outs) (now puts) (marksOf n (now marks)) (whole16 (now sheet)) count ⌝ }
+    ensures { λ r. ⌜ resultOf r (marksOf n (now (marks .exit))) ≡ lines.sheet (markingBetween by n (whole32 (now (out .entry))) (whole32 (now (put .entry)))) (whole16 (now (sheet .entry))) (marksOf n (now (marks .entry))) ⌝ }
 {
     let mut lines: u16 = 0;
     let mut last: u16 = 0;
     let mut index: u16 = 1;
     let mut high: u16 = 0;
     loop {
-        match mark_line(n, by, table, rows, marks, sheet, count, last, index, high) {
+        match mark_line(
+            n,
+            by,
+            out,
+            put,
+            outs,
+            puts,
+            marks,
+            sheet,
+            count,
+            last,
+            index,
+            high,
+        ) {
             Turned::Over => return Verdict::Accepted { lines: lines },
             Turned::Refused(number, at) => return Verdict::Refused {
                 refusal: number,

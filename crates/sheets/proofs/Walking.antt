@@ -4,10 +4,11 @@
 use Prim.Native.Nat.{ℕ, suc, _+_, _-_, _≤_, _<_}
 use mathlib.Core.Path.{_≡_, sym, _∙_, ap, ap₂}
 use mathlib.Core.Bool.{true}
+use lib.ListN.{length}
 use mathlib.Core.List.{List}
 use native.Mathlib.Omega.{arith}
 use Rattle.lists.proofs.Bools.{and-true}
-use Rattle.lengths.specs.Edge.{Edge, edge}
+use Rattle.lengths.specs.Edge.{Edge, edge, edgeCount}
 use Rattle.lengths.specs.Table.{lengthOf}
 use Rattle.marks.specs.Mark.{openMark, openIn}
 use Rattle.sets.specs.EdgeSet.{withPair}
@@ -36,7 +37,7 @@ use Rattle.argument.proofs.Tests.{means-fits}
 use Rattle.argument.proofs.Steps.{Taken, looked}
 use Rattle.argument.proofs.Fuel.{close-rises, walk-rises}
 use Rattle.argument.proofs.Equations.{walk-ends, walk-stops, walk-goes-on, walk-case-stops, close-splits, close-seventh, close-three-opts}
-use Rattle.sheets.specs.Rules.{rulesOf}
+use Rattle.sheets.specs.Rules.{rulesBetween}
 use Rattle.sheets.specs.asks.Sheet.{howOf}
 use Rattle.sheets.specs.asks.Walk.{walkedOf, lookedOf, pointsOnly, spotOf, ChainAsked, CaseAsked}
 use Rattle.sheets.specs.declared.sheet.Closing.{Closing}
@@ -49,36 +50,36 @@ use Rattle.sheets.specs.declared.walk.Looked.the-variants as looking
 use Rattle.sheets.proofs.Looking.{closing-fits, look-heads}
 
 -- where a chain's loop stands: its last pair is x, y, and 1, 1 before the first
-abbrev spotAt : (n : ℕ) (table marks : List ℕ) (k : EdgeSet) (left c x y last index high : ℕ) → Spot
-spotAt n table marks k left c x y last index high =
+abbrev spotAt : (n : ℕ) (out put marks : List ℕ) (k : EdgeSet) (left c x y last index high : ℕ) → Spot
+spotAt n out put marks k left c x y last index high =
     record {
       left = left;
       known = edgeList k;
       point = c;
-      pairs = feasibleAfter n (lengthOf n table) (openIn n marks) (edgeList k) c x y;
+      pairs = feasibleAfter n (lengthOf n out) (lengthOf n put) (openIn n marks) (edgeList k) c x y;
       last = last;
       index = index;
       high = high;
     }
 
 -- the loop's invariant
-pub record Following (n : ℕ) (table rows marks sheet : List ℕ) (count : ℕ) (k : EdgeSet) (left i c first : ℕ) (legs candidates rank : List ℕ) (bound : ℕ) (centre : Neighbours) (x y last index high : ℕ) : Type 0 where
-  pub asked : ChainAsked n table rows marks sheet count k left c
+pub record Following (n : ℕ) (out put outs puts marks sheet : List ℕ) (count : ℕ) (k : EdgeSet) (left i c first : ℕ) (legs candidates rank : List ℕ) (bound : ℕ) (centre : Neighbours) (x y last index high : ℕ) : Type 0 where
+  pub asked : ChainAsked n out put outs puts marks sheet count k left c
   pub bounded : Bounded legs bound
   pub listed : CandidatesOf n legs candidates rank
-  pub prepared : Prepared n (lengthOf n table) (openIn n marks) (edgeList k) c legs bound
+  pub prepared : Prepared n (lengthOf n out) (lengthOf n put) (openIn n marks) (edgeList k) c legs bound
   pub own : centre ≡ neighboursOf (edgeList k) c
   pub low : 1 ≤ x
   pub up : x ≤ y
   pub top : y ≤ n
-  pub walks : walk (rulesOf n table marks) sheet (spotAt n table marks k left c x y last index high) ≡ walk (rulesOf n table marks) sheet (opening (rulesOf n table marks) (suc left) (edgeList k) i c first)
+  pub walks : walk (rulesBetween n out put marks) sheet (spotAt n out put marks k left c x y last index high) ≡ walk (rulesBetween n out put marks) sheet (opening (rulesBetween n out put marks) (suc left) (edgeList k) i c first)
 
-module _ {n : ℕ} {table rows marks sheet : List ℕ} {count : ℕ} {k : EdgeSet} {left c : ℕ} (asked : ChainAsked n table rows marks sheet count k left c) where
-  pub chain-split : SplitAsked n table rows marks k c
-  chain-split = record { legs = record { lengths = asked .tried .admitted .lengths; marked = asked .tried .admitted .marked; centre = asked .centre }; in-rows = asked .tried .in-rows; held = asked .held }
+module _ {n : ℕ} {out put outs puts marks sheet : List ℕ} {count : ℕ} {k : EdgeSet} {left c : ℕ} (asked : ChainAsked n out put outs puts marks sheet count k left c) where
+  pub chain-split : SplitAsked n out put outs puts marks k c
+  chain-split = record { legs = record { limits = asked .tried .admitted .limits; marked = asked .tried .admitted .marked; centre = asked .centre }; in-out = asked .tried .in-out; in-put = asked .tried .in-put; held = asked .held }
 
-  pub follow-start : {legs candidates rank : List ℕ} {bound : ℕ} {centre : Neighbours} (i first : ℕ) → SplitOf openMark n table marks k c legs bound → centre ≡ neighboursOf (edgeList k) c
-      → CandidatesOf n legs candidates rank → Following n table rows marks sheet count k left i c first legs candidates rank bound centre 1 1 i first i
+  pub follow-start : {legs candidates rank : List ℕ} {bound : ℕ} {centre : Neighbours} (i first : ℕ) → SplitOf openMark n out put marks k c legs bound → centre ≡ neighboursOf (edgeList k) c
+      → CandidatesOf n legs candidates rank → Following n out put outs puts marks sheet count k left i c first legs candidates rank bound centre 1 1 i first i
   unfolding opening
   follow-start i first s own listed =
       let e : left ≡ suc left - 1 = omega arith in
@@ -91,27 +92,27 @@ module _ {n : ℕ} {table rows marks sheet : List ℕ} {count : ℕ} {k : EdgeSe
         low = omega arith;
         up = omega arith;
         top = omega (arith, asked .centre);
-        walks = ap₂ (λ (l : ℕ) (ps : List Edge). walk (rulesOf n table marks) sheet record { left = l; known = edgeList k; point = c; pairs = ps; last = i; index = first; high = i }) e (feasibleAfter-start n (lengthOf n table) (openIn n marks) (edgeList k) c);
+        walks = ap₂ (λ (l : ℕ) (ps : List Edge). walk (rulesBetween n out put marks) sheet record { left = l; known = edgeList k; point = c; pairs = ps; last = i; index = first; high = i }) e (feasibleAfter-start n (lengthOf n out) (lengthOf n put) (openIn n marks) (edgeList k) c);
       }
 
-module _ {n : ℕ} {table rows marks sheet : List ℕ} {count : ℕ} {k : EdgeSet} {left i c first : ℕ} {legs candidates rank : List ℕ} {bound : ℕ} {centre : Neighbours} {x y last index high : ℕ} (f : Following n table rows marks sheet count k left i c first legs candidates rank bound centre x y last index high) where
+module _ {n : ℕ} {out put outs puts marks sheet : List ℕ} {count : ℕ} {k : EdgeSet} {left i c first : ℕ} {legs candidates rank : List ℕ} {bound : ℕ} {centre : Neighbours} {x y last index high : ℕ} (f : Following n out put outs puts marks sheet count k left i c first legs candidates rank bound centre x y last index high) where
   abbrev rules : Rules
-  rules = rulesOf n table marks
+  rules = rulesBetween n out put marks
 
   abbrev here : Spot
-  here = spotAt n table marks k left c x y last index high
+  here = spotAt n out put marks k left c x y last index high
 
-  pub follow-search : Searchable n table legs candidates rank bound centre k x y
-  follow-search = record { beside = record { row = record { lengths = f .asked .tried .admitted .lengths; bounded = f .bounded; listed = f .listed; low = f .low; up = f .up; high = f .top }; apart = two-apart (edgeList k) c centre (f .own) }; held = f .asked .held }
+  pub follow-search : Searchable n put legs candidates rank bound centre k x y
+  follow-search = record { beside = record { row = record { lengths = f .asked .tried .admitted .limits .put-lengths; bounded = f .bounded; listed = f .listed; low = f .low; up = f .up; high = f .top }; apart = two-apart (edgeList k) c centre (f .own) }; held = f .asked .held }
 
   pub follow-few : k .count + 2 ≤ mostKnown
   follow-few = omega (arith, f .asked .room)
 
   -- what the code's look answers is what the walk looks at
-  module _ {next : NextPair} (found : NextPairOf n table legs bound c centre k x y next) {r : Looked} (e : lookedOf r ≡ look (pointsOnly n) sheet (spotOf next last index high)) where
+  module _ {next : NextPair} (found : NextPairOf n put legs bound c centre k x y next) {r : Looked} (e : lookedOf r ≡ look (pointsOnly n) sheet (spotOf next last index high)) where
     looks : {r′ : Looked} → r ≡ r′ → look rules sheet here ≡ lookedOf r′
     looks g =
-        look-heads rules sheet left (edgeList k) c _ last index high ∙ ap (λ (p : NextPair). look (pointsOnly n) sheet (spotOf p last index high)) (sym (found .first (openIn n marks) (f .prepared) (f .own))) ∙ sym e ∙ ap lookedOf g
+        look-heads rules sheet left (edgeList k) c _ last index high ∙ ap (λ (p : NextPair). look (pointsOnly n) sheet (spotOf p last index high)) (sym (found .first out (openIn n marks) (f .asked .tried .admitted .limits .out-lengths) (f .prepared) (f .own))) ∙ sym e ∙ ap lookedOf g
 
     pub follow-ends : r ≡ looking.ChainEnds → accepted high ≡ walk rules sheet (opening rules (suc left) (edgeList k) i c first)
     follow-ends g = sym (walk-ends rules sheet here (looks g)) ∙ f .walks
@@ -124,7 +125,7 @@ module _ {n : ℕ} {table rows marks sheet : List ℕ} {count : ℕ} {k : EdgeSe
       taken = looked rules sheet here (takes (x′ .a) (x′ .b) (howOf (x′ .closing)) (x′ .next)) (looks g)
 
       module _ {k′ : EdgeSet} (added : Added k c (x′ .a) (x′ .b) k′) where
-        pub follow-case : CaseAsked n table rows marks sheet count k′ left (x′ .closing)
+        pub follow-case : CaseAsked n out put outs puts marks sheet count k′ left (x′ .closing)
         follow-case =
             let t = taken in
             record {
@@ -147,11 +148,11 @@ module _ {n : ℕ} {table rows marks sheet : List ℕ} {count : ℕ} {k : EdgeSe
             unfolding walk
             follow-falls = omega (arith, taken .entered, close-rises rules sheet (walk rules sheet) (walk-rises rules sheet (suc (records sheet))) left _ index (howOf (x′ .closing)) reached (closes w))
 
-            pub follow-on : Following n table rows marks sheet count k left i c first legs candidates rank bound centre (x′ .a) (x′ .b) index (x′ .next) reached
+            pub follow-on : Following n out put outs puts marks sheet count k left i c first legs candidates rank bound centre (x′ .a) (x′ .b) index (x′ .next) reached
             unfolding behind
             follow-on =
                 let t = taken in
-                let h = feasibleAfter-next n (lengthOf n table) (openIn n marks) (edgeList k) c (f .low) (f .up) (f .top) (t .named) in
+                let h = feasibleAfter-next n (lengthOf n out) (lengthOf n put) (openIn n marks) (edgeList k) c (f .low) (f .up) (f .top) (t .named) in
                 record {
                   asked = f .asked;
                   bounded = f .bounded;
@@ -169,9 +170,9 @@ module _ {n : ℕ} {table rows marks sheet : List ℕ} {count : ℕ} {k : EdgeSe
 
 -- the closing of a case
 
-module _ {n : ℕ} {table rows marks sheet : List ℕ} {count : ℕ} {k : EdgeSet} {left : ℕ} {closing : Closing} (asked : CaseAsked n table rows marks sheet count k left closing) where
+module _ {n : ℕ} {out put outs puts marks sheet : List ℕ} {count : ℕ} {k : EdgeSet} {left : ℕ} {closing : Closing} (asked : CaseAsked n out put outs puts marks sheet count k left closing) where
   abbrev case-rules : Rules
-  case-rules = rulesOf n table marks
+  case-rules = rulesBetween n out put marks
 
   fitting : {how : Closing} → closing ≡ how → howFits n (howOf how) ≡ true
   fitting e = ap (λ (x : Closing). howFits n (howOf x)) (sym e) ∙ asked .points
@@ -183,7 +184,7 @@ module _ {n : ℕ} {table rows marks sheet : List ℕ} {count : ℕ} {k : EdgeSe
     pub close-too-deep : (i : ℕ) → left ≡ 0 → refused 13 i ≡ close case-rules (walk case-rules sheet) left (edgeList k) i (howOf closing)
     close-too-deep i z = sym (close-seventh case-rules sheet left (edgeList k) i point first z) ∙ closed-as i e
 
-    pub close-chain : (left ≡ 0 → ⊥) → ChainAsked n table rows marks sheet count k (left - 1) point
+    pub close-chain : (left ≡ 0 → ⊥) → ChainAsked n out put outs puts marks sheet count k (left - 1) point
     unfolding howFits
     close-chain z = record { tried = asked .tried; held = asked .held; room = omega (arith, asked .room); centre = is-point n point (fitting e) }
 
@@ -193,20 +194,22 @@ module _ {n : ℕ} {table rows marks sheet : List ℕ} {count : ℕ} {k : EdgeSe
         w ∙ ap (λ (m : ℕ). walk case-rules sheet (opening case-rules m (edgeList k) i point first)) l ∙ sym (close-splits case-rules sheet left (edgeList k) i point first (omega arith)) ∙ closed-as i e
 
   module _ {p q r s : ℕ} (e : closing ≡ ThreeOpt p q r s) where
-    pub close-three-opt-asked : ThreeOptAsked n table k p q r s
+    three-opt-over : {table : List ℕ} → length table ≡ edgeCount n → ThreeOptAsked n table k p q r s
     unfolding howFits
-    close-three-opt-asked =
+    three-opt-over whole =
         let h = and-true _ _ (fitting e) in
         let g = and-true _ _ (h .1) in
         let f = and-true _ _ (g .1) in
-        let whole = asked .tried .admitted .lengths .whole in
         record {
           edge = record { first = is-point n p (h .0); second = is-point n q (g .0); whole = whole };
           centres = record { first = is-point n r (f .0); second = is-point n s (f .1); whole = whole };
           held = asked .held;
         }
 
-    module _ (i : ℕ) {v : ThreeOptOutcome} (z : v ≡ threeOptOutcome (lengthOf n table) (edgeList k) p q r s) where
+    pub close-three-opt-asked : ThreeOptAsked n out k p q r s × ThreeOptAsked n put k p q r s
+    close-three-opt-asked = let l = asked .tried .admitted .limits in (three-opt-over (l .out-lengths .whole), three-opt-over (l .put-lengths .whole))
+
+    module _ (i : ℕ) {v : ThreeOptOutcome} (z : v ≡ threeOptOutcome (lengthOf n out) (lengthOf n put) (edgeList k) p q r s) where
       outcome-as : {v′ : ThreeOptOutcome} → v ≡ v′ → refusedBy (refusalOf v′) i i ≡ close case-rules (walk case-rules sheet) left (edgeList k) i (howOf closing)
       outcome-as g = ap (λ (x : ThreeOptOutcome). refusedBy (refusalOf x) i i) (sym g ∙ z) ∙ sym (close-three-opts case-rules sheet left (edgeList k) i p q r s) ∙ closed-as i e
 

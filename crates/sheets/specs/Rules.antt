@@ -11,24 +11,30 @@ use Rattle.rules.specs.Pairs.{feasiblePairs}
 use Rattle.argument.specs.Rules.{Rules}
 use Rattle.argument.specs.Sheet.{Marking}
 
--- the rules of n points with these lengths and these open edges
-abbrev pub rulesWhere : ℕ → List ℕ → (open? : ℕ → ℕ → Bool) → Rules
-rulesWhere n table open? =
+-- the rules of n points with the lengths of what is taken out, those of what is put in, and these open edges
+abbrev pub rulesWhere : ℕ → (out put : List ℕ) → (open? : ℕ → ℕ → Bool) → Rules
+rulesWhere n out put open? =
     record {
       n = n;
-      Feasible = FeasiblePair n (lengthOf n table) (lengthOf n table) open?;
-      Settles = Closes (lengthOf n table) (lengthOf n table);
-      pairs = feasiblePairs n (lengthOf n table) open?;
-      closing = λ K p q r s. refusalOf (threeOptOutcome (lengthOf n table) K p q r s);
+      Feasible = FeasiblePair n (lengthOf n out) (lengthOf n put) open?;
+      Settles = Closes (lengthOf n out) (lengthOf n put);
+      pairs = feasiblePairs n (lengthOf n out) (lengthOf n put) open?;
+      closing = λ K p q r s. refusalOf (threeOptOutcome (lengthOf n out) (lengthOf n put) K p q r s);
     }
 
--- the rules of a sheet under these marks
-abbrev pub rulesOf : ℕ → List ℕ → List ℕ → Rules
-rulesOf n table marks = rulesWhere n table (openIn n marks)
+-- the rules of a sheet under these marks, over two tables (02, Paper 11) and over one
+abbrev pub rulesBetween : ℕ → (low high marks : List ℕ) → Rules
+rulesBetween n low high marks = rulesWhere n low high (openIn n marks)
+
+abbrev pub rulesOf : ℕ → (table marks : List ℕ) → Rules
+rulesOf n table marks = rulesBetween n table table marks
 
 -- marks of n points with these lengths, where an accepted line writes the mark `by`
+abbrev pub markingBetween : (by : ℕ) → ℕ → (low high : List ℕ) → Marking (List ℕ)
+markingBetween by n low high = record { rules = rulesBetween n low high; open? = openIn n; strike = markIn by n }
+
 abbrev pub markingBy : (by : ℕ) → ℕ → List ℕ → Marking (List ℕ)
-markingBy by n table = record { rules = rulesOf n table; open? = openIn n; strike = markIn by n }
+markingBy by n table = markingBetween by n table table
 
 -- direct marking: an accepted line strikes its edge
 abbrev pub markingOf : ℕ → List ℕ → Marking (List ℕ)

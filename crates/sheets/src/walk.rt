@@ -25,7 +25,7 @@ ghost use Rattle.argument.specs.Record.{howFits, fits};
 ghost use Rattle.argument.specs.Walk.{readCase, opening, close, walk};
 ghost use Rattle.argument.specs.Walk as walking;
 ghost use Rattle.sheets.specs.asks.Sheet.{howOf, recordOf};
-ghost use Rattle.sheets.specs.Rules.{rulesOf};
+ghost use Rattle.sheets.specs.Rules.{rulesBetween};
 ghost use Rattle.sheets.specs.asks.Walk.{walkedOf, lookedOf, pointsOnly, spotOf, WholeRecords, ChainAsked, CaseAsked};
 
 // Where a walk ends: all is closed, with the highest record entered, or it is refused with the number and the record.
@@ -131,11 +131,13 @@ fn look(
 }
 
 // The chain of the split at c that record i holds, under k, from the index `first` on; `left` more splits may lie inside a case.
-// The rows are those of the table, and `count` is how many records the sheet has.
+// What is taken out is measured by the table `out`, what is put in by the table `put`; `outs` and `puts` are their rows, and `count` is how many records the sheet has.
 pub fn chain(
     n: u16,
-    table: &[u8],
-    rows: &[u32],
+    out: &[u8],
+    put: &[u8],
+    outs: &[u32],
+    puts: &[u32],
     marks: &[u8],
     sheet: &[u8],
     count: u16,
@@ -145,12 +147,12 @@ pub fn chain(
     c: u16,
     first: u16,
 ) -> Walked
-    requires { ⌜ ChainAsked n (whole32 (now table)) (now rows) (marksOf n (now marks)) (whole16 (now sheet)) count k left c ⌝ }
-    ensures { λ r. ⌜ walkedOf r ≡ walk (rulesOf n (whole32 (now (table .entry))) (marksOf n (now (marks .entry)))) (whole16 (now (sheet .entry)))
-        (opening (rulesOf n (whole32 (now (table .entry))) (marksOf n (now (marks .entry)))) (suc left) (edgeList k) i c first) ⌝ }
+    requires { ⌜ ChainAsked n (whole32 (now out)) (whole32 (now put)) (now outs) (now puts) (marksOf n (now marks)) (whole16 (now sheet)) count k left c ⌝ }
+    ensures { λ r. ⌜ walkedOf r ≡ walk (rulesBetween n (whole32 (now (out .entry))) (whole32 (now (put .entry))) (marksOf n (now (marks .entry)))) (whole16 (now (sheet .entry)))
+        (opening (rulesBetween n (whole32 (now (out .entry))) (whole32 (now (put .entry))) (marksOf n (now (marks .entry)))) (suc left) (edgeList k) i c first) ⌝ }
 {
     let mut legs = [legs::FAR; Instance::PLACES];
-    let bound = prepare(n, table, rows, marks, k, c, &mut legs);
+    let bound = prepare(n, out, put, outs, puts, marks, k, c, &mut legs);
     let centre = neighbours_of(k, c);
     let mut candidates = [0u16; candidates::PLACES];
     let mut rank = [0u16; candidates::PLACES];
@@ -161,19 +163,7 @@ pub fn chain(
     let mut index = first;
     let mut high = i;
     loop {
-        let next = next_pair(
-            n,
-            table,
-            &legs,
-            &candidates,
-            &rank,
-            bound,
-            c,
-            centre,
-            k,
-            x,
-            y,
-        );
+        let next = next_pair(n, put, &legs, &candidates, &rank, bound, c, centre, k, x, y);
         match look(n, sheet, count, next, last, index, high) {
             Looked::ChainEnds => return Walked::Closed(high),
             Looked::Refused(number, at) => return Walked::Refused(number, at),
@@ -182,8 +172,10 @@ pub fn chain(
                 let inner = k.with_pair(c, case.a, case.b);
                 match close_case(
                     n,
-                    table,
-                    rows,
+                    out,
+                    put,
+                    outs,
+                    puts,
                     marks,
                     sheet,
                     count,
@@ -207,8 +199,10 @@ pub fn chain(
 // The closing that record i holds, under k with the case's pair.
 fn close_case(
     n: u16,
-    table: &[u8],
-    rows: &[u32],
+    out: &[u8],
+    put: &[u8],
+    outs: &[u32],
+    puts: &[u32],
     marks: &[u8],
     sheet: &[u8],
     count: u16,
@@ -217,9 +211,9 @@ fn close_case(
     i: u16,
     closing: Closing,
 ) -> Walked
-    requires { ⌜ CaseAsked n (whole32 (now table)) (now rows) (marksOf n (now marks)) (whole16 (now sheet)) count k left closing ⌝ }
-    ensures { λ r. ⌜ walkedOf r ≡ close (rulesOf n (whole32 (now (table .entry))) (marksOf n (now (marks .entry))))
-        (walk (rulesOf n (whole32 (now (table .entry))) (marksOf n (now (marks .entry)))) (whole16 (now (sheet .entry)))) left (edgeList k) i (howOf closing) ⌝ }
+    requires { ⌜ CaseAsked n (whole32 (now out)) (whole32 (now put)) (now outs) (now puts) (marksOf n (now marks)) (whole16 (now sheet)) count k left closing ⌝ }
+    ensures { λ r. ⌜ walkedOf r ≡ close (rulesBetween n (whole32 (now (out .entry))) (whole32 (now (put .entry))) (marksOf n (now (marks .entry))))
+        (walk (rulesBetween n (whole32 (now (out .entry))) (whole32 (now (put .entry))) (marksOf n (now (marks .entry)))) (whole16 (now (sheet .entry)))) left (edgeList k) i (howOf closing) ⌝ }
 {
     match closing {
         Closing::Split { point, first } => {
@@ -228,8 +222,10 @@ fn close_case(
             }
             chain(
                 n,
-                table,
-                rows,
+                out,
+                put,
+                outs,
+                puts,
                 marks,
                 sheet,
                 count,
@@ -240,7 +236,7 @@ fn close_case(
                 first,
             )
         }
-        Closing::ThreeOpt { p, q, r, s } => match close_by_three_opt(n, table, k, p, q, r, s) {
+        Closing::ThreeOpt { p, q, r, s } => match close_by_three_opt(n, out, put, k, p, q, r, s) {
             ThreeOptOutcome::Settled => Walked::Closed(i),
             ThreeOptOutcome::NoMoves => Walked::Refused(refusal::CROSSING, i),
             ThreeOptOutcome::NoSaving => Walked::Refused(refusal::SAVING, i),

@@ -57,10 +57,10 @@ compares-hold : (c x y u v new old : ℕ) → old ≤ new → square x y + squar
 compares-hold c x y u v new old h one two = (one, two, λ k. omega (arith, move-sum square square c x y u v .0 k))
 
 -- the list that the test computes has exactly the feasible pairs, since {ab} has the shape that conditions 2 and 3 go by
-feasible-hold : (a b c : ℕ) (pairs : List Edge) → (a ≡ b → ⊥) → feasiblePairs 4 square allOpen (edge a b ∷ []) c ≡ pairs → Claim (feasible a b c pairs)
+feasible-hold : (a b c : ℕ) (pairs : List Edge) → (a ≡ b → ⊥) → feasiblePairs 4 square square allOpen (edge a b ∷ []) c ≡ pairs → Claim (feasible a b c pairs)
 unfolding square
 feasible-hold a b c pairs apart e x y =
-    let r = feasiblePairs-iff square (length-symmetric 4 _) 4 allOpen (edge a b ∷ []) c x y
+    let r = feasiblePairs-iff square square (length-symmetric 4 _) (length-symmetric 4 _) 4 allOpen (edge a b ∷ []) c x y
     (λ xc yc e. shape-exact 4 (edge a b ∷ []) c x y (single-shape 4 a b apart) (record { x-y = λ q. omega (arith, e .up); x-c = xc; y-c = yc }))
     (single-unmovable square square a b) in
     subst (λ (es : List Edge). List·Memᴰ (edge x y) es ↔ FeasiblePair 4 square square allOpen (edge a b ∷ []) c x y) e r
@@ -112,7 +112,7 @@ saves-hold rs difference h e best =
       record { x = 5; y = 6; z = 7; w = 8; moves = are-moves; saves = saves-sums (eight rs) (eight rs) 1 2 3 4 5 6 7 8 .1 (omega arith, omega arith) },
     )
 
-unsaved-hold : (rs : ℕ) → 12 ≤ rs → threeOptOutcome (eight rs) centres 1 2 3 4 ≡ NoSaving → Claim (unsaved rs)
+unsaved-hold : (rs : ℕ) → 12 ≤ rs → threeOptOutcome (eight rs) (eight rs) centres 1 2 3 4 ≡ NoSaving → Claim (unsaved rs)
 unsaved-hold rs h e =
     let l = eight-lengths rs in (
       (l, are-moves),
@@ -122,14 +122,14 @@ unsaved-hold rs h e =
         swapped-xy = λ s. omega (arith, saves-sums (eight rs) (eight rs) 1 2 3 4 6 5 7 8 .0 s);
         swapped-both = λ s. omega (arith, saves-sums (eight rs) (eight rs) 1 2 3 4 6 5 8 7 .0 s);
       },
-      no-saving-exact (eight rs) centres 1 2 3 4 .0 e .unsettled,
+      no-saving-exact (eight rs) (eight rs) centres 1 2 3 4 .0 e .unsettled,
     )
 
 -- the first pair is feasible by its test; the second is not, since 1 lies between 2 and 3 and would lie better between 4 and 5
-moved-hold : (saved : ℕ) → 1 ≤ saved → feasible? 5 five fiveOpen (edge 1 2 ∷ []) 1 2 3 ≡ true → by01? second 4 3 5 ≡ true → moveSaving five five 1 2 3 4 5 ≡ pos saved → Claim (moved saved)
+moved-hold : (saved : ℕ) → 1 ≤ saved → feasible? 5 five five fiveOpen (edge 1 2 ∷ []) 1 2 3 ≡ true → by01? second 4 3 5 ≡ true → moveSaving five five 1 2 3 4 5 ≡ pos saved → Claim (moved saved)
 unfolding five second withPair gains?
 moved-hold (suc d) h first old gain = (
-  feasible-iff five (length-symmetric 5 _) 5 fiveOpen (edge 1 2 ∷ []) 1 2 3 (record { low = omega arith; up = omega arith; high = omega arith })
+  feasible-iff five five (length-symmetric 5 _) (length-symmetric 5 _) 5 fiveOpen (edge 1 2 ∷ []) 1 2 3 (record { low = omega arith; up = omega arith; high = omega arith })
       (λ xc yc. shape-exact 5 (edge 1 2 ∷ []) 1 2 3 (single-shape 5 1 2 (λ e. omega arith)) (record { x-y = λ e. omega arith; x-c = xc; y-c = yc }))
       (single-unmovable five five 1 2) .0 first,
   old,
@@ -182,7 +182,7 @@ proved =
     distances-hold 3 4 25 5 5 2 7 4 (omega arith) refl refl refl refl refl refl &
     distances-hold 1000000 1000000 2000000000000 1414214 1414214 447214 2000000 1000000 (omega arith) refl refl refl refl refl refl &
     incompatible-hold 1 3 2 4 20 28 (omega arith) refl refl &
-    compatible-iff square 1 2 3 4 .0 refl &
+    compatible-iff square square 1 2 3 4 .0 refl &
     feasible-hold 1 2 3 (edge 1 4 ∷ edge 2 4 ∷ []) (λ e. omega arith) refl &
     compares-hold 3 1 4 1 2 34 34 (omega arith) refl refl &
     feasible-hold 1 3 2 [] (λ e. omega arith) refl &

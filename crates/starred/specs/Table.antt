@@ -85,7 +85,7 @@ second = withPair (edge 1 2 ∷ []) 1 2 3
 
 -- the pair x, y meets conditions 1 to 4 at c under K, and 01's condition 5, which moves the split point alone
 unfoldable pub by01? : List Edge → (c x y : ℕ) → Bool
-by01? K c x y = leg? five fiveOpen K c x && (leg? five fiveOpen K c y && (unmoved? five five K c x y && shape? 5 K c x y))
+by01? K c x y = leg? five five fiveOpen K c x && (leg? five five fiveOpen K c y && (unmoved? five five K c x y && shape? 5 K c x y))
 
 -- the lengths among the 3-opt closing's points p, q, r, s, x, y, z, w, which are 1 to 8: `Eight` says which they are
 unfoldable pub eight : ℕ → ℕ → ℕ → ℕ

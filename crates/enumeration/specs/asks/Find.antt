@@ -75,8 +75,8 @@ pub record EndAsked (n : ℕ) (table legs : List ℕ) (bound other : ℕ) (found
   pub point : Point n other
 
 -- what the search is asked about: the edge ab, the split point, and room for every pair
-pub record FindAsked (n : ℕ) (table marks : List ℕ) (a b c : ℕ) (found : List ℕ) : Type 0 where
-  pub legs : LegsAsked n table marks c
+pub record FindAsked (n : ℕ) (out put marks : List ℕ) (a b c : ℕ) (found : List ℕ) : Type 0 where
+  pub legs : LegsAsked n out put marks c
   pub least : leastPoints ≤ n
   pub first : Point n a
   pub second : Point n b

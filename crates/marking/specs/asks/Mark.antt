@@ -1,10 +1,17 @@
 -- What functions ask of each other about the subject of `specs/Mark.antt`, and what they ensure.
-use Prim.Native.Nat.{ℕ, _≤_}
+use Prim.Native.Nat.{ℕ, _+_, _*_, _≤_}
 use mathlib.Core.List.{List}
+use lib.ListN.{length}
 use Rattle.marks.specs.Mark.{pendingMark}
 use Rattle.sheets.specs.asks.Walk.{Admitted}
 
--- an instance and a sheet that passed the tests, whose lines write the mark `by`
-pub record AdmittedBy (by n : ℕ) (table marks sheet : List ℕ) (count : ℕ) : Type 0 where
-  pub admitted : Admitted n table marks sheet count
+-- an instance and a sheet that passed the tests, whose lines write the mark `by`; one table may be both
+pub record AdmittedBy (by n : ℕ) (out put marks sheet : List ℕ) (count : ℕ) : Type 0 where
+  pub admitted : Admitted n out put marks sheet count
   pub is-mark : by ≤ pendingMark
+
+-- what marking by rows that are still to be written is asked about: there is room for them
+pub record RowsAsked (by n : ℕ) (table rows marks sheet : List ℕ) (count : ℕ) : Type 0 where
+  pub is-mark : by ≤ pendingMark
+  pub admitted : Admitted n table table marks sheet count
+  pub room : (n + 1) * (n + 1) ≤ length rows

@@ -17,20 +17,20 @@ abbrev pub far : ℕ
 far = 5 * mostLength
 
 -- the length from c to x where cx meets conditions 1 and 4, else far
-unfoldable pub legOf : (ℕ → ℕ → ℕ) → (ℕ → ℕ → Bool) → List Edge → ℕ → ℕ → ℕ
-legOf l open? K c x = cond (leg? l open? K c x) (l c x) far
+unfoldable pub legOf : (out put : ℕ → ℕ → ℕ) → (ℕ → ℕ → Bool) → List Edge → ℕ → ℕ → ℕ
+legOf out put open? K c x = cond (leg? out put open? K c x) (out c x) far
 
 -- the leg m of x with the edge pq taken in: far where the two are not compatible
-unfoldable pub narrowed : (ℕ → ℕ → ℕ) → ℕ → ℕ → ℕ → ℕ → ℕ → ℕ
-narrowed l c p q x m = cond (leb (m + l p q) (max (l c p + l x q) (l c q + l x p))) m far
+unfoldable pub narrowed : (out put : ℕ → ℕ → ℕ) → ℕ → ℕ → ℕ → ℕ → ℕ → ℕ
+narrowed out put c p q x m = cond (leb (m + out p q) (max (put c p + put x q) (put c q + put x p))) m far
 
 -- the same by numbers: a leg m that is `both` with the edge, and the two exchanges
 unfoldable pub narrowedBy : ℕ → ℕ → ℕ → ℕ → ℕ
 narrowedBy m both one other = cond (leb both (max one other)) m far
 
 -- the legs are those of 1 to n
-abbrev pub LegsOf : ℕ → (ℕ → ℕ → ℕ) → (ℕ → ℕ → Bool) → List Edge → ℕ → List ℕ → Type 0
-LegsOf n l open? K c legs = (x : ℕ) → Point n x → getD legs x 0 ≡ legOf l open? K c x
+abbrev pub LegsOf : ℕ → (out put : ℕ → ℕ → ℕ) → (ℕ → ℕ → Bool) → List Edge → ℕ → List ℕ → Type 0
+LegsOf n out put open? K c legs = (x : ℕ) → Point n x → getD legs x 0 ≡ legOf out put open? K c x
 
 -- the legs are the lengths to the points of 1 to n that pass a test, and far for the others
 abbrev pub LegsBy : ℕ → (ℕ → ℕ → ℕ) → ℕ → (test : ℕ → Bool) → List ℕ → Type 0
@@ -64,7 +64,7 @@ pub record OpenAsked (n : ℕ) (marks rows : List ℕ) (c at : ℕ) : Type 0 whe
 -- the legs of the points below x are those where K is empty and marks up to `most` count as open, the others are far
 pub record OpenBelow (most n : ℕ) (marks rows : List ℕ) (c at : ℕ) (legs : List ℕ) (x : ℕ) : Type 0 where
   pub list : LegList legs
-  pub done : (i : ℕ) → 1 ≤ i → i < x → getD legs i 0 ≡ legOf (rowOf rows at) (openUpTo most n marks) [] c i
+  pub done : (i : ℕ) → 1 ≤ i → i < x → getD legs i 0 ≡ legOf (rowOf rows at) (rowOf rows at) (openUpTo most n marks) [] c i
   pub rest : (i : ℕ) → x ≤ i → i ≤ mostPoints → getD legs i 0 ≡ far
 
 -- what filling in the legs from x on is asked about
@@ -120,7 +120,7 @@ pub record ToByte (first left r : ℕ) : Type 0 where
 -- what `open_legs` answers: the legs where K is empty
 pub record OpenLegs (most n : ℕ) (marks rows : List ℕ) (c at : ℕ) (legs : List ℕ) : Type 0 where
   pub list : LegList legs
-  pub each : LegsOf n (rowOf rows at) (openUpTo most n marks) [] c legs
+  pub each : LegsOf n (rowOf rows at) (rowOf rows at) (openUpTo most n marks) [] c legs
 
 -- three numbers that are a length or the sum of two
 pub record Sums (pq cp cq : ℕ) : Type 0 where

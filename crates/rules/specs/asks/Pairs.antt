@@ -11,5 +11,5 @@ unfoldable pub pairsAfter : ℕ → ℕ → ℕ → List Edge
 pairsAfter n x y = row x (suc y) (n - y) ++ rows (suc x) (n - suc x)
 
 -- the feasible pairs after xy
-unfoldable pub feasibleAfter : ℕ → (ℕ → ℕ → ℕ) → (ℕ → ℕ → Bool) → List Edge → ℕ → ℕ → ℕ → List Edge
-feasibleAfter n l open? K c x y = keep (feasible? n l open? K c) (pairsAfter n x y)
+unfoldable pub feasibleAfter : ℕ → (out put : ℕ → ℕ → ℕ) → (ℕ → ℕ → Bool) → List Edge → ℕ → ℕ → ℕ → List Edge
+feasibleAfter n out put open? K c x y = keep (feasible? n out put open? K c) (pairsAfter n x y)

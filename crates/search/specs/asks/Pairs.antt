@@ -57,7 +57,7 @@ pub record Searchable (n : ℕ) (table legs candidates rank : List ℕ) (bound :
   pub beside : BesideAsked n table legs candidates rank bound centre x y
   pub held : Held n k
 
--- the first feasible pair after xy at c, for every open test whose legs and bound these are, where c has these neighbours
+-- the first feasible pair after xy at c, for every table of what is taken out and every open test whose legs and bound these are, where c has these neighbours; `table` is of what is put in
 pub record NextPairOf (n : ℕ) (table legs : List ℕ) (bound c : ℕ) (centre : Neighbours) (k : EdgeSet) (x y : ℕ) (r : NextPair) : Type 0 where
-  pub first : (open? : ℕ → ℕ → Bool) → Prepared n (lengthOf n table) open? (edgeList k) c legs bound → centre ≡ neighboursOf (edgeList k) c
-      → r ≡ firstOf (feasibleAfter n (lengthOf n table) open? (edgeList k) c x y)
+  pub first : (out : List ℕ) (open? : ℕ → ℕ → Bool) → Lengths n out → Prepared n (lengthOf n out) (lengthOf n table) open? (edgeList k) c legs bound → centre ≡ neighboursOf (edgeList k) c
+      → r ≡ firstOf (feasibleAfter n (lengthOf n out) (lengthOf n table) open? (edgeList k) c x y)

@@ -1,5 +1,5 @@
 -- One line and the lines of a sheet: the declared answers in terms of the argument layer's verdicts, and what the functions ask.
-use Prim.Native.Nat.{ℕ, suc, _+_, _*_, _≤_}
+use Prim.Native.Nat.{ℕ, suc, _≤_}
 use mathlib.Core.Path.{_≡_}
 use mathlib.Core.List.{List}
 use lib.ListN.{length}
@@ -7,9 +7,9 @@ use Rattle.argument.specs.Verdict.{Verdict, accepted, refused}
 use Rattle.argument.specs.Line.{Struck, strikes}
 use Rattle.argument.specs.Sheet.{Place, Turn, over, onward, turn}
 use Rattle.marks.specs.Mark.{pendingMark}
-use Rattle.sheets.specs.Rules.{markingBy}
+use Rattle.sheets.specs.Rules.{markingBetween}
 use Rattle.sheets.specs.Sheet.{Readable}
-use Rattle.sheets.specs.asks.Walk.{Admitted, Tried}
+use Rattle.sheets.specs.asks.Walk.{Tried}
 use Rattle.sheet_lines.specs.declared.line.Judged.{Judged}
 use Rattle.sheet_lines.specs.declared.line.Judged.the-variants as judged
 use Rattle.sheet_lines.specs.declared.line.Turned.{Turned}
@@ -20,13 +20,13 @@ judgedOf (judged.Strikes a b next high) = accepted (strikes a b next high)
 judgedOf (judged.Refused number rec) = refused number rec
 
 -- what is asked of a line that was entered as record i
-pub record LineAsked (n : ℕ) (table rows marks sheet : List ℕ) (count i : ℕ) : Type 0 where
-  pub tried : Tried n table rows marks sheet count
+pub record LineAsked (n : ℕ) (out put outs puts marks sheet : List ℕ) (count i : ℕ) : Type 0 where
+  pub tried : Tried n out put outs puts marks sheet count
   pub readable : Readable sheet i
 
 -- what is asked of the lines of a sheet, which write the mark `by`
-pub record MarkingAsked (by n : ℕ) (table rows marks sheet : List ℕ) (count : ℕ) : Type 0 where
-  pub tried : Tried n table rows marks sheet count
+pub record MarkingAsked (by n : ℕ) (out put outs puts marks sheet : List ℕ) (count : ℕ) : Type 0 where
+  pub tried : Tried n out put outs puts marks sheet count
   pub is-mark : by ≤ pendingMark
 
 -- where the lines stand: the marks, the lines accepted, the record that has the index, the index, the highest record entered
@@ -46,13 +46,7 @@ marksAfter p (accepted (onward q)) = q .marks
 marksAfter p (refused number rec) = p .marks
 
 -- what `mark_line` ensures, which writes the mark `by`, however many lines were accepted before
-pub record TurnedAs (by n : ℕ) (table marks sheet : List ℕ) (last index high : ℕ) (r : Turned) (left : List ℕ) : Type 0 where
-  pub answered : (lines : ℕ) → turnedOf (placeOf marks lines last index high) r left ≡ turn (markingBy by n table) sheet (placeOf marks lines last index high)
+pub record TurnedAs (by n : ℕ) (out put marks sheet : List ℕ) (last index high : ℕ) (r : Turned) (left : List ℕ) : Type 0 where
+  pub answered : (lines : ℕ) → turnedOf (placeOf marks lines last index high) r left ≡ turn (markingBetween by n out put) sheet (placeOf marks lines last index high)
   pub size : length left ≡ length marks
-  pub marks-left : (lines : ℕ) → left ≡ marksAfter (placeOf marks lines last index high) (turn (markingBy by n table) sheet (placeOf marks lines last index high))
-
--- what marking by rows that are still to be written is asked about: there is room for them
-pub record RowsAsked (by n : ℕ) (table rows marks sheet : List ℕ) (count : ℕ) : Type 0 where
-  pub is-mark : by ≤ pendingMark
-  pub admitted : Admitted n table marks sheet count
-  pub room : (n + 1) * (n + 1) ≤ length rows
+  pub marks-left : (lines : ℕ) → left ≡ marksAfter (placeOf marks lines last index high) (turn (markingBetween by n out put) sheet (placeOf marks lines last index high))

@@ -7,7 +7,7 @@ use lib.ListN.{length}
 use Rattle.lengths.specs.Edge.{Edge, edge, Point, edgeCount}
 use Rattle.lengths.specs.Instance.{leastPoints}
 use Rattle.lengths.specs.asks.Rows.{Rows}
-use Rattle.lengths.specs.Table.{Lengths}
+use Rattle.lengths.specs.Table.{Limits}
 use Rattle.sets.specs.asks.Stored.{Held, mostKnown}
 use Rattle.sets.specs.declared.edge_set.EdgeSet.{EdgeSet}
 use Rattle.search.specs.declared.pairs.NextPair.{NextPair}
@@ -52,28 +52,29 @@ pub record WholeRecords (sheet : List ℕ) (count : ℕ) : Type 0 where
   pub counted : count ≡ records sheet
 
 -- an instance with its marks and a sheet of so many records, as the tests leave them
-pub record Admitted (n : ℕ) (table marks sheet : List ℕ) (count : ℕ) : Type 0 where
+pub record Admitted (n : ℕ) (out put marks sheet : List ℕ) (count : ℕ) : Type 0 where
   pub least : leastPoints ≤ n
-  pub lengths : Lengths n table
+  pub limits : Limits n out put
   pub marked : length marks ≡ edgeCount n
   pub whole : WholeRecords sheet count
   pub few : records sheet ≤ mostRecords
 
 -- an admitted instance, with the lengths in rows
-pub record Tried (n : ℕ) (table rows marks sheet : List ℕ) (count : ℕ) : Type 0 where
-  pub admitted : Admitted n table marks sheet count
-  pub in-rows : Rows n table rows
+pub record Tried (n : ℕ) (out put outs puts marks sheet : List ℕ) (count : ℕ) : Type 0 where
+  pub admitted : Admitted n out put marks sheet count
+  pub in-out : Rows n out outs
+  pub in-put : Rows n put puts
 
 -- what a chain is asked about: its point is one of 1 to n, and K fits with all that the splits left can add
-pub record ChainAsked (n : ℕ) (table rows marks sheet : List ℕ) (count : ℕ) (k : EdgeSet) (left c : ℕ) : Type 0 where
-  pub tried : Tried n table rows marks sheet count
+pub record ChainAsked (n : ℕ) (out put outs puts marks sheet : List ℕ) (count : ℕ) (k : EdgeSet) (left c : ℕ) : Type 0 where
+  pub tried : Tried n out put outs puts marks sheet count
   pub held : Held n k
   pub room : k .count + 2 * left + 2 ≤ mostKnown
   pub centre : Point n c
 
 -- what a case is asked about: its points are among 1 to n, and K has its pair
-pub record CaseAsked (n : ℕ) (table rows marks sheet : List ℕ) (count : ℕ) (k : EdgeSet) (left : ℕ) (closing : Closing) : Type 0 where
-  pub tried : Tried n table rows marks sheet count
+pub record CaseAsked (n : ℕ) (out put outs puts marks sheet : List ℕ) (count : ℕ) (k : EdgeSet) (left : ℕ) (closing : Closing) : Type 0 where
+  pub tried : Tried n out put outs puts marks sheet count
   pub held : Held n k
   pub room : k .count + 2 * left ≤ mostKnown
   pub points : howFits n (howOf closing) ≡ true

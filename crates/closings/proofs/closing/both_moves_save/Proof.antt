@@ -29,7 +29,7 @@ saving-requires-2 c κs = search needs
 returns : tie.Need-returns
 returns c =
     let f = c .before .before .before .before in
-    gains-above _ ∙ ap gains? (kept (c .saving2 .ok)) ∙ both-test _ _ _ _ _ _ _ _ _
+    gains-above _ ∙ ap gains? (kept (c .saving2 .ok)) ∙ both-test _ _ _ _ _ _ _ _ _ _
     (first-made _ _ _ _ _ _ _ _ (f .before .before .length-of-three .ensures .at) (f .before .length-of-three2 .ensures .at) (f .saving .ensures))
     (ap gains? (sym (kept (f .saving .ok))) ∙ sym (gains-above _) ∙ c .before .before .before .if1 .taken)
     (second-made _ _ _ _ _ _ _ _ (c .before .before .length-of-three3 .ensures .at) (c .before .length-of-three4 .ensures .at) (c .saving2 .ensures))
@@ -37,7 +37,7 @@ returns c =
 returns-2 : tie.Need-returns-2
 returns-2 c =
     let f = c .before in
-    first-fails _ _ _ _ _ _ _ _ _
+    first-fails _ _ _ _ _ _ _ _ _ _
     (first-made _ _ _ _ _ _ _ _ (f .before .before .length-of-three .ensures .at) (f .before .length-of-three2 .ensures .at) (f .saving .ensures))
     (ap gains? (sym (kept (f .saving .ok))) ∙ sym (gains-above _) ∙ c .if1 .left)
 

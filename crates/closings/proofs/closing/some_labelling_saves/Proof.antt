@@ -14,23 +14,23 @@ use Rattle.closings.proofs.closing.some_labelling_saves.Statement.{stat
 use Rattle.closings.proofs.closing.some_labelling_saves.Tie as tie
 
 abbrev Inv-loop : tie.InvT-loop
-Inv-loop n table p q r s x y z w saves₀ i a b j₀ saves j =
-    (j ≤ 2) × (saves ≡ false) × ((k : ℕ) → k < j → cell (lengthOf n (whole32 table)) p q r s x y z w i k ≡ false)
+Inv-loop n out put p q r s x y z w saves₀ i a b j₀ saves j =
+    (j ≤ 2) × (saves ≡ false) × ((k : ℕ) → k < j → cell (lengthOf n (whole32 out)) (lengthOf n (whole32 put)) p q r s x y z w i k ≡ false)
 
 abbrev μ-loop : tie.MeasureT-loop
-μ-loop n table p q r s x y z w saves₀ i a b j₀ saves j = 2 - j
+μ-loop n out put p q r s x y z w saves₀ i a b j₀ saves j = 2 - j
 
 abbrev Inv-swaps : tie.InvT-swaps
-Inv-swaps n table p q r s x y z w saves₀ i₀ saves i = (i ≤ 2) × (saves ≡ false) × NoneBelow (lengthOf n (whole32 table)) p q r s x y z w i
+Inv-swaps n out put p q r s x y z w saves₀ i₀ saves i = (i ≤ 2) × (saves ≡ false) × NoneBelow (lengthOf n (whole32 out)) (lengthOf n (whole32 put)) p q r s x y z w i
 
 abbrev μ-swaps : tie.MeasureT-swaps
-μ-swaps n table p q r s x y z w saves₀ i₀ saves i = 2 - i
+μ-swaps n out put p q r s x y z w saves₀ i₀ saves i = 2 - i
 
 -- the labelling with the swaps i and j, over the function's arguments, and what a turn of the inner loop finds of it
 abbrev cell-of : tie.Start Inv-loop μ-loop Inv-swaps μ-swaps → ℕ → ℕ → Bool
 cell-of c =
     let a = c .args in
-    cell (lengthOf (a .n) (whole32 (now (a .table)))) (a .p) (a .q) (a .r) (a .s) (a .x) (a .y) (a .z) (a .w)
+    cell (lengthOf (a .n) (whole32 (now (a .out)))) (lengthOf (a .n) (whole32 (now (a .put)))) (a .p) (a .q) (a .r) (a .s) (a .x) (a .y) (a .z) (a .w)
 
 abbrev inner : tie.After-both-moves-save Inv-loop μ-loop Inv-swaps μ-swaps → tie.At-loop Inv-loop μ-loop Inv-swaps μ-swaps
 inner c = c .before .before .before .before
@@ -39,10 +39,10 @@ abbrev outer : tie.At-loop Inv-loop μ-loop Inv-swaps μ-swaps → tie.At-swaps 
 outer c = c .before .before .before .before
 
 tried : (c : tie.After-both-moves-save Inv-loop μ-loop Inv-swaps μ-swaps)
-    → cell-of (outer (inner c) .before .before) (outer (inner c) .swaps .i) (inner c .loop .j) ≡ c .both-moves-save .result
+    → cell-of (outer (inner c) .before .before .before) (outer (inner c) .swaps .i) (inner c .loop .j) ≡ c .both-moves-save .result
 tried c =
     let d = inner c .before in
-    sym (cell-at _ _ _ _ _ _ _ _ _ _ _ (d .before .end-by .ensures) (d .end-by2 .ensures)
+    sym (cell-at _ _ _ _ _ _ _ _ _ _ _ _ (d .before .end-by .ensures) (d .end-by2 .ensures)
     (c .before .before .end-by3 .ensures) (c .before .end-by4 .ensures))
     ∙ sym (c .both-moves-save .ensures)
 
@@ -67,8 +67,10 @@ end-by-requires-4 c κs = search needs
 both-moves-save-requires : tie.Need-both-moves-save-requires Inv-loop μ-loop Inv-swaps μ-swaps
 both-moves-save-requires c κs =
     let d = c .before .before .before .before in
-    swapped _ _ (d .before .before .before .before .before .pre) (d .before .end-by .ensures) (d .end-by2 .ensures)
-    (c .before .end-by3 .ensures) (c .end-by4 .ensures)
+    let p = d .before .before .before .before .before .before .pre in (
+      swapped _ _ (p .0) (d .before .end-by .ensures) (d .end-by2 .ensures) (c .before .end-by3 .ensures) (c .end-by4 .ensures),
+      swapped _ _ (p .1) (d .before .end-by .ensures) (d .end-by2 .ensures) (c .before .end-by3 .ensures) (c .end-by4 .ensures),
+    )
 
 add-j : tie.Need-add-j Inv-loop μ-loop Inv-swaps μ-swaps
 add-j c = omega arith
@@ -90,15 +92,15 @@ swaps-less c = omega arith
 swaps-again : tie.Need-swaps-again Inv-loop μ-loop Inv-swaps μ-swaps
 swaps-again c =
     let h = c .before .loop .inv in
-    (search needs, h .1, row-done _ _ _ _ _ _ _ _ _ (c .before .before .before .before .before .swaps .inv .2) (h .2) (search needs))
+    (search needs, h .1, row-done _ _ _ _ _ _ _ _ _ _ (c .before .before .before .before .before .swaps .inv .2) (h .2) (search needs))
 
 returns : tie.Need-returns Inv-loop μ-loop Inv-swaps μ-swaps
 returns c =
     let h = c .before .swaps .inv in
-    h .1 ∙ sym (none-saves _ _ _ _ _ _ _ _ _ (h .2) (search needs))
+    h .1 ∙ sym (none-saves _ _ _ _ _ _ _ _ _ _ (h .2) (search needs))
 
 returns-2 : tie.Need-returns-2 Inv-loop μ-loop Inv-swaps μ-swaps
-returns-2 c = sym (cell-saves _ _ _ _ _ _ _ _ _ _ _ (search needs) (search needs) (tried (c .before) ∙ c .if1 .taken))
+returns-2 c = sym (cell-saves _ _ _ _ _ _ _ _ _ _ _ _ (search needs) (search needs) (tried (c .before) ∙ c .if1 .taken))
 
 pub some-labelling-saves-spec : {M : Type 1} → statement M
 some-labelling-saves-spec =

@@ -8,25 +8,25 @@ single-requires : tie.Need-single-requires
 single-requires c κs = search needs
 
 prepare-single-requires : tie.Need-prepare-single-requires
-prepare-single-requires c κs = single-asked (c .before .before .before .before .pre) (c .single .ensures)
+prepare-single-requires c κs = single-asked (c .before .before .before .before .before .pre) (c .single .ensures)
 
 find-at-end-requires : tie.Need-find-at-end-requires
-find-at-end-requires c κs = record { asked = search needs; point = c .before .before .before .before .before .before .before .before .before .pre .second }
+find-at-end-requires c κs = record { asked = search needs; point = c .before .before .before .before .before .before .before .before .before .before .pre .second }
 
 same-length : tie.Need-same-length
 same-length c = search needs
 
 returns : tie.Need-returns
-returns c = first-found (c .before .before .before .before .before .before .before .before .before .before .before .before .pre) (prepared-single (c .before .before .before .before .before .before .before .before .single .ensures) (c .before .before .before .before .before .before .before .prepare-single .ensures)) (c .before .before .before .before .before .if1 .taken) (c .before .before .find-at-end .ensures)
+returns c = first-found (c .before .before .before .before .before .before .before .before .before .before .before .before .before .pre) (prepared-single (c .before .before .before .before .before .before .before .before .single .ensures) (c .before .before .before .before .before .before .before .prepare-single .ensures)) (c .before .before .before .before .before .if1 .taken) (c .before .before .find-at-end .ensures)
 
 find-at-end-requires-2 : tie.Need-find-at-end-requires-2
-find-at-end-requires-2 c κs = record { asked = search needs; point = c .before .before .before .before .before .before .before .before .before .before .pre .first }
+find-at-end-requires-2 c κs = record { asked = search needs; point = c .before .before .before .before .before .before .before .before .before .before .before .pre .first }
 
 same-length-2 : tie.Need-same-length-2
 same-length-2 c = search needs
 
 returns-2 : tie.Need-returns-2
-returns-2 c = second-found (c .before .before .before .before .before .before .before .before .before .before .before .before .before .pre) (prepared-single (c .before .before .before .before .before .before .before .before .before .single .ensures) (c .before .before .before .before .before .before .before .before .prepare-single .ensures)) (c .before .before .before .before .before .if2 .taken) (c .before .before .find-at-end2 .ensures)
+returns-2 c = second-found (c .before .before .before .before .before .before .before .before .before .before .before .before .before .before .pre) (prepared-single (c .before .before .before .before .before .before .before .before .before .single .ensures) (c .before .before .before .before .before .before .before .before .prepare-single .ensures)) (c .before .before .before .before .before .if2 .taken) (c .before .before .find-at-end2 .ensures)
 
 find-apart-requires : tie.Need-find-apart-requires
 find-apart-requires c κs = search needs
@@ -35,7 +35,7 @@ same-length-3 : tie.Need-same-length-3
 same-length-3 c = search needs
 
 returns-3 : tie.Need-returns-3
-returns-3 c = apart-up (c .before .before .before .before .before .before .before .before .before .before .before .before .before .before .pre) (prepared-single (c .before .before .before .before .before .before .before .before .before .before .single .ensures) (c .before .before .before .before .before .before .before .before .before .prepare-single .ensures)) (c .before .before .before .before .before .before .before .if1 .left) (c .before .before .before .before .before .before .if2 .left) (c .before .before .before .before .before .if3 .taken) (c .before .before .find-apart .ensures)
+returns-3 c = apart-up (c .before .before .before .before .before .before .before .before .before .before .before .before .before .before .before .pre) (prepared-single (c .before .before .before .before .before .before .before .before .before .before .single .ensures) (c .before .before .before .before .before .before .before .before .before .prepare-single .ensures)) (c .before .before .before .before .before .before .before .if1 .left) (c .before .before .before .before .before .before .if2 .left) (c .before .before .before .before .before .if3 .taken) (c .before .before .find-apart .ensures)
 
 find-apart-requires-2 : tie.Need-find-apart-requires-2
 find-apart-requires-2 c κs = search needs
@@ -44,7 +44,7 @@ same-length-4 : tie.Need-same-length-4
 same-length-4 c = search needs
 
 returns-4 : tie.Need-returns-4
-returns-4 c = apart-down (c .before .before .before .before .before .before .before .before .before .before .before .before .before .before .pre) (prepared-single (c .before .before .before .before .before .before .before .before .before .before .single .ensures) (c .before .before .before .before .before .before .before .before .before .prepare-single .ensures)) (c .before .before .before .before .before .before .before .if1 .left) (c .before .before .before .before .before .before .if2 .left) (c .before .before .before .before .before .if3 .left) (c .before .before .find-apart2 .ensures)
+returns-4 c = apart-down (c .before .before .before .before .before .before .before .before .before .before .before .before .before .before .before .pre) (prepared-single (c .before .before .before .before .before .before .before .before .before .before .single .ensures) (c .before .before .before .before .before .before .before .before .before .prepare-single .ensures)) (c .before .before .before .before .before .before .before .if1 .left) (c .before .before .before .before .before .before .if2 .left) (c .before .before .before .before .before .if3 .left) (c .before .before .find-apart2 .ensures)
 
 pub find-pairs-spec : {M : Type 1} → statement M
 find-pairs-spec =

@@ -14,11 +14,14 @@ cast-size c = search needs
 mul-size : tie.Need-mul-size
 mul-size c = search needs
 
+turned-down-requires : tie.Need-turned-down-requires
+turned-down-requires c κs = search needs
+
 same-length : tie.Need-same-length
 same-length c = search needs
 
 returns : tie.Need-returns
-returns c = into-refused (c .before .before .before .find-pairs .ensures) (c .if1 .taken)
+returns c = into-refused (c .before .before .before .before .find-pairs .ensures) (c .turned-down .ensures) (c .before .if1 .taken)
 
 slice-reshare-prefix-encode16 : tie.Need-slice-reshare-prefix-encode16
 slice-reshare-prefix-encode16 c = omega (arith, c .before .before .before .find-pairs .ensures .room)
@@ -45,6 +48,7 @@ list-into-spec =
     find-pairs-requires
     cast-size
     mul-size
+    turned-down-requires
     same-length
     returns
     slice-reshare-prefix-encode16

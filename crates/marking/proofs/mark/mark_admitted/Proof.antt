@@ -23,7 +23,7 @@ slice-aggregate-mark-by-rows-2 : tie.Need-slice-aggregate-mark-by-rows-2
 slice-aggregate-mark-by-rows-2 c = search needs
 
 mark-by-rows-requires-2 : tie.Need-mark-by-rows-requires-2
-mark-by-rows-requires-2 c κs = rows-room mostPoints (c .before .before .before .before .before .before .pre) (c .before .before .before .before .before .before .pre .admitted .lengths .few) (length-replicate {A = ℕ} (pointPlaces * pointPlaces) 0)
+mark-by-rows-requires-2 c κs = rows-room mostPoints (c .before .before .before .before .before .before .pre) (c .before .before .before .before .before .before .pre .admitted .limits .out-lengths .few) (length-replicate {A = ℕ} (pointPlaces * pointPlaces) 0)
 
 same-length-2 : tie.Need-same-length-2
 same-length-2 c = search needs

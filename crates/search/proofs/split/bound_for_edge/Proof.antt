@@ -8,10 +8,10 @@ edge-triangle-requires : tie.Need-edge-triangle-requires
 edge-triangle-requires c κs = search needs
 
 tighten-requires : tie.Need-tighten-requires
-tighten-requires c κs = edge-short (c .before .before .pre) (c .edge-triangle .ensures)
+tighten-requires c κs = edge-short (c .before .before .before .pre) (c .edge-triangle .ensures)
 
 returns : tie.Need-returns
-returns c = edge-bound (c .before .before .before .pre) (c .before .edge-triangle .ensures) (c .tighten .ensures)
+returns c = edge-bound (c .before .before .before .before .pre) (c .before .edge-triangle .ensures) (c .tighten .ensures)
 
 pub bound-for-edge-spec : {M : Type 1} → statement M
 bound-for-edge-spec = tie.close (tie.spec edge-triangle-requires tighten-requires returns)

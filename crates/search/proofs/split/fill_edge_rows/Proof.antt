@@ -20,7 +20,7 @@ same-length : tie.Need-same-length
 same-length c = search needs
 
 returns : tie.Need-returns
-returns c = edge-rows (c .before .before .before .before .before .before .before .before .before .before .before .before .before .before .pre) (c .before .before .before .before .before .before .before .before .before .before .fill-row .ensures) (c .before .before .before .before .before .before .fill-row2 .ensures) (c .before .before .fill-row3 .ensures)
+returns c = edge-rows (c .before .before .before .before .before .before .before .before .before .before .before .before .before .before .before .pre) (c .before .before .before .before .before .before .before .before .before .before .fill-row .ensures) (c .before .before .before .before .before .before .fill-row2 .ensures) (c .before .before .fill-row3 .ensures)
 
 pub fill-edge-rows-spec : {M : Type 1} → statement M
 fill-edge-rows-spec =

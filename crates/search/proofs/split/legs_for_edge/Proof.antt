@@ -16,7 +16,7 @@ slice-aggregate-open-legs : tie.Need-slice-aggregate-open-legs
 slice-aggregate-open-legs c = search needs
 
 open-legs-requires : tie.Need-open-legs-requires
-open-legs-requires c κs = open-start refl (edge-open (c .before .before .before .before .before .before .before .pre) (c .before .before .before .fill-edge-rows .ensures))
+open-legs-requires c κs = open-start refl (edge-open (c .before .before .before .before .before .before .before .before .pre) (c .before .before .before .fill-edge-rows .ensures))
 
 edge-triangle-requires : tie.Need-edge-triangle-requires
 edge-triangle-requires c κs = search needs
@@ -25,10 +25,10 @@ slice-aggregate-narrow : tie.Need-slice-aggregate-narrow
 slice-aggregate-narrow c = search needs
 
 narrow-requires : tie.Need-narrow-requires
-narrow-requires c κs = edge-narrow (c .before .before .before .before .before .before .before .before .before .before .before .pre) (c .before .before .before .before .before .before .before .fill-edge-rows .ensures) (c .before .before .edge-triangle .ensures) (c .before .before .before .open-legs .ensures)
+narrow-requires c κs = edge-narrow (c .before .before .before .before .before .before .before .before .before .before .before .before .pre) (c .before .before .before .before .before .before .before .fill-edge-rows .ensures) (c .before .before .edge-triangle .ensures) (c .before .before .before .open-legs .ensures)
 
 returns : tie.Need-returns
-returns c = edge-legs (c .before .before .before .before .before .before .before .before .before .before .before .before .pre) (c .before .before .before .before .before .before .before .before .fill-edge-rows .ensures) (c .before .before .before .edge-triangle .ensures) (c .before .before .before .before .open-legs .ensures) (c .narrow .ensures)
+returns c = edge-legs (c .before .before .before .before .before .before .before .before .before .before .before .before .before .pre) (c .before .before .before .before .before .before .before .before .fill-edge-rows .ensures) (c .before .before .before .edge-triangle .ensures) (c .before .before .before .before .open-legs .ensures) (c .narrow .ensures)
 
 pub legs-for-edge-spec : {M : Type 1} → statement M
 legs-for-edge-spec =

@@ -8,13 +8,13 @@ take-in-all-requires : tie.Need-take-in-all-requires
 take-in-all-requires c κs = search needs
 
 settle-all-requires : tie.Need-settle-all-requires
-settle-all-requires c κs = settle-asks (c .before .before .before .before .before .before .pre .0) (c .before .take-in-all .ensures)
+settle-all-requires c κs = settle-asks (c .before .before .before .before .before .before .before .before .pre .0) (c .before .take-in-all .ensures)
 
 settle-ends-requires : tie.Need-settle-ends-requires
-settle-ends-requires c κs = ends-asks (c .before .before .before .before .before .before .before .before .pre .0) (c .before .before .before .take-in-all .ensures) (c .before .settle-all .ensures)
+settle-ends-requires c κs = ends-asks (c .before .before .before .before .before .before .before .before .before .before .pre .0) (c .before .before .before .take-in-all .ensures) (c .before .settle-all .ensures)
 
 returns : tie.Need-returns
-returns c = settled-split (c .before .before .before .before .before .before .before .before .before .pre .0) (c .before .before .before .before .take-in-all .ensures) (c .before .before .settle-all .ensures) (c .settle-ends .ensures)
+returns c = settled-split (c .before .before .before .before .before .before .before .before .before .before .before .pre .0) (c .before .before .before .before .take-in-all .ensures) (c .before .before .settle-all .ensures) (c .settle-ends .ensures)
 
 pub prepare-spec : {M : Type 1} → statement M
 prepare-spec =

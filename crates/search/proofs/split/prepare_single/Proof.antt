@@ -11,13 +11,13 @@ array-read-b : tie.Need-array-read-b
 array-read-b c = search needs
 
 legs-for-edge-requires : tie.Need-legs-for-edge-requires
-legs-for-edge-requires c κs = single-asked (c .before .before .before .before .pre)
+legs-for-edge-requires c κs = single-asked (c .before .before .before .before .before .pre)
 
 bound-for-edge-requires : tie.Need-bound-for-edge-requires
-bound-for-edge-requires c κs = single-asked (c .before .before .before .before .before .pre) .asked
+bound-for-edge-requires c κs = single-asked (c .before .before .before .before .before .before .pre) .asked
 
 returns : tie.Need-returns
-returns c = single-split (c .before .before .before .before .before .before .pre) (c .before .legs-for-edge .ensures) (c .bound-for-edge .ensures)
+returns c = single-split (c .before .before .before .before .before .before .before .pre) (c .before .legs-for-edge .ensures) (c .bound-for-edge .ensures)
 
 pub prepare-single-spec : {M : Type 1} → statement M
 prepare-single-spec =

@@ -10,20 +10,20 @@ use Rattle.search.proofs.split.take_in_all.Statement.{statement}
 use Rattle.search.proofs.split.take_in_all.Tie as tie
 
 abbrev Inv-loop : tie.InvT-loop
-Inv-loop n table rows marks c legs₀ from to count at bound₀ i₀ legs bound i =
-    Taking n (whole32 table) rows (marksOf n marks) (record { from = from; to = to; count = count }) c legs bound i
+Inv-loop n out put outs puts marks c legs₀ from to count at bound₀ i₀ legs bound i =
+    Taking n (whole32 out) (whole32 put) outs puts (marksOf n marks) (record { from = from; to = to; count = count }) c legs bound i
 
 abbrev μ-loop : tie.MeasureT-loop
-μ-loop n table rows marks c legs₀ from to count at bound₀ i₀ legs bound i = count - i
+μ-loop n out put outs puts marks c legs₀ from to count at bound₀ i₀ legs bound i = count - i
 
 row-start-requires : tie.Need-row-start-requires Inv-loop μ-loop
 row-start-requires c κs = search needs
 
-open-legs-requires : tie.Need-open-legs-requires Inv-loop μ-loop
-open-legs-requires c κs = let p = c .before .before .before .before .before .before .before .pre in open-start (p .1) (take-open (p .0) (c .before .row-start .ensures))
-
 loop-holds : tie.Need-loop-holds Inv-loop μ-loop
-loop-holds c = take-start (c .before .before .before .before .before .before .before .before .pre .0) (c .before .before .row-start .ensures) (c .open-legs .ensures)
+loop-holds c = take-start (c .before .before .before .before .before .before .before .before .before .before .pre .0) (c .before .before .row-start .ensures) (c .open-legs .ensures)
+
+open-legs-requires : tie.Need-open-legs-requires Inv-loop μ-loop
+open-legs-requires c κs = let p = c .before .before .before .before .before .before .before .before .before .pre in open-start (p .1) (take-open (p .0) (c .before .row-start .ensures))
 
 mul-take-in : tie.Need-mul-take-in Inv-loop μ-loop
 mul-take-in c = search needs

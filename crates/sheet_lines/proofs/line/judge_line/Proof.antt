@@ -13,7 +13,7 @@ returns : tie.Need-returns
 returns c = line-misfit _ _ _ _ _ _ _ _ _ (sym (c .before .points-fit .ensures) ∙ not-true _ (c .if1 .taken))
 
 is-open-requires : tie.Need-is-open-requires
-is-open-requires c κs = line-marked (c .before .before .before .before .before .before .pre) _ _ _ _ (sym (c .before .points-fit .ensures) ∙ not-false _ (c .if1 .left))
+is-open-requires c κs = line-marked (c .before .before .before .before .before .before .before .before .pre) _ _ _ _ (sym (c .before .points-fit .ensures) ∙ not-false _ (c .if1 .left))
 
 returns-2 : tie.Need-returns-2
 returns-2 c = let f = c .before .before in line-struck _ _ _ _ _ _ _ _ _ (sym (f .before .points-fit .ensures) ∙ not-false _ (f .if1 .left)) (sym (c .before .is-open .ensures) ∙ not-true _ (c .if2 .taken))
@@ -31,7 +31,7 @@ returns-4 : tie.Need-returns-4
 returns-4 c = let o = c .before .before .before .before .before in let f = o .before .before in line-stops _ _ _ _ _ _ _ _ _ (sym (f .before .points-fit .ensures) ∙ not-false _ (f .if1 .left)) (sym (o .before .is-open .ensures) ∙ not-false _ (o .if2 .left)) (c .before .before .before .before .single .ensures) (c .before .before .before .chain .ensures) (c .before .number .given .1)
 
 chain-requires : tie.Need-chain-requires
-chain-requires c κs = let f = c .before .before .before in line-chain (c .before .before .before .before .before .before .before .before .before .pre) _ _ _ _ (sym (f .before .points-fit .ensures) ∙ not-false _ (f .if1 .left)) (c .single .ensures)
+chain-requires c κs = let f = c .before .before .before in line-chain (c .before .before .before .before .before .before .before .before .before .before .before .pre) _ _ _ _ (sym (f .before .points-fit .ensures) ∙ not-false _ (f .if1 .left)) (c .single .ensures)
 
 enum-known-high : tie.Need-enum-known-high
 enum-known-high c = search needs

@@ -13,23 +13,23 @@ use Rattle.sheet_lines.proofs.line.mark_lines.Statement.{statement}
 use Rattle.sheet_lines.proofs.line.mark_lines.Tie as tie
 
 abbrev Inv-loop : tie.InvT-loop
-Inv-loop n by table rows marks₀ sheet count lines₀ last₀ index₀ high₀ marks lines last index high =
-    Proceeding by n (whole32 table) rows (marksOf n marks₀) (whole16 sheet) count (marksOf n marks) lines last index high × (length marks ≡ length marks₀)
+Inv-loop n by out put outs puts marks₀ sheet count lines₀ last₀ index₀ high₀ marks lines last index high =
+    Proceeding by n (whole32 out) (whole32 put) outs puts (marksOf n marks₀) (whole16 sheet) count (marksOf n marks) lines last index high × (length marks ≡ length marks₀)
 
 abbrev μ-loop : tie.MeasureT-loop
-μ-loop n by table rows marks₀ sheet count lines₀ last₀ index₀ high₀ marks lines last index high = records (whole16 sheet) - high
+μ-loop n by out put outs puts marks₀ sheet count lines₀ last₀ index₀ high₀ marks lines last index high = records (whole16 sheet) - high
 
 loop-holds : tie.Need-loop-holds Inv-loop μ-loop
-loop-holds c = (lines-start (c .before .before .before .before .pre .tried), refl)
+loop-holds c = (lines-start (c .before .before .before .before .before .before .pre .tried), refl)
 
 mark-line-requires : tie.Need-mark-line-requires Inv-loop μ-loop
-mark-line-requires c κs = record { tried = c .before .loop .inv .0 .tried; is-mark = c .before .before .before .before .before .before .pre .is-mark }
+mark-line-requires c κs = record { tried = c .before .loop .inv .0 .tried; is-mark = c .before .before .before .before .before .before .before .before .pre .is-mark }
 
 enum-told : tie.Need-enum-told Inv-loop μ-loop
 enum-told c = search needs
 
 same-length : tie.Need-same-length Inv-loop μ-loop
-same-length c = c .before .before .before .before .mark-line .kept .1 .1 .1 .1 .0 ∙ c .before .before .before .before .before .before .loop .inv .1
+same-length c = c .before .before .before .before .mark-line .kept .1 .1 .1 .1 .1 .1 .0 ∙ c .before .before .before .before .before .before .loop .inv .1
 
 returns : tie.Need-returns Inv-loop μ-loop
 returns c = lines-accepted (c .before .before .before .before .before .before .loop .inv .0) (c .before .before .before .before .mark-line .ensures) (c .enum-told .given .1)
@@ -38,7 +38,7 @@ enum-known-number : tie.Need-enum-known-number Inv-loop μ-loop
 enum-known-number c = search needs
 
 same-length-2 : tie.Need-same-length-2 Inv-loop μ-loop
-same-length-2 c = c .before .before .before .before .before .mark-line .kept .1 .1 .1 .1 .0 ∙ c .before .before .before .before .before .before .before .loop .inv .1
+same-length-2 c = c .before .before .before .before .before .mark-line .kept .1 .1 .1 .1 .1 .1 .0 ∙ c .before .before .before .before .before .before .before .loop .inv .1
 
 returns-2 : tie.Need-returns-2 Inv-loop μ-loop
 returns-2 c = lines-refused (c .before .before .before .before .before .before .before .loop .inv .0) (c .before .before .before .before .before .mark-line .ensures) (c .before .number .given .1)
@@ -55,7 +55,7 @@ loop-less c = lines-fall (c .before .before .before .before .before .before .bef
 loop-again : tie.Need-loop-again Inv-loop μ-loop
 loop-again c =
     let k = c .before .before .before .before .before in
-    (lines-on (k .before .before .loop .inv .0) (k .mark-line .ensures) (c .before .next .given .1), k .mark-line .kept .1 .1 .1 .1 .0 ∙ k .before .before .loop .inv .1)
+    (lines-on (k .before .before .loop .inv .0) (k .mark-line .ensures) (c .before .next .given .1), k .mark-line .kept .1 .1 .1 .1 .1 .1 .0 ∙ k .before .before .loop .inv .1)
 
 pub mark-lines-spec : {M : Type 1} → statement M
 mark-lines-spec =

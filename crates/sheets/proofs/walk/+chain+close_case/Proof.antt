@@ -27,25 +27,25 @@ use Rattle.search.proofs.split.prepare.Reads as prepare-reads
 use Rattle.sheets.proofs.walk.+chain+close_case.{statement}
 use Rattle.sheets.proofs.walk.+chain+close_case.Tie.{close}
 
-abbrev μ-chain : Measures 4 chain-kinds.ps ℕ
-μ-chain κs a = 2 * (a .1 .1 .1 .1 .1 .1 .1 .0) + 1
+abbrev μ-chain : Measures 6 chain-kinds.ps ℕ
+μ-chain κs a = 2 * (a .1 .1 .1 .1 .1 .1 .1 .1 .1 .0) + 1
 
-abbrev μ-close-case : Measures 4 close-case-kinds.ps ℕ
-μ-close-case κs a = 2 * (a .1 .1 .1 .1 .1 .1 .1 .0)
+abbrev μ-close-case : Measures 6 close-case-kinds.ps ℕ
+μ-close-case κs a = 2 * (a .1 .1 .1 .1 .1 .1 .1 .1 .1 .0)
 
-abbrev chain-at : ℕ → In 4 chain-kinds.ps
-chain-at t = and 4 chain-kinds.ps (is 4 chain-kinds.ps μ-chain t) chain.Pre
+abbrev chain-at : ℕ → In 6 chain-kinds.ps
+chain-at t = and 6 chain-kinds.ps (is 6 chain-kinds.ps μ-chain t) chain.Pre
 
-abbrev chain-below : ℕ → In 4 chain-kinds.ps
-chain-below t = and 4 chain-kinds.ps (falls 4 chain-kinds.ps _<_ μ-chain t) chain.Pre
+abbrev chain-below : ℕ → In 6 chain-kinds.ps
+chain-below t = and 6 chain-kinds.ps (falls 6 chain-kinds.ps _<_ μ-chain t) chain.Pre
 
-abbrev close-case-at : ℕ → In 4 close-case-kinds.ps
+abbrev close-case-at : ℕ → In 6 close-case-kinds.ps
 close-case-at t =
-    and 4 close-case-kinds.ps (is 4 close-case-kinds.ps μ-close-case t) close-case.Pre
+    and 6 close-case-kinds.ps (is 6 close-case-kinds.ps μ-close-case t) close-case.Pre
 
-abbrev close-case-below : ℕ → In 4 close-case-kinds.ps
+abbrev close-case-below : ℕ → In 6 close-case-kinds.ps
 close-case-below t =
-    and 4 close-case-kinds.ps (falls 4 close-case-kinds.ps _<_ μ-close-case t) close-case.Pre
+    and 6 close-case-kinds.ps (falls 6 close-case-kinds.ps _<_ μ-close-case t) close-case.Pre
 
 -- the readings of the callees of each
 abbrev chain-calls : ℕ → chain-lts.Claims
@@ -55,24 +55,24 @@ abbrev close-case-calls : ℕ → close-case-lts.Claims
 close-case-calls t = (chain-below t, chain.Post, close-by-three-opt-reads.Asked, close-by-three-opt-reads.Learnt)
 
 abbrev chain-Inv-loop : chain-lts.InvT-loop
-chain-Inv-loop n table rows marks sheet count k left i c first legs bound centre candidates rank x₀ y₀ last₀ index₀ high₀ x y last index high =
-    Following n (whole32 table) rows (marksOf n marks) (whole16 sheet) count k left i c first legs candidates rank bound centre x y last index high
+chain-Inv-loop n out put outs puts marks sheet count k left i c first legs bound centre candidates rank x₀ y₀ last₀ index₀ high₀ x y last index high =
+    Following n (whole32 out) (whole32 put) outs puts (marksOf n marks) (whole16 sheet) count k left i c first legs candidates rank bound centre x y last index high
 
 abbrev chain-μ-loop : chain-lts.MeasureT-loop
-chain-μ-loop n table rows marks sheet count k left i c first legs bound centre candidates rank x₀ y₀ last₀ index₀ high₀ x y last index high =
+chain-μ-loop n out put outs puts marks sheet count k left i c first legs bound centre candidates rank x₀ y₀ last₀ index₀ high₀ x y last index high =
     records (whole16 sheet) - high
 
 chain-prepare-requires : (t : ℕ) → chain-lts.Need-prepare-requires (chain-calls t) (chain-at t) chain.Post chain-Inv-loop chain-μ-loop
-chain-prepare-requires t c κs = (chain-split (c .before .before .before .before .before .pre .1), refl)
+chain-prepare-requires t c κs = (chain-split (c .before .before .before .before .before .before .before .pre .1), refl)
 
 chain-neighbours-of-requires : (t : ℕ) → chain-lts.Need-neighbours-of-requires (chain-calls t) (chain-at t) chain.Post chain-Inv-loop chain-μ-loop
-chain-neighbours-of-requires t c κs = c .before .before .before .before .before .before .pre .1 .held .stored
+chain-neighbours-of-requires t c κs = c .before .before .before .before .before .before .before .before .pre .1 .held .stored
 
 chain-list-candidates-requires : (t : ℕ) → chain-lts.Need-list-candidates-requires (chain-calls t) (chain-at t) chain.Post chain-Inv-loop chain-μ-loop
-chain-list-candidates-requires t c κs = record { few = c .before .before .before .before .before .before .before .before .before .before .pre .1 .tried .admitted .lengths .few; candidates-room = refl; rank-room = refl }
+chain-list-candidates-requires t c κs = record { few = c .before .before .before .before .before .before .before .before .before .before .before .before .pre .1 .tried .admitted .limits .out-lengths .few; candidates-room = refl; rank-room = refl }
 
 chain-loop-holds : (t : ℕ) → chain-lts.Need-loop-holds (chain-calls t) (chain-at t) chain.Post chain-Inv-loop chain-μ-loop
-chain-loop-holds t c = follow-start (c .before .before .before .before .before .before .before .before .before .before .before .pre .1) _ _ (c .before .before .before .before .before .prepare .ensures) (c .before .before .before .before .neighbours-of .ensures) (c .list-candidates .ensures)
+chain-loop-holds t c = follow-start (c .before .before .before .before .before .before .before .before .before .before .before .before .before .pre .1) _ _ (c .before .before .before .before .before .prepare .ensures) (c .before .before .before .before .neighbours-of .ensures) (c .list-candidates .ensures)
 
 chain-next-pair-requires : (t : ℕ) → chain-lts.Need-next-pair-requires (chain-calls t) (chain-at t) chain.Post chain-Inv-loop chain-μ-loop
 chain-next-pair-requires t c κs = follow-search (c .before .before .before .loop .inv)
@@ -99,7 +99,7 @@ chain-with-pair-requires : (t : ℕ) → chain-lts.Need-with-pair-requires (chai
 chain-with-pair-requires t c κs = let f = c .before .before .before .before .before .before .before .before .loop .inv in (f .asked .held .stored, follow-few f)
 
 chain-close-case-requires : (t : ℕ) → chain-lts.Need-close-case-requires (chain-calls t) (chain-at t) chain.Post chain-Inv-loop chain-μ-loop
-chain-close-case-requires t c κs = let l = c .before .before .before .before in (omega (arith, c .before .before .before .before .before .before .before .before .before .before .before .before .before .before .before .before .before .before .before .before .before .pre .0), follow-case (l .before .before .before .before .before .loop .inv) (l .before .next-pair .ensures) (l .look .ensures) (c .before .before .case .given .1) (c .with-pair .ensures))
+chain-close-case-requires t c κs = let l = c .before .before .before .before in (omega (arith, c .before .before .before .before .before .before .before .before .before .before .before .before .before .before .before .before .before .before .before .before .before .before .before .pre .0), follow-case (l .before .before .before .before .before .loop .inv) (l .before .next-pair .ensures) (l .look .ensures) (c .before .before .case .given .1) (c .with-pair .ensures))
 
 chain-enum-known-number-2 : (t : ℕ) → chain-lts.Need-enum-known-number-2 (chain-calls t) (chain-at t) chain.Post chain-Inv-loop chain-μ-loop
 chain-enum-known-number-2 t c = search needs
@@ -120,19 +120,19 @@ close-case-enum-known-closing : (t : ℕ) → close-case-lts.Need-enum-known-clo
 close-case-enum-known-closing t c = search needs
 
 close-case-returns : (t : ℕ) → close-case-lts.Need-returns (close-case-calls t) (close-case-at t) close-case.Post
-close-case-returns t c = close-too-deep (c .before .before .before .before .before .before .before .before .pre .1) (c .before .before .closing .given .1) _ (c .if1 .taken)
+close-case-returns t c = close-too-deep (c .before .before .before .before .before .before .before .before .before .before .pre .1) (c .before .before .closing .given .1) _ (c .if1 .taken)
 
 close-case-sub-chain : (t : ℕ) → close-case-lts.Need-sub-chain (close-case-calls t) (close-case-at t) close-case.Post
 close-case-sub-chain t c = search needs
 
 close-case-chain-requires : (t : ℕ) → close-case-lts.Need-chain-requires (close-case-calls t) (close-case-at t) close-case.Post
-close-case-chain-requires t c κs = (omega (arith, c .before .before .before .before .before .before .before .before .pre .0), close-chain (c .before .before .before .before .before .before .before .before .pre .1) (c .before .before .closing .given .1) (c .if1 .left))
+close-case-chain-requires t c κs = (omega (arith, c .before .before .before .before .before .before .before .before .before .before .pre .0), close-chain (c .before .before .before .before .before .before .before .before .before .before .pre .1) (c .before .before .closing .given .1) (c .if1 .left))
 
 close-case-enum-known-closing-2 : (t : ℕ) → close-case-lts.Need-enum-known-closing-2 (close-case-calls t) (close-case-at t) close-case.Post
 close-case-enum-known-closing-2 t c = search needs
 
 close-case-close-by-three-opt-requires : (t : ℕ) → close-case-lts.Need-close-by-three-opt-requires (close-case-calls t) (close-case-at t) close-case.Post
-close-case-close-by-three-opt-requires t c κs = close-three-opt-asked (c .before .before .before .before .before .before .before .pre .1) (c .before .closing2 .given .1)
+close-case-close-by-three-opt-requires t c κs = close-three-opt-asked (c .before .before .before .before .before .before .before .before .before .pre .1) (c .before .closing2 .given .1)
 
 close-case-enum-told : (t : ℕ) → close-case-lts.Need-enum-told (close-case-calls t) (close-case-at t) close-case.Post
 close-case-enum-told t c = search needs
@@ -144,16 +144,16 @@ close-case-enum-told-3 : (t : ℕ) → close-case-lts.Need-enum-told-3 (close-ca
 close-case-enum-told-3 t c = search needs
 
 close-case-returns-2 : (t : ℕ) → close-case-lts.Need-returns-2 (close-case-calls t) (close-case-at t) close-case.Post
-close-case-returns-2 t c = close-walks (c .before .before .before .before .before .before .before .before .before .pre .1) (c .before .before .before .closing .given .1) _ (c .before .if1 .left) (c .chain .ensures)
+close-case-returns-2 t c = close-walks (c .before .before .before .before .before .before .before .before .before .before .before .pre .1) (c .before .before .before .closing .given .1) _ (c .before .if1 .left) (c .chain .ensures)
 
 close-case-returns-3 : (t : ℕ) → close-case-lts.Need-returns-3 (close-case-calls t) (close-case-at t) close-case.Post
-close-case-returns-3 t c = close-settled (c .before .before .before .before .before .before .before .before .before .before .pre .1) (c .before .before .before .before .closing2 .given .1) _ (c .before .before .close-by-three-opt .ensures) (c .enum-told .given .1)
+close-case-returns-3 t c = close-settled (c .before .before .before .before .before .before .before .before .before .before .before .before .pre .1) (c .before .before .before .before .closing2 .given .1) _ (c .before .before .close-by-three-opt .ensures) (c .enum-told .given .1)
 
 close-case-returns-4 : (t : ℕ) → close-case-lts.Need-returns-4 (close-case-calls t) (close-case-at t) close-case.Post
-close-case-returns-4 t c = close-no-moves (c .before .before .before .before .before .before .before .before .before .before .pre .1) (c .before .before .before .before .closing2 .given .1) _ (c .before .before .close-by-three-opt .ensures) (c .enum-told2 .given .1)
+close-case-returns-4 t c = close-no-moves (c .before .before .before .before .before .before .before .before .before .before .before .before .pre .1) (c .before .before .before .before .closing2 .given .1) _ (c .before .before .close-by-three-opt .ensures) (c .enum-told2 .given .1)
 
 close-case-returns-5 : (t : ℕ) → close-case-lts.Need-returns-5 (close-case-calls t) (close-case-at t) close-case.Post
-close-case-returns-5 t c = close-no-saving (c .before .before .before .before .before .before .before .before .before .before .pre .1) (c .before .before .before .before .closing2 .given .1) _ (c .before .before .close-by-three-opt .ensures) (c .enum-told3 .given .1)
+close-case-returns-5 t c = close-no-saving (c .before .before .before .before .before .before .before .before .before .before .before .before .pre .1) (c .before .before .before .before .closing2 .given .1) _ (c .before .before .close-by-three-opt .ensures) (c .enum-told3 .given .1)
 
 pub +chain+close-case-spec : {M : Type 1} → statement M
 +chain+close-case-spec = close μ-chain μ-close-case (λ t. chain-lts.spec (chain-calls t)

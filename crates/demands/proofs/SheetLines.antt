@@ -1,0 +1,88 @@
+-- What a sheet accepts, answers and changes by the rules over the lengths of what is taken out and of what is put in: the theorems of demand 2 behind
+-- any tests. `Demand2` says them of one table, `Demand2Between` of two. Assumes nothing.
+use Prim.Native.Nat.{ℕ}
+use mathlib.Core.Path.{_≡_, refl, sym, _∙_, ap, subst}
+use mathlib.Core.Bool.{Bool, true, false}
+use mathlib.Core.Logic.{_↔_}
+use mathlib.Core.List.{List, []}
+use native.Mathlib.Omega.{arith}
+use lib.ListN.{length}
+use Rattle.lengths.specs.Edge.{Edge, edgeCount}
+use Rattle.lists.specs.Test.{unless}
+use Rattle.marks.specs.Mark.{openMark, openIn}
+use Rattle.argument.specs.Line.{Struck, strikes, judge, CompleteLine}
+use Rattle.argument.specs.Sheet.{Place, Result, start, sheet, CompleteLines, ended, Answers, RefusedAt}
+use Rattle.argument.specs.Verdict.{accepted, refused}
+use Rattle.argument.proofs.Exact.{line-sound, line-complete}
+use Rattle.argument.proofs.Numbers.{refusal-told}
+use Rattle.argument.proofs.SheetExact.{chain-length, sheet-exact}
+use Rattle.sheets.proofs.Records.{sheet-records}
+use Rattle.sheets.specs.Rules.{rulesBetween, markingBetween}
+use Rattle.sheets.specs.Sheet.{wholeSheet}
+use Rattle.marking.specs.Mark.{markTested, turnedDown}
+use Rattle.marking.specs.declared.tests.Tested.{Tested}
+use Rattle.marking.specs.declared.tests.Tested.the-variants.{Points, Refused}
+use Rattle.demands.specs.Marked.{struckEdges, Changes}
+use Rattle.demands.proofs.Changed.{chain-changes, no-changes}
+use Rattle.demands.proofs.Lawful.{lawful-between}
+
+-- A line is accepted exactly when it is complete. The walk accepts exactly the complete arguments laid out there (`line-sound`, `line-complete`), since the rules are
+-- lawful: on every set that an argument comes to, the walk's list has exactly the feasible pairs, and its number is 0 exactly where the 3-opt closing settles.
+pub judged-exact :
+    (n : ℕ) (out put marks sheet : List ℕ) (i a b next high : ℕ) →
+    (judge (rulesBetween n out put marks) (openIn n marks) sheet i ≡ accepted (strikes a b next high)) ↔ CompleteLine (rulesBetween n out put marks) (openIn n marks) sheet i a b next high
+judged-exact n out put marks sheet i a b next high = (
+  line-sound (rulesBetween n out put marks) (lawful-between n out put marks) sheet (openIn n marks) i a b next high,
+  line-complete (rulesBetween n out put marks) (lawful-between n out put marks) sheet (openIn n marks) i a b next high,
+)
+
+module _ (by n : ℕ) (out put marks s : List ℕ) where
+  -- a call that passes the tests, and 7, has its lines marked
+  pub lines-marked : (t : Tested) → t ≡ Points n → wholeSheet (length s) ≡ true → markTested by t out put marks s ≡ sheet (markingBetween by n out put) s marks
+  lines-marked t e w = ap (λ (r : Tested). markTested by r out put marks s) e ∙ rw w
+
+  -- what is said of a call whose answer is that of its lines
+  module _ (answer : Result (List ℕ)) (lines-of : answer ≡ sheet (markingBetween by n out put) s marks) where
+    -- its lines are judged one after the other (`sheet-exact`)
+    pub answers : (r : Result (List ℕ)) → (answer ≡ r) ↔ Answers (markingBetween by n out put) s (start marks) r
+    answers r =
+        let e = sheet-exact (markingBetween by n out put) (lawful-between n out put) s marks r in
+        (λ h. e .0 (sym lines-of ∙ h), λ m. lines-of ∙ e .1 m)
+
+    -- a chain of complete lines that ends at index 0 is such an answer, and the place behind a chain has counted its lines
+    pub answers-whole : (lines : List Struck) (q : Place (List ℕ)) → CompleteLines (markingBetween by n out put) s (start marks) lines q → q .index ≡ 0 →
+        answer ≡ record { marks = q .marks; lines = length lines; verdict = accepted tt }
+    unfolding start
+    answers-whole lines q chain z =
+        answers (record { marks = q .marks; lines = length lines; verdict = accepted tt }) .1
+        (record {
+          lines = lines;
+          place = q;
+          chain = chain;
+          stops = ended z;
+          marks-left = refl;
+          counted = let c = chain-length (markingBetween by n out put) s lines (start marks) q chain in omega (arith, c);
+        })
+
+    -- the sheet has a record, so index 1 is entered, and from then on a refusal names a record that was entered
+    pub answers-refusal : wholeSheet (length s) ≡ true → (number rec : ℕ) → answer .verdict ≡ refused number rec → RefusedAt s number rec
+    answers-refusal w number rec e =
+        refusal-told (markingBetween by n out put) (lawful-between n out put) s marks answer (sheet-records s w .some) (answers answer .0 refl) number rec e
+
+  -- every call: one that fails a test accepts no line and changes nothing
+  pub tested-changes : (by ≡ openMark → ⊥) → (t : Tested) → ((p : ℕ) → t ≡ Points p → (p ≡ n) × (length marks ≡ edgeCount n)) →
+      (struck : List Edge) × Changes by n marks (markTested by t out put marks s .marks) struck (markTested by t out put marks s .lines)
+  tested-changes other t told = tests t told
+    where
+      Found : Result (List ℕ) → Type 0
+      Found r = (struck : List Edge) × Changes by n marks (r .marks) struck (r .lines)
+
+      whole : length marks ≡ edgeCount n → (b : Bool) → Found (unless b (turnedDown 7 marks) (sheet (markingBetween by n out put) s marks))
+      whole size true =
+          let m = sheet-exact (markingBetween by n out put) (lawful-between n out put) s marks (sheet (markingBetween by n out put) s marks) .0 refl in
+          (struckEdges (m .lines), chain-changes by other n out put s marks size (sheet (markingBetween by n out put) s marks) m)
+      whole size false = ([], no-changes by n marks)
+
+      tests : (r : Tested) → ((p : ℕ) → r ≡ Points p → (p ≡ n) × (length marks ≡ edgeCount n)) → Found (markTested by r out put marks s)
+      tests (Refused number) e = ([], no-changes by n marks)
+      tests (Points m) e = let z = e m refl in subst (λ (k : ℕ). Found (markTested by (Points k) out put marks s)) (sym (z .0)) (whole (z .1) (wholeSheet (length s)))

@@ -1,0 +1,3 @@
+pub mod BetweenLists
+pub mod BetweenSheets
+pub mod LimitWays

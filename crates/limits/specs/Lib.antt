@@ -1,0 +1,4 @@
+pub mod asks
+pub mod Listing
+pub mod Mark
+pub mod Tests
