@@ -55,13 +55,25 @@ pub fn unpack_marks(n: u32, packed: &[u8], bytes: &mut [u8]) -> u64 {
 /// *List pairs* for C: the refusal number, or 65,536 × the number of pairs. The list's places are
 /// its whole entries; bytes past the pairs stay.
 pub fn list_pairs(n: u32, table: &[u8], marks: &[u8], [a, b, c]: [u16; 3], list: &mut [u8]) -> u64 {
+    let table = entries(table);
+    written(list, |places| listing::list_pairs(n, &table, marks, (a, b), c, places))
+}
+
+/// Writes the pairs that `listing` answers the number of.
+fn written(list: &mut [u8], listing: impl FnOnce(&mut [u16]) -> Result<usize, Refusal>) -> u64 {
     let mut places = vec![0; list.len() / 2];
-    number(listing::list_pairs(n, &entries(table), marks, (a, b), c, &mut places).map(|pairs| {
+    number(listing(&mut places).map(|pairs| {
         for (place, point) in list.chunks_exact_mut(2).zip(&places[..2 * pairs]) {
             place.copy_from_slice(&point.to_le_bytes());
         }
         65_536 * pairs as u64
     }))
+}
+
+/// *List pairs* over two tables for C: the number of `list_pairs`.
+pub fn list_between(n: u32, low: &[u8], high: &[u8], marks: &[u8], [a, b, c]: [u16; 3], list: &mut [u8]) -> u64 {
+    let (low, high) = (entries(low), entries(high));
+    written(list, |places| listing::list_between(n, (&low, &high), marks, (a, b), c, places))
 }
 
 /// "The refusal number or 0, plus 256 × the record, plus 16,777,216 × the lines accepted."
@@ -73,6 +85,11 @@ pub fn marking_number(marked: Marked) -> u64 {
 /// *Mark a sheet* for C.
 pub fn mark_sheet(n: u32, table: &[u8], marks: &mut [u8], sheet: &[u8]) -> u64 {
     marking_number(marking::mark_sheet(n, &entries(table), marks, &numbers(sheet)))
+}
+
+/// *Mark a sheet* over two tables for C: the number of marking.
+pub fn mark_between(n: u32, low: &[u8], high: &[u8], marks: &mut [u8], sheet: &[u8]) -> u64 {
+    marking_number(marking::mark_between(n, (&entries(low), &entries(high)), marks, &numbers(sheet)))
 }
 
 /// *Ask a sheet* for C: the number of marking.

@@ -1,7 +1,7 @@
 //! The crossing (01, Arguments; tests 15 and 16).
 
 use crate::edge_set::EdgeSet;
-use crate::lengths::Lengths;
+use crate::intervals::Intervals;
 use crate::refusal::Refusal;
 
 /// The other ends of a centre's two edges.
@@ -31,7 +31,7 @@ impl Crossing {
     }
 
     /// Whether one of the four labellings saves on both moves.
-    pub fn saves(&self, known: &EdgeSet, l: &Lengths) -> bool {
+    pub fn saves(&self, known: &EdgeSet, l: &Intervals) -> bool {
         let (r_ends, s_ends) = (known.ends(self.r), known.ends(self.s));
         for (x, y) in [(r_ends[0], r_ends[1]), (r_ends[1], r_ends[0])] {
             for (z, w) in [(s_ends[0], s_ends[1]), (s_ends[1], s_ends[0])] {
@@ -45,15 +45,15 @@ impl Crossing {
 
     /// l(pq) + l(rx) + l(sw) > l(rs) + l(px) + l(qw), and
     /// l(pq) + l(ry) + l(sz) > l(rs) + l(pz) + l(qy). That is, `labelling_saving` is above 0; the second is often spared.
-    pub fn labelling_saves(&self, l: &Lengths, (x, y): Ends, (z, w): Ends) -> bool {
+    pub fn labelling_saves(&self, l: &Intervals, (x, y): Ends, (z, w): Ends) -> bool {
         let Crossing { p, q, r, s } = *self;
-        let (pq, rs) = (l.between(p, q), l.between(r, s));
-        pq + l.between(r, x) + l.between(s, w) > rs + l.between(p, x) + l.between(q, w)
-            && pq + l.between(r, y) + l.between(s, z) > rs + l.between(p, z) + l.between(q, y)
+        let (pq, rs) = (l.taken_out(p, q), l.put_in(r, s));
+        pq + l.taken_out(r, x) + l.taken_out(s, w) > rs + l.put_in(p, x) + l.put_in(q, w)
+            && pq + l.taken_out(r, y) + l.taken_out(s, z) > rs + l.put_in(p, z) + l.put_in(q, y)
     }
 
     /// Its saving (02, Paper 5): "of four labellings the best".
-    pub fn saving(&self, l: &Lengths, (x, y): Ends, (z, w): Ends) -> i64 {
+    pub fn saving(&self, l: &Intervals, (x, y): Ends, (z, w): Ends) -> i64 {
         let labelling = |xy, zw| self.labelling_saving(l, xy, zw);
         let kept = labelling((x, y), (z, w)).max(labelling((x, y), (w, z)));
         let swapped = labelling((y, x), (z, w)).max(labelling((y, x), (w, z)));
@@ -61,16 +61,16 @@ impl Crossing {
     }
 
     /// The smaller of l(pq) + l(rx) + l(sw) − l(rs) − l(px) − l(qw) and l(pq) + l(ry) + l(sz) − l(rs) − l(pz) − l(qy).
-    pub fn labelling_saving(&self, l: &Lengths, (x, y): Ends, (z, w): Ends) -> i64 {
+    pub fn labelling_saving(&self, l: &Intervals, (x, y): Ends, (z, w): Ends) -> i64 {
         let Crossing { p, q, r, s } = *self;
-        let both = l.between(p, q) - l.between(r, s);
-        let first = both + l.between(r, x) + l.between(s, w) - l.between(p, x) - l.between(q, w);
-        let second = both + l.between(r, y) + l.between(s, z) - l.between(p, z) - l.between(q, y);
+        let both = l.taken_out(p, q) - l.put_in(r, s);
+        let first = both + l.taken_out(r, x) + l.taken_out(s, w) - l.put_in(p, x) - l.put_in(q, w);
+        let second = both + l.taken_out(r, y) + l.taken_out(s, z) - l.put_in(p, z) - l.put_in(q, y);
         i64::from(first.min(second))
     }
 
     /// Tests 15 and 16.
-    pub fn closes(&self, known: &EdgeSet, l: &Lengths) -> Result<(), Refusal> {
+    pub fn closes(&self, known: &EdgeSet, l: &Intervals) -> Result<(), Refusal> {
         if !self.in_place(known) {
             Err(Refusal::CrossingPlace)
         } else if !self.saves(known, l) {

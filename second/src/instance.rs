@@ -1,7 +1,6 @@
-//! The limits of an instance and the tests that operations share (1, 2, 5, 6).
+//! The limits of an instance and the tests that operations share (1, 2, 5, 25, 6).
 
 use crate::lengths::edge_count;
-use crate::packed::some_pending;
 use crate::refusal::Refusal;
 
 /// 01, Points, lengths, marks.
@@ -24,22 +23,42 @@ impl Instance {
         }
     }
 
-    /// Tests 1, 2 and 5, which the savings begin with. Answers n.
+    /// Tests 1, 2 and 5 of one table. Answers n.
     pub fn table_tests(n: u32, table: &[u32]) -> Result<u16, Refusal> {
         let n = Self::point_count(n)?;
-        if table.len() != edge_count(n) {
-            return Err(Refusal::TableSize);
-        }
-        if table.iter().fold(0, |most, &l| most.max(l)) > Self::MOST_LENGTH {
-            return Err(Refusal::TableEntry);
-        }
+        table_size(n, table)?;
+        table_entries(table)?;
         Ok(n)
     }
 
-    /// Tests 1, 2, 5 and 6, which marking, asking, listing and the tour check begin with. Answers n and whether a
-    /// mark is pending.
-    pub fn tests(n: u32, table: &[u32], marks: &[u8]) -> Result<(u16, bool), Refusal> {
-        let n = Self::table_tests(n, table)?;
-        Ok((n, some_pending(n, marks)?))
+    /// Tests 1, 2, 5 and 25 of two tables: "tests 2 and 5 read both", then no low length is above its high one. Answers n.
+    pub fn limit_tests(n: u32, low: &[u32], high: &[u32]) -> Result<u16, Refusal> {
+        let n = Self::point_count(n)?;
+        table_size(n, low)?;
+        table_size(n, high)?;
+        table_entries(low)?;
+        table_entries(high)?;
+        let above = low.iter().zip(high).fold(false, |above, (low, high)| above | (low > high));
+        demand(!above, Refusal::LowAboveHigh)?;
+        Ok(n)
+    }
+}
+
+/// Test 2.
+fn table_size(n: u16, table: &[u32]) -> Result<(), Refusal> {
+    demand(table.len() == edge_count(n), Refusal::TableSize)
+}
+
+/// Test 5.
+fn table_entries(table: &[u32]) -> Result<(), Refusal> {
+    let most = table.iter().fold(0, |most, &l| most.max(l));
+    demand(most <= Instance::MOST_LENGTH, Refusal::TableEntry)
+}
+
+fn demand(holds: bool, refusal: Refusal) -> Result<(), Refusal> {
+    if holds {
+        Ok(())
+    } else {
+        Err(refusal)
     }
 }

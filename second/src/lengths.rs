@@ -55,13 +55,6 @@ impl<'a> Lengths<'a> {
         Lengths { order: EdgeOrder::new(n), table }
     }
 
-    /// The lengths x-(x + 1), .., x-n; x is below n.
-    #[inline]
-    pub fn row(&self, x: u16) -> &'a [u32] {
-        let start = self.order.rising_place(x, x + 1);
-        &self.table[start..start + usize::from(self.order.n - x)]
-    }
-
     /// l(ab); "the length from a point to itself is 0".
     #[inline]
     pub fn between(&self, a: u16, b: u16) -> i32 {

@@ -7,6 +7,7 @@ pub mod bytes;
 pub mod crossing;
 pub mod edge_set;
 pub mod instance;
+pub mod intervals;
 pub mod kit;
 pub mod lengths;
 pub mod listing;

@@ -1,11 +1,12 @@
-//! *Mark a sheet* (01, The sheet; Each operation and its refusals) and asking it (02, Paper 3).
+//! *Mark a sheet* (01, The sheet; Each operation and its refusals), asking it (02, Paper 3) and marking it over two tables
+//! (Paper 11).
 
 use crate::crossing::Crossing;
 use crate::edge_set::EdgeSet;
 use crate::instance::Instance;
-use crate::lengths::Lengths;
+use crate::intervals::Intervals;
 use crate::marks::{Marks, PENDING, STRUCK};
-use crate::packed::put_mark;
+use crate::packed::{put_mark, some_pending};
 use crate::pairs::Split;
 use crate::refusal::{demand, Fault, Refusal};
 use crate::sheet::{Case, Closing, Line, Sheet};
@@ -19,32 +20,43 @@ pub struct Marked {
 
 /// Marks the sheet's accepted lines struck; a stopped sheet keeps its earlier strikes.
 pub fn mark_sheet(n: u32, table: &[u32], marks: &mut [u8], sheet: &[u16]) -> Marked {
-    hand_in(n, table, marks, sheet, STRUCK)
+    hand_in(Instance::table_tests(n, table), (table, table), marks, sheet, STRUCK)
+}
+
+/// The same where each length is known to lie between a low and a high one.
+pub fn mark_between(n: u32, (low, high): (&[u32], &[u32]), marks: &mut [u8], sheet: &[u16]) -> Marked {
+    hand_in(Instance::limit_tests(n, low, high), (low, high), marks, sheet, STRUCK)
 }
 
 /// Asks a sheet: "its strikes get mark 2, pending"; a stopped sheet keeps its earlier ones.
 pub fn ask_sheet(n: u32, table: &[u32], marks: &mut [u8], sheet: &[u16]) -> Marked {
-    hand_in(n, table, marks, sheet, PENDING)
+    hand_in(Instance::table_tests(n, table), (table, table), marks, sheet, PENDING)
 }
 
-/// Each accepted line's edge gets the mark `strike`.
-fn hand_in(n: u32, table: &[u32], marks: &mut [u8], sheet: &[u16], strike: u8) -> Marked {
+/// Each accepted line's edge gets the mark `strike`. `n` is what the tests before 6 answer of the two tables.
+fn hand_in(
+    n: Result<u16, Refusal>,
+    (low, high): (&[u32], &[u32]),
+    marks: &mut [u8],
+    sheet: &[u16],
+    strike: u8,
+) -> Marked {
     let mut lines = 0;
-    let read = tests(n, table, marks, sheet).map_err(|refusal| Fault { refusal, record: 0 });
-    let fault = read.and_then(|(n, sheet)| mark_lines(&Lengths::new(n, table), marks, sheet, strike, &mut lines)).err();
+    let read = n.and_then(|n| Ok((Intervals::new(n, low, high), tests(n, marks, sheet)?)));
+    let read = read.map_err(|refusal| Fault { refusal, record: 0 });
+    let fault = read.and_then(|(lengths, sheet)| mark_lines(&lengths, marks, sheet, strike, &mut lines)).err();
     Marked { fault, lines }
 }
 
-/// 1, 2, 5, 6, 20, 7.
-fn tests<'a>(n: u32, table: &[u32], marks: &[u8], sheet: &'a [u16]) -> Result<(u16, Sheet<'a>), Refusal> {
-    let (n, pending) = Instance::tests(n, table, marks)?;
-    if pending {
+/// 6, 20, 7.
+fn tests<'a>(n: u16, marks: &[u8], sheet: &'a [u16]) -> Result<Sheet<'a>, Refusal> {
+    if some_pending(n, marks)? {
         return Err(Refusal::SomethingPending);
     }
-    Ok((n, Sheet::read(sheet)?))
+    Sheet::read(sheet)
 }
 
-fn mark_lines(lengths: &Lengths, marks: &mut [u8], sheet: Sheet, strike: u8, lines: &mut u32) -> Result<(), Fault> {
+fn mark_lines(lengths: &Intervals, marks: &mut [u8], sheet: Sheet, strike: u8, lines: &mut u32) -> Result<(), Fault> {
     let mut walk = Walk { lengths, sheet, known: EdgeSet::empty(), highest: 1 };
     let mut index = 1;
     loop {
@@ -61,7 +73,7 @@ fn mark_lines(lengths: &Lengths, marks: &mut [u8], sheet: Sheet, strike: u8, lin
 
 /// The way through the records of one sheet.
 struct Walk<'a> {
-    lengths: &'a Lengths<'a>,
+    lengths: &'a Intervals<'a>,
     sheet: Sheet<'a>,
     known: EdgeSet,
     /// The highest record entered.

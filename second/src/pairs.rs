@@ -1,4 +1,6 @@
-//! The feasible pairs at a split point (01, Standing pairs; 02, Paper 7), found one after another.
+//! The feasible pairs at a split point (01, Standing pairs; 02, Papers 7 and 11), found one after another.
+//!
+//! Over two tables a length counts high left of a "≥", where it is put in, and low right of it, where it is taken out.
 //!
 //! Test 5 moves each settled point of K with the pair, one that has two edges there, onto each edge
 //! without it. K is {ab} or comes from pairs that stand, so none of its points moves within it: what
@@ -11,7 +13,7 @@
 
 use crate::edge_set::EdgeSet;
 use crate::instance::Instance;
-use crate::lengths::Lengths;
+use crate::intervals::Intervals;
 use crate::marks::Marks;
 
 /// Larger than every sum of lengths in test 5.
@@ -28,20 +30,20 @@ pub struct FarEdge {
 }
 
 impl FarEdge {
-    pub fn new(l: &Lengths, (p, q): (u16, u16), c: u16) -> Self {
-        FarEdge { p, q, length: l.between(p, q), from_p: l.between(p, c), from_q: l.between(q, c) }
+    pub fn new(l: &Intervals, (p, q): (u16, u16), c: u16) -> Self {
+        FarEdge { p, q, length: l.taken_out(p, q), from_p: l.put_in(p, c), from_q: l.put_in(q, c) }
     }
 
     /// Test 4 for cx with l(cx) = leg: pq and cx are compatible, that is, the larger of
     /// l(pc) + l(qx) and l(px) + l(qc) is at least l(pq) + l(cx) (document 000, formula 1).
-    /// Edges that share a point always are.
+    /// Edges that share a point always are, since no low length is above its high one.
     #[inline(always)]
-    pub fn allows(&self, l: &Lengths, x: u16, leg: i32) -> bool {
+    pub fn allows(&self, l: &Intervals, x: u16, leg: i32) -> bool {
         let need = self.length + leg;
         x == self.p
             || x == self.q
-            || self.from_p + l.between(self.q, x) >= need
-            || self.from_q + l.between(self.p, x) >= need
+            || self.from_p + l.put_in(self.q, x) >= need
+            || self.from_q + l.put_in(self.p, x) >= need
     }
 }
 
@@ -49,19 +51,19 @@ impl FarEdge {
 #[derive(Clone, Copy, Default)]
 struct Settled {
     w: u16,
-    /// l(cw) + l(st) − l(sw) − l(tw).
+    /// l(cw) + l(st), put in, less l(sw) + l(tw), taken out.
     spare: i32,
 }
 
 impl Settled {
-    fn new(l: &Lengths, (w, s, t): (u16, u16, u16), c: u16) -> Self {
-        Settled { w, spare: l.between(c, w) + l.between(s, t) - l.between(s, w) - l.between(t, w) }
+    fn new(l: &Intervals, (w, s, t): (u16, u16, u16), c: u16) -> Self {
+        Settled { w, spare: l.put_in(c, w) + l.put_in(s, t) - l.taken_out(s, w) - l.taken_out(t, w) }
     }
 
     /// Test 5 for w and the edge cx with l(cx) = leg: l(st) + l(cw) + l(xw) ≥ l(cx) + l(sw) + l(tw).
     #[inline]
-    fn stays(&self, l: &Lengths, x: u16, leg: i32) -> bool {
-        l.between(x, self.w) + self.spare >= leg
+    fn stays(&self, l: &Intervals, x: u16, leg: i32) -> bool {
+        l.put_in(x, self.w) + self.spare >= leg
     }
 }
 
@@ -79,7 +81,8 @@ struct Leg {
 struct End {
     /// The y that would close a short cycle with x, or 0.
     barred: u16,
-    /// l(ex) − l(ec). x does not move from between e and c onto the pair's other edge cy if l(xy) ≥ l(cy) + gain.
+    /// l(ex) + l(cx), taken out, less l(ec) + l(cx), put in: cx "counts as each". x does not move from between e and c onto
+    /// the pair's other edge cy if l(xy) ≥ l(cy) + gain.
     gain: i32,
 }
 
@@ -90,7 +93,7 @@ impl End {
 
 /// K as c sees it.
 struct View<'a> {
-    lengths: &'a Lengths<'a>,
+    lengths: &'a Intervals<'a>,
     marks: Marks<'a>,
     known: &'a EdgeSet,
     c: u16,
@@ -101,7 +104,7 @@ struct View<'a> {
 }
 
 impl<'a> View<'a> {
-    fn new(lengths: &'a Lengths<'a>, marks: Marks<'a>, known: &'a EdgeSet, c: u16) -> Self {
+    fn new(lengths: &'a Intervals<'a>, marks: Marks<'a>, known: &'a EdgeSet, c: u16) -> Self {
         let (far, settled) = ([FarEdge::default(); EdgeSet::MOST_EDGES], [Settled::default(); EdgeSet::MOST_EDGES]);
         let mut view = View { lengths, marks, known, c, far, far_count: 0, settled, settled_count: 0 };
         for &(p, q) in known.edges().iter().filter(|&&(p, q)| p != c && q != c) {
@@ -120,12 +123,12 @@ impl<'a> View<'a> {
         &self.far[..self.far_count]
     }
 
-    /// The least l(uc) + l(vc) − l(uv) over K's edges uv that do not touch c.
+    /// The least l(uc) + l(vc), put in, less l(uv), taken out, over K's edges uv that do not touch c.
     fn bound(&self) -> i32 {
         self.far().iter().fold(NO_BOUND, |least, edge| least.min(edge.from_p + edge.from_q - edge.length))
     }
 
-    /// l(cx) if cx is open and compatible with K (tests 1 and 4) and no point of K moves onto it (5); cx is not in K.
+    /// l(cx), taken out, if cx is open and compatible with K (tests 1 and 4) and no point of K moves onto it (5); cx is not in K.
     #[inline]
     fn leg(&self, x: u16) -> Option<i32> {
         let l = self.lengths;
@@ -133,7 +136,7 @@ impl<'a> View<'a> {
         if !self.marks.open(place) {
             return None;
         }
-        let leg = l.table[place] as i32;
+        let leg = l.taken_out_at(place);
         let kept = self.far().iter().all(|edge| edge.allows(l, x, leg))
             && self.settled[..self.settled_count].iter().all(|point| point.stays(l, x, leg));
         kept.then_some(leg)
@@ -143,11 +146,10 @@ impl<'a> View<'a> {
     /// l(ec) + l(ux) + l(vx) ≥ l(uv) + l(ex) + l(cx).
     fn gain(&self, x: u16, leg: i32) -> Option<i32> {
         let (l, e) = (self.lengths, self.known.ends(x)[0]);
-        let gain = l.between(e, x) - l.between(e, self.c);
-        let stays = |&(u, v): &(u16, u16)| {
-            u == x || v == x || l.between(u, x) + l.between(v, x) >= l.between(u, v) + gain + leg
-        };
-        self.known.edges().iter().all(stays).then_some(gain)
+        let gain = l.taken_out(e, x) + leg - l.put_in(e, self.c);
+        let stays =
+            |&(u, v): &(u16, u16)| u == x || v == x || l.put_in(u, x) + l.put_in(v, x) >= l.taken_out(u, v) + gain;
+        self.known.edges().iter().all(stays).then(|| gain - l.put_in(self.c, x))
     }
 }
 
@@ -165,11 +167,11 @@ enum Choice {
 struct Row<'a> {
     x: u16,
     barred: u16,
-    /// l(xc).
+    /// l(xc), taken out.
     length: i32,
     /// The bound less l(xc), or 0 less x's gain, whichever is smaller.
     spare: i32,
-    /// l(xy) for y = x + 1, .., n.
+    /// l(xy), put in, for y = x + 1, .., n.
     lengths: &'a [u32],
     column: usize,
     end: usize,
@@ -192,7 +194,7 @@ impl Row<'_> {
 
 /// The search for the feasible pairs at c, in rising order.
 pub struct Split<'a> {
-    lengths: &'a Lengths<'a>,
+    lengths: &'a Intervals<'a>,
     legs: [Leg; Instance::MOST_POINTS as usize],
     count: usize,
     /// The ends among the legs, from place 1 on.
@@ -207,7 +209,7 @@ pub struct Split<'a> {
 
 impl<'a> Split<'a> {
     /// K is {ab}, or comes from it by pairs that stand.
-    pub fn new(lengths: &'a Lengths<'a>, marks: Marks, known: &EdgeSet, c: u16) -> Self {
+    pub fn new(lengths: &'a Intervals<'a>, marks: Marks, known: &EdgeSet, c: u16) -> Self {
         let view = View::new(lengths, marks, known, c);
         let mut split = Split {
             lengths,
@@ -236,7 +238,7 @@ impl<'a> Split<'a> {
 
     /// Keeps x, where cx is in K: it is open, compatible with K, and no point of K moves onto it.
     fn keep_known(&mut self, view: &View, x: u16) {
-        self.push(Leg { x, end: 0, length: view.lengths.between(view.c, x) });
+        self.push(Leg { x, end: 0, length: view.lengths.taken_out(view.c, x) });
     }
 
     /// Keeps x, which has no edge in K, if its leg passes.
@@ -315,7 +317,7 @@ impl<'a> Split<'a> {
         let Leg { x, end: at, length } = self.legs[self.rows];
         let End { barred, gain } = self.ends[usize::from(at)];
         let spare = (self.bound - length).min(-gain);
-        self.row = Row { x, barred, length, spare, lengths: self.lengths.row(x), column, end };
+        self.row = Row { x, barred, length, spare, lengths: self.lengths.put_in_row(x), column, end };
         self.rows += 1;
     }
 

@@ -25,6 +25,7 @@ pub enum Refusal {
     SomethingPending = 20,
     NothingPending = 21,
     Buffer = 22,
+    LowAboveHigh = 25,
 }
 
 impl Refusal {

@@ -2,7 +2,7 @@
 
 use crate::crossing::Crossing;
 use crate::instance::Instance;
-use crate::lengths::Lengths;
+use crate::intervals::Intervals;
 use crate::refusal::Refusal;
 use crate::sheet::points;
 
@@ -10,27 +10,27 @@ type Edge = (u16, u16);
 
 /// The exchange of pq and xy: "their sum less the larger of the two exchanges". pq and xy are compatible exactly when it
 /// is at most 0.
-pub fn exchange(l: &Lengths, (p, q): Edge, (x, y): Edge) -> i64 {
-    let straight = l.between(p, x) + l.between(q, y);
-    let crossed = l.between(p, y) + l.between(q, x);
-    i64::from(l.between(p, q) + l.between(x, y) - straight.max(crossed))
+pub fn exchange(l: &Intervals, (p, q): Edge, (x, y): Edge) -> i64 {
+    let straight = l.put_in(p, x) + l.put_in(q, y);
+    let crossed = l.put_in(p, y) + l.put_in(q, x);
+    i64::from(l.taken_out(p, q) + l.taken_out(x, y) - straight.max(crossed))
 }
 
 /// Moving c from between x and y to between u and v: "old less new". Test 5 shuts a pair out exactly when it is above 0
 /// for a point c whose two edges in K with the pair are xc and yc, and an edge uv of that set without c.
-pub fn moving(l: &Lengths, c: u16, (x, y): Edge, (u, v): Edge) -> i64 {
-    let old = l.between(u, v) + l.between(x, c) + l.between(y, c);
-    let new = l.between(x, y) + l.between(u, c) + l.between(v, c);
+pub fn moving(l: &Intervals, c: u16, (x, y): Edge, (u, v): Edge) -> i64 {
+    let old = l.taken_out(u, v) + l.taken_out(x, c) + l.taken_out(y, c);
+    let new = l.put_in(x, y) + l.put_in(u, c) + l.put_in(v, c);
     i64::from(old - new)
 }
 
 /// 1, 2, 5; 11, an edge taken out is none. The lengths if all pass.
-fn tests<'a>(n: u32, table: &'a [u32], taken_out: &[Edge]) -> Result<Lengths<'a>, Refusal> {
+fn tests<'a>(n: u32, table: &'a [u32], taken_out: &[Edge]) -> Result<Intervals<'a>, Refusal> {
     let n = Instance::table_tests(n, table)?;
     if !taken_out.iter().all(|&(a, b)| points(n, a, b, &[])) {
         return Err(Refusal::PointField);
     }
-    Ok(Lengths::new(n, table))
+    Ok(Intervals::exact(n, table))
 }
 
 /// The saving of exchanging pq and xy.

@@ -3,6 +3,7 @@
 use crate::instance::Instance;
 use crate::lengths::Lengths;
 use crate::marks::Marks;
+use crate::packed::some_pending;
 use crate::refusal::Refusal;
 
 /// The length of a tour and whether all its edges are open; pending ones are.
@@ -14,7 +15,8 @@ pub struct TourAnswer {
 
 /// 1, 2, 5, 6; 17.
 pub fn check_tour(n: u32, table: &[u32], marks: &[u8], tour: &[u16]) -> Result<TourAnswer, Refusal> {
-    let (n, _) = Instance::tests(n, table, marks)?;
+    let n = Instance::table_tests(n, table)?;
+    some_pending(n, marks)?;
     if !each_point_once(n, tour) {
         return Err(Refusal::Tour);
     }

@@ -2,6 +2,7 @@
 //! has an edge struck or pending, nor has one that three exchanges cannot shorten.
 
 use second::bytes::{ask_sheet, confirm, fresh_marks, mark_sheet, withdraw};
+use second::intervals::Intervals;
 use second::kit::boards::{self, Board};
 use second::kit::brute::Shortest;
 use second::kit::coverage::Coverage;
@@ -15,7 +16,7 @@ use second::lengths::Lengths;
 use second::packed::packed_size;
 
 /// One sheet of any sort.
-fn sheet(rng: &mut Rng, lengths: &Lengths, marks: &[u8]) -> Vec<u8> {
+fn sheet(rng: &mut Rng, lengths: &Intervals, marks: &[u8]) -> Vec<u8> {
     let plan = Plan::random(rng, lengths.order.n);
     let draft = sheets::valid(rng, lengths, marks, plan);
     match rng.below(3) {
@@ -26,7 +27,7 @@ fn sheet(rng: &mut Rng, lengths: &Lengths, marks: &[u8]) -> Vec<u8> {
 }
 
 /// A sheet marked or asked, or what is pending confirmed or withdrawn; the number for C.
-fn step(rng: &mut Rng, lengths: &Lengths, table: &[u8], marks: &mut [u8]) -> u64 {
+fn step(rng: &mut Rng, lengths: &Intervals, table: &[u8], marks: &mut [u8]) -> u64 {
     let n = u32::from(lengths.order.n);
     match rng.below(5) {
         0 => confirm(n, marks),
@@ -38,7 +39,7 @@ fn step(rng: &mut Rng, lengths: &Lengths, table: &[u8], marks: &mut [u8]) -> u64
 
 /// Takes step after step and answers the number of lines accepted.
 fn run(rng: &mut Rng, board: &Board, steps: usize) -> u64 {
-    let lengths = Lengths::new(board.n, &board.table);
+    let lengths = Intervals::exact(board.n, &board.table);
     let kept = Kept::new(rng, board);
     let table: Vec<u8> = board.table.iter().flat_map(|l| l.to_le_bytes()).collect();
     let mut marks = vec![0; packed_size(board.n)];

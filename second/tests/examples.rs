@@ -5,7 +5,8 @@ mod common;
 use common::*;
 use second::crossing::Crossing;
 use second::edge_set::EdgeSet;
-use second::lengths::{ceil_2d, edge_count, euc_2d, Lengths};
+use second::intervals::Intervals;
+use second::lengths::{ceil_2d, edge_count, euc_2d};
 use second::listing::list_pairs;
 use second::marking::mark_sheet;
 use second::pairs::FarEdge;
@@ -35,8 +36,8 @@ const DIAGONAL_STRUCK: [u8; 2] = [0b01_01_00_01, 0b01_01];
 
 fn compatible_on_square(pq: (u16, u16), (x, c): (u16, u16)) -> bool {
     let table = square();
-    let l = Lengths::new(4, &table);
-    FarEdge::new(&l, pq, c).allows(&l, x, l.between(c, x))
+    let l = Intervals::exact(4, &table);
+    FarEdge::new(&l, pq, c).allows(&l, x, l.taken_out(c, x))
 }
 
 #[test]
@@ -67,7 +68,7 @@ fn crossing_saves(rs: u32) -> bool {
     known.add_pair(s, (z, w));
     let crossing = Crossing { p, q, r, s };
     assert!(crossing.in_place(&known));
-    crossing.saves(&known, &Lengths::new(8, &crossing_board(rs)))
+    crossing.saves(&known, &Intervals::exact(8, &crossing_board(rs)))
 }
 
 #[test]

@@ -4,13 +4,14 @@ mod common;
 
 use common::*;
 use second::edge_set::EdgeSet;
+use second::intervals::Intervals;
 use second::kit::boards;
 use second::kit::checker::Checker;
 use second::kit::moved;
 use second::kit::naive::{Naive, Slip};
 use second::kit::rng::Rng;
 use second::kit::spoil;
-use second::lengths::{edge_count, measure, Lengths};
+use second::lengths::{edge_count, measure};
 use second::listing::list_pairs;
 use second::marks::Marks;
 use second::pairs::Split;
@@ -100,7 +101,7 @@ fn a_line_that_needs_the_moves() {
 
 /// The pairs at c under K, which comes from pairs that stand.
 fn pairs(table: &[u32], known: &EdgeSet, c: u16) -> Vec<(u16, u16)> {
-    let (lengths, marks) = (Lengths::new(6, table), fresh(6));
+    let (lengths, marks) = (Intervals::exact(6, table), fresh(6));
     let mut split = Split::new(&lengths, Marks::in_sheet(&marks), known, c);
     std::iter::from_fn(|| split.next_pair()).collect()
 }
@@ -116,7 +117,7 @@ fn a_pair_list_is_what_moving_the_split_point_leaves() {
             continue;
         }
         let (known, marks) = (EdgeSet::one(a, b), fresh(board.n.into()));
-        let lengths = Lengths::new(board.n, &board.table);
+        let lengths = Intervals::exact(board.n, &board.table);
         let moved = moved::pairs(&lengths, Marks::in_look(&marks), &known, c);
         let mut list = vec![0; 2 * edge_count(board.n)];
         let count = list_pairs(board.n.into(), &board.table, &marks, (a, b), c, &mut list).unwrap();

@@ -5,7 +5,8 @@ mod common;
 use common::*;
 use second::bytes;
 use second::crossing::Crossing;
-use second::lengths::{edge_count, Lengths};
+use second::intervals::Intervals;
+use second::lengths::edge_count;
 use second::refusal::Refusal;
 use second::saving::{crossing_saving, exchange_saving, move_saving};
 
@@ -68,7 +69,7 @@ fn crossings() {
 fn labellings() {
     let table = crossing_board(9);
     let [p, q, r, s, x, y, z, w] = CROSSING;
-    let saving = |xy, zw| Crossing { p, q, r, s }.labelling_saving(&Lengths::new(8, &table), xy, zw);
+    let saving = |xy, zw| Crossing { p, q, r, s }.labelling_saving(&Intervals::exact(8, &table), xy, zw);
     assert_eq!(saving((x, y), (z, w)), 3);
     assert_eq!(saving((x, y), (w, z)), 10 + 10 + 10 - 9 - 9 - 20);
     assert_eq!(saving((y, x), (z, w)), 10 + 10 + 10 - 9 - 20 - 9);

@@ -172,6 +172,7 @@ fn slips_are_demanded() {
         "slips with bits above 40",
         "slips of accepted sheets",
         "slips of sheets refused at no record",
+        "slips of sheets refused by 25",
         "slips of sheets stopped before a line was accepted",
         "slips of sheets stopped after accepted lines",
         "different slips of sheets alike to the candidate",
@@ -186,6 +187,45 @@ fn slips_are_demanded() {
     ] {
         assert!(missing.contains(&unmet.to_string()), "{unmet}");
     }
+}
+
+/// Before the first case nothing has been met over two tables.
+#[test]
+fn limits_are_demanded() {
+    let missing = Coverage::default().missing();
+    let demanded = |unmet: String| assert!(missing.contains(&unmet), "{unmet}");
+    for (operation, numbers) in [("mark between", "1 2 5 25 6 20 7"), ("list between", "1 2 5 25 6 11 12 18")] {
+        let numbers: Vec<&str> = numbers.split(' ').collect();
+        for (at, number) in numbers.iter().enumerate() {
+            demanded(format!("{operation}: {number}"));
+            let tables =
+                ["the low table", "the high table", "both tables"].map(|tables| format!("{number} for {tables}"));
+            let told = if ["2", "5"].contains(number) { tables.to_vec() } else { vec![number.to_string()] };
+            for (told, later) in told.iter().flat_map(|told| numbers[at + 1..].iter().map(move |later| (told, later))) {
+                demanded(format!("{operation}: refused by {told} before {later}"));
+            }
+        }
+        for edge in ["the first edge", "the last edge", "any edge"] {
+            demanded(format!("{operation}: refused for a low length above its high one at {edge}"));
+        }
+    }
+    for tours in ["lengths low", "lengths high", "each length low or high", "lengths between"] {
+        demanded(format!("strikes over two tables held against all shortest tours, {tours}"));
+    }
+    for alone in ["the low one alone", "the high one alone"] {
+        demanded(format!("pairs that stand over two tables, not over {alone}"));
+        demanded(format!("sheets accepted over two tables, refused over {alone}"));
+    }
+    demanded("pairs that stand over two tables, over neither alone".to_string());
+    for table in ["low", "high"] {
+        demanded(format!("sheets accepted over the {table} table alone, refused over two"));
+        demanded(format!("crossings that save over the {table} table alone, not over two"));
+    }
+    for width in ["equal limits", "narrow limits", "wide limits", "limits of one", "limits at a few edges"] {
+        demanded(format!("a line accepted over {width}"));
+        demanded(format!("a list with pairs over {width}"));
+    }
+    (1..=6).for_each(|depth| demanded(format!("a line accepted over two tables at depth {depth}")));
 }
 
 /// Sheets until the comparison finds the slip.
@@ -205,10 +245,16 @@ fn slips_are_found() {
     }
 }
 
-/// What the comparison finds where both programs make the slip: the marks alone tell it.
+/// What the comparison over one table finds where both programs make the slip: the marks alone tell it.
 fn found_in_both(slip: Slip) -> String {
+    found(slip, false)
+}
+
+/// What the comparison finds where both make the slip, over two tables too or over one alone.
+fn found(slip: Slip, two_tables: bool) -> String {
     let naive = Naive { slip: Some(slip) };
     let mut comparison = Comparison::new(&naive, &naive, &naive, 7);
+    comparison.two_tables = two_tables;
     let Err(difference) = comparison.run(20_000) else { panic!("{slip:?} is not found") };
     let what = difference.0.split(" differs").next().unwrap();
     println!("{slip:?}: {what} after {} sheets", comparison.sheets);
@@ -291,6 +337,33 @@ fn slips_of_both_are_found_by_the_laws_of_slips() {
         let what = found_in_both(slip);
         assert!(what.ends_with(" view, bytes lent"), "{slip:?}: {what}");
     }
+}
+
+/// Paper 11's laws: whatever stands over a table between the two stands over both, a crossing saves by three low lengths
+/// against three high ones, and one set of marks serves all tables between.
+#[test]
+fn slips_of_both_are_found_by_the_tables_between() {
+    assert_eq!(found(Slip::OutHigh, true), "list between from a table between");
+    assert_eq!(found(Slip::PutLow, true), "list between from a table between");
+    assert_eq!(found(Slip::CrossingLow, true), "crossing between");
+    let what = found(Slip::EndsOnly, true);
+    assert!(["lost edge between", "3-opt tour between"].contains(&what.as_str()), "{what}");
+}
+
+/// Paper 11's refusals.
+#[test]
+fn slips_of_both_are_found_by_the_refusals_over_two_tables() {
+    for (slip, fault) in [
+        (Slip::LimitsUntold, " for a low length above its high one at "),
+        (Slip::LimitsBeforeLengths, " for an entry above 2,000,000 in "),
+        (Slip::LimitsAfterMarks, " between for "),
+        (Slip::LowEntryUntested, " for an entry above 2,000,000 in the low table"),
+        (Slip::HighEntryUntested, " for an entry above 2,000,000 in the high table"),
+    ] {
+        let what = found(slip, true);
+        assert!(what.contains(fault), "{slip:?}: {what}");
+    }
+    found(Slip::EqualRefused, true);
 }
 
 /// Rules that shut out too much, in both.

@@ -57,7 +57,7 @@ fn race(workload: &Workload, sides: &[Box<dyn Checker>], runs: usize) {
         assert!(answers.iter().all(|&answer| answer == answers[0]), "{}: {answers:?}", workload.name);
     }
     let times: Vec<Times> = samples.into_iter().map(Times::of).collect();
-    print!("{:<16}", workload.name);
+    print!("{:<20}", workload.name);
     for time in &times {
         print!("{:>10.1} ({:.1} to {:.1})", time.median, time.low, time.high);
     }
@@ -99,7 +99,7 @@ fn main() {
     println!("{runs} runs, sides in turn: {}. Microseconds a run, median (quarters);", sides_named.join(", "));
     println!("marks, list and table are set anew before each run, outside the clock;");
     println!("each timed run follows one that is not.");
-    for workload in names().iter().filter_map(|name| named(name)) {
-        race(&workload, &sides, runs);
+    for name in names() {
+        race(&named(&name).expect("every row has its input"), &sides, runs);
     }
 }

@@ -23,6 +23,10 @@ pub trait Checker {
     fn check_tour(&self, n: u32, table: &[u8], marks: &[u8], tour: &[u8]) -> u64;
     /// The refusal number, or 65,536 × the number of pairs.
     fn list_pairs(&self, n: u32, table: &[u8], marks: &[u8], abc: [u16; 3], list: &mut [u8]) -> u64;
+    /// The number of `mark_sheet`, over two tables.
+    fn mark_between(&self, n: u32, low: &[u8], high: &[u8], marks: &mut [u8], sheet: &[u8]) -> u64;
+    /// The number of `list_pairs`, over two tables.
+    fn list_between(&self, n: u32, low: &[u8], high: &[u8], marks: &[u8], abc: [u16; 3], list: &mut [u8]) -> u64;
     /// The refusal number alone, or 65,536 × the saving; p, q, x, y.
     fn exchange_saving(&self, n: u32, table: &[u8], pqxy: [u16; 4]) -> i64;
     /// The same; c, x, y, u, v.
@@ -89,6 +93,14 @@ impl Checker for Second {
 
     fn list_pairs(&self, n: u32, table: &[u8], marks: &[u8], abc: [u16; 3], list: &mut [u8]) -> u64 {
         crate::bytes::list_pairs(n, table, marks, abc, list)
+    }
+
+    fn mark_between(&self, n: u32, low: &[u8], high: &[u8], marks: &mut [u8], sheet: &[u8]) -> u64 {
+        crate::bytes::mark_between(n, low, high, marks, sheet)
+    }
+
+    fn list_between(&self, n: u32, low: &[u8], high: &[u8], marks: &[u8], abc: [u16; 3], list: &mut [u8]) -> u64 {
+        crate::bytes::list_between(n, low, high, marks, abc, list)
     }
 
     fn exchange_saving(&self, n: u32, table: &[u8], pqxy: [u16; 4]) -> i64 {

@@ -2,6 +2,7 @@
 
 use std::fmt;
 
+use super::limits_met::LimitsMet;
 use super::moves_met::MovesMet;
 use super::rules_met::RulesMet;
 use super::savings_met::SavingsMet;
@@ -26,6 +27,8 @@ pub enum Operation {
     CrossingSaving,
     ExaminerView,
     CandidateView,
+    MarkBetween,
+    ListBetween,
     Program,
 }
 
@@ -48,18 +51,20 @@ const DEMANDS: [(Operation, &str, &[usize]); Operation::COUNT] = [
     (CrossingSaving, "crossing saving", &[0, 1, 2, 5, 11]),
     (ExaminerView, "examiner view", &[0, 22]),
     (CandidateView, "candidate view", &[0, 22]),
+    (MarkBetween, "mark between", &[0, 1, 2, 5, 25, 6, 20, 7, 8, 9, 10, 11, 12, 13, 14, 15, 16]),
+    (ListBetween, "list between", &[0, 1, 2, 5, 25, 6, 11, 12, 18]),
     (Program, "program", &[0, 1, 3, 4, 7, 8, 9, 10, 11, 12, 13, 14, 15, 16]),
 ];
 
 impl Operation {
-    pub const COUNT: usize = 16;
+    pub const COUNT: usize = 18;
 
     pub fn name(self) -> &'static str {
         DEMANDS.iter().find(|demand| demand.0 == self).unwrap().1
     }
 }
 
-const NUMBERS: usize = 23;
+const NUMBERS: usize = 26;
 
 /// Outcomes that a refusal number does not tell apart.
 #[derive(Clone, Copy, Debug, PartialEq, Eq)]
@@ -204,6 +209,7 @@ pub struct Coverage {
     pub savings: SavingsMet,
     pub moves: MovesMet,
     pub slips: SlipsMet,
+    pub limits: LimitsMet,
     /// Accepted lines by the number of splits one inside another, from 1.
     depths: [u64; Sheet::MOST_SPLITS + 1],
     /// Accepted lines by the size of the board.
@@ -225,6 +231,7 @@ impl Default for Coverage {
             savings: SavingsMet::default(),
             moves: MovesMet::default(),
             slips: SlipsMet::default(),
+            limits: LimitsMet::default(),
             depths: [0; Sheet::MOST_SPLITS + 1],
             sizes: [0; SIZES.len()],
         }
@@ -246,6 +253,15 @@ impl Coverage {
         self.sizes[SIZES.iter().position(|&most| n <= most).unwrap()] += 1;
     }
 
+    /// Accepted lines with so many splits one inside another.
+    pub fn lines_at(&self, depth: usize) -> u64 {
+        self.depths[depth]
+    }
+
+    pub fn times(&self, event: Event) -> u64 {
+        self.events[event as usize]
+    }
+
     /// What was demanded and never met.
     pub fn missing(&self) -> Vec<String> {
         let mut missing = Vec::new();
@@ -261,6 +277,7 @@ impl Coverage {
         missing.extend(self.savings.missing());
         missing.extend(self.moves.missing());
         missing.extend(self.slips.missing());
+        missing.extend(self.limits.missing());
         let unmet = (1..=Sheet::MOST_SPLITS).filter(|&depth| self.depths[depth] == 0);
         missing.extend(unmet.map(|depth| format!("accepted line at depth {depth}")));
         let unmet = SIZES.iter().zip(self.sizes).filter(|&(_, lines)| lines == 0);
@@ -290,7 +307,7 @@ impl fmt::Display for Coverage {
             writeln!(f, "{name}: {}", self.events[event as usize])?;
         }
         writeln!(f, "measure: {}\nprogram: {}\n{}", self.measure_rules, self.program_rules, self.sets)?;
-        write!(f, "{}{}\n{}", self.savings, self.moves, self.slips)?;
+        write!(f, "{}{}\n{}{}", self.savings, self.moves, self.slips, self.limits)?;
         write!(f, "accepted lines by depth:")?;
         for depth in 1..=Sheet::MOST_SPLITS {
             write!(f, " {depth}: {}", self.depths[depth])?;

@@ -5,14 +5,14 @@ use super::drafts::{FIRST, NEXT};
 use super::moved::{self, Moved};
 use super::moves_met::Place;
 use crate::edge_set::EdgeSet;
-use crate::lengths::Lengths;
+use crate::intervals::Intervals;
 use crate::marks::{Marks, STRUCK};
 use crate::packed::put_mark;
 use crate::sheet::{Record, Sheet};
 
 /// Reads the first lines of a sheet, which were accepted, and counts what they hold.
 pub struct Entered<'a> {
-    lengths: Lengths<'a>,
+    lengths: Intervals<'a>,
     /// As the line found them.
     marks: Vec<u8>,
     numbers: &'a [u16],
@@ -23,7 +23,7 @@ pub struct Entered<'a> {
 impl<'a> Entered<'a> {
     /// Counts `lines` accepted lines, the first of which found these marks; answers the number of records entered.
     pub fn count(
-        lengths: Lengths<'a>,
+        lengths: Intervals<'a>,
         marks: Vec<u8>,
         numbers: &'a [u16],
         lines: u64,

@@ -67,6 +67,14 @@ impl<C: Checker> Checker for Guarded<C> {
         lend(list, |list| self.0.list_pairs(n, table, marks, abc, list))
     }
 
+    fn mark_between(&self, n: u32, low: &[u8], high: &[u8], marks: &mut [u8], sheet: &[u8]) -> u64 {
+        lend(marks, |marks| self.0.mark_between(n, low, high, marks, sheet))
+    }
+
+    fn list_between(&self, n: u32, low: &[u8], high: &[u8], marks: &[u8], abc: [u16; 3], list: &mut [u8]) -> u64 {
+        lend(list, |list| self.0.list_between(n, low, high, marks, abc, list))
+    }
+
     fn exchange_saving(&self, n: u32, table: &[u8], pqxy: [u16; 4]) -> i64 {
         self.0.exchange_saving(n, table, pqxy)
     }

@@ -33,15 +33,29 @@ pub type Loss = (&'static str, String);
 
 impl Kept {
     pub fn new(rng: &mut Rng, board: &Board) -> Kept {
+        Kept::of(rng, board, TOURS)
+    }
+
+    /// With so many tours that three exchanges cannot shorten, if the board is small enough for any.
+    pub fn of(rng: &mut Rng, board: &Board, tours: usize) -> Kept {
         let lengths = Lengths::new(board.n, &board.table);
         let shortest = (board.n <= brute::MOST_POINTS).then(|| Shortest::of(&lengths));
-        let tours = if board.n <= three_opt::MOST_POINTS { TOURS } else { 0 };
+        let tours = if board.n <= three_opt::MOST_POINTS { tours } else { 0 };
         let mut tours: Vec<Vec<u16>> = (0..tours).map(|_| three_opt::search(rng, &lengths)).collect();
         tours.sort_by_key(|tour| Reverse(three_opt::length(&lengths, tour)));
         let found: Vec<i32> = tours.iter().map(|tour| three_opt::length(&lengths, tour)).collect();
         let least = shortest.as_ref().map(|shortest| shortest.length).or(found.last().copied());
         let longer = found.iter().filter(|&&length| Some(length) > least).count();
         Kept { shortest, tours, longer }
+    }
+
+    /// All shortest tours, of a board that is small enough.
+    pub fn shortest(&self) -> Option<&Shortest> {
+        self.shortest.as_ref()
+    }
+
+    pub fn has_tours(&self) -> bool {
+        !self.tours.is_empty()
     }
 
     /// A sheet with one line, without cases, for an edge of a tour, if there is one; of a longer one if possible.
@@ -54,11 +68,17 @@ impl Kept {
 
     /// Holds marks that a run has left against all of this; `lines` are those that its last step accepted.
     pub fn hold(&self, board: &Board, marks: &[u8], lines: u64, coverage: &mut Coverage) -> Result<(), Loss> {
-        let lengths = Lengths::new(board.n, &board.table);
+        self.lost(board, marks)?;
         let open = open_edges(board.n, marks);
-        enough_open(&open)?;
         self.count(&open, lines, coverage);
         self.count_pending(sets::marks(marks).filter(|&mark| mark == PENDING).count() as u64, coverage);
+        Ok(())
+    }
+
+    /// The first that marks have lost of all of this.
+    pub fn lost(&self, board: &Board, marks: &[u8]) -> Result<(), Loss> {
+        let lengths = Lengths::new(board.n, &board.table);
+        enough_open(&open_edges(board.n, marks))?;
         for tour in &self.tours {
             if let Some((a, b)) = three_opt::lost_edge(&lengths, tour, marks) {
                 return Err(("3-opt tour", format!("edge {a}-{b} of {tour:?}\n")));

@@ -1,5 +1,6 @@
 //! The comparison kit: generator, naive checker, brute force, comparison, benchmark inputs.
 
+pub mod between_calls;
 pub mod boards;
 pub mod brute;
 pub mod checker;
@@ -9,6 +10,9 @@ pub mod drafts;
 pub mod entered;
 pub mod guarded;
 pub mod kept;
+pub mod limit_faults;
+pub mod limits;
+pub mod limits_met;
 pub mod moved;
 pub mod moves_met;
 pub mod naive;

@@ -1,7 +1,7 @@
 //! Pairs that only the wider test 5 shuts out (02, Paper 7): they stand if the split point alone is moved.
 
 use crate::edge_set::EdgeSet;
-use crate::lengths::Lengths;
+use crate::intervals::Intervals;
 use crate::marks::Marks;
 use crate::pairs::FarEdge;
 use crate::saving::moving;
@@ -45,7 +45,7 @@ pub struct Moved([Option<i64>; Mover::ALL.len()]);
 
 impl Moved {
     /// Of the pair at c under K.
-    pub fn of(l: &Lengths, known: &EdgeSet, c: u16, pair: (u16, u16)) -> Moved {
+    pub fn of(l: &Intervals, known: &EdgeSet, c: u16, pair: (u16, u16)) -> Moved {
         let mut more = known.clone();
         more.add_pair(c, pair);
         let mut moved = Moved::default();
@@ -72,12 +72,12 @@ impl Moved {
 }
 
 /// The points x whose edge cx is in K or passes tests 1, 2 and 4 by itself, rising.
-fn legs(l: &Lengths, marks: Marks, known: &EdgeSet, c: u16) -> Vec<u16> {
+fn legs(l: &Intervals, marks: Marks, known: &EdgeSet, c: u16) -> Vec<u16> {
     let far = known.edges().iter().filter(|&&(p, q)| p != c && q != c);
     let far: Vec<FarEdge> = far.map(|&pq| FarEdge::new(l, pq, c)).collect();
     let passes = |x: u16| {
         let fits = known.degree(x) < 2 && marks.open(l.order.place(c, x));
-        fits && far.iter().all(|edge| edge.allows(l, x, l.between(c, x)))
+        fits && far.iter().all(|edge| edge.allows(l, x, l.taken_out(c, x)))
     };
     (1..=l.order.n).filter(|&x| x != c && (known.contains(c, x) || passes(x))).collect()
 }
@@ -94,7 +94,7 @@ fn closes_short_cycle(n: u16, known: &EdgeSet, c: u16, (x, y): (u16, u16)) -> bo
 }
 
 /// The pairs at c that pass tests 1 to 4, and 5 for c, rising; c has at most one edge in K.
-pub fn pairs<'a>(l: &'a Lengths, marks: Marks, known: &'a EdgeSet, c: u16) -> impl Iterator<Item = (u16, u16)> + 'a {
+pub fn pairs<'a>(l: &'a Intervals, marks: Marks, known: &'a EdgeSet, c: u16) -> impl Iterator<Item = (u16, u16)> + 'a {
     let legs = legs(l, marks, known, c);
     let all = (0..legs.len()).flat_map(|i| (i + 1..legs.len()).map(move |j| (i, j)));
     let all: Vec<(u16, u16)> = all.map(|(i, j)| (legs[i], legs[j])).collect();

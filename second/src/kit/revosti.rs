@@ -59,6 +59,31 @@ extern "C" {
         list: *mut u8,
         list_len: usize,
     ) -> u64;
+    fn revosti_mark_between(
+        n: u32,
+        low: *const u8,
+        low_len: usize,
+        high: *const u8,
+        high_len: usize,
+        marks: *mut u8,
+        marks_len: usize,
+        sheet: *const u8,
+        sheet_len: usize,
+    ) -> u64;
+    fn revosti_list_between(
+        n: u32,
+        low: *const u8,
+        low_len: usize,
+        high: *const u8,
+        high_len: usize,
+        marks: *const u8,
+        marks_len: usize,
+        a: u16,
+        b: u16,
+        c: u16,
+        list: *mut u8,
+        list_len: usize,
+    ) -> u64;
     fn revosti_exchange_saving(n: u32, table: *const u8, table_len: usize, p: u16, q: u16, x: u16, y: u16) -> i64;
     fn revosti_move_saving(n: u32, table: *const u8, table_len: usize, c: u16, x: u16, y: u16, u: u16, v: u16) -> i64;
     fn revosti_crossing_saving(
@@ -148,6 +173,41 @@ impl Checker for Revosti {
                 n,
                 table.as_ptr(),
                 table.len(),
+                marks.as_ptr(),
+                marks.len(),
+                a,
+                b,
+                c,
+                list.as_mut_ptr(),
+                list.len(),
+            )
+        }
+    }
+
+    fn mark_between(&self, n: u32, low: &[u8], high: &[u8], marks: &mut [u8], sheet: &[u8]) -> u64 {
+        unsafe {
+            revosti_mark_between(
+                n,
+                low.as_ptr(),
+                low.len(),
+                high.as_ptr(),
+                high.len(),
+                marks.as_mut_ptr(),
+                marks.len(),
+                sheet.as_ptr(),
+                sheet.len(),
+            )
+        }
+    }
+
+    fn list_between(&self, n: u32, low: &[u8], high: &[u8], marks: &[u8], [a, b, c]: [u16; 3], list: &mut [u8]) -> u64 {
+        unsafe {
+            revosti_list_between(
+                n,
+                low.as_ptr(),
+                low.len(),
+                high.as_ptr(),
+                high.len(),
                 marks.as_ptr(),
                 marks.len(),
                 a,

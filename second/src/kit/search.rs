@@ -3,7 +3,7 @@
 use super::rng::Rng;
 use crate::crossing::Crossing;
 use crate::edge_set::EdgeSet;
-use crate::lengths::Lengths;
+use crate::intervals::Intervals;
 use crate::marks::Marks;
 use crate::pairs::Split;
 use crate::sheet::Sheet;
@@ -82,7 +82,7 @@ impl Effort {
 }
 
 pub struct Search<'a> {
-    lengths: &'a Lengths<'a>,
+    lengths: &'a Intervals<'a>,
     marks: Marks<'a>,
     rng: &'a mut Rng,
     effort: Effort,
@@ -105,7 +105,7 @@ enum Taste {
 }
 
 impl<'a> Search<'a> {
-    pub fn new(lengths: &'a Lengths<'a>, marks: &'a [u8], rng: &'a mut Rng, effort: Effort) -> Self {
+    pub fn new(lengths: &'a Intervals<'a>, marks: &'a [u8], rng: &'a mut Rng, effort: Effort) -> Self {
         let taste = rng.pick(&[Taste::Fewest, Taste::FewestOfSome, Taste::Handful, Taste::OffK]);
         Search { lengths, marks: Marks::in_sheet(marks), rng, effort, known: EdgeSet::empty(), cases_left: 0, taste }
     }

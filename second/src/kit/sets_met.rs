@@ -10,7 +10,8 @@ use crate::instance::Instance;
 pub const POINTS: [u16; 13] = [4, 5, 6, 7, 8, 9, 10, 11, 12, 177, 178, 179, 180];
 
 /// The operations that test a packed set in full.
-pub const READERS: [Operation; 7] = [MarkSheet, AskSheet, Confirm, Withdraw, ListPairs, CheckTour, UnpackMarks];
+pub const READERS: [Operation; 9] =
+    [MarkSheet, AskSheet, Confirm, Withdraw, ListPairs, CheckTour, UnpackMarks, MarkBetween, ListBetween];
 
 /// Those that test its size alone, and the program, which is lent none.
 const OTHERS: [Operation; 3] = [FreshMarks, PackMarks, Program];
@@ -70,7 +71,7 @@ impl SetsMet {
     pub fn count_order(&mut self, operation: Operation, repaired: u64) {
         let met = &mut self.operations[operation as usize];
         match repaired {
-            1 | 2 | 5 => met.earlier += 1,
+            1 | 2 | 5 | 25 => met.earlier += 1,
             0 => {}
             _ => met.later += 1,
         }

@@ -3,7 +3,7 @@
 use super::drafts::{crossing_record, junk, sheet_bytes, Draft, FIRST, NEXT};
 use super::rng::Rng;
 use super::search::{crossings, Effort, Search};
-use crate::lengths::Lengths;
+use crate::intervals::Intervals;
 use crate::marks::{OPEN, STRUCK};
 use crate::packed::{mark, put_mark};
 use crate::sheet::{Record, Sheet};
@@ -37,7 +37,7 @@ impl Plan {
 
 /// A sheet whose lines are all accepted under these marks; it may have no line at all.
 /// Later lines rely on earlier strikes.
-pub fn valid(rng: &mut Rng, lengths: &Lengths, marks: &[u8], plan: Plan) -> Draft {
+pub fn valid(rng: &mut Rng, lengths: &Intervals, marks: &[u8], plan: Plan) -> Draft {
     let mut marks = marks.to_vec();
     let mut draft = Draft::new(lengths.order.n, plan.gaps);
     let mut lines = 0;
@@ -59,7 +59,7 @@ pub fn valid(rng: &mut Rng, lengths: &Lengths, marks: &[u8], plan: Plan) -> Draf
 }
 
 /// Open edges, the longest of some; they are the likeliest to be useless.
-fn long_edges(rng: &mut Rng, lengths: &Lengths, marks: &[u8], most: usize) -> Vec<(u16, u16)> {
+fn long_edges(rng: &mut Rng, lengths: &Intervals, marks: &[u8], most: usize) -> Vec<(u16, u16)> {
     let n = lengths.order.n;
     let mut edges = Vec::new();
     for _ in 0..3 * most {
@@ -69,7 +69,7 @@ fn long_edges(rng: &mut Rng, lengths: &Lengths, marks: &[u8], most: usize) -> Ve
             edges.push((a, b));
         }
     }
-    edges.sort_by_key(|&(a, b)| std::cmp::Reverse(lengths.between(a, b)));
+    edges.sort_by_key(|&(a, b)| std::cmp::Reverse(lengths.taken_out(a, b)));
     edges.truncate(most);
     edges
 }

@@ -11,7 +11,7 @@ fn number(slip: Slip, above: u64) -> u64 {
 
 fn refusal(rng: &mut Rng) -> u8 {
     if rng.chance(70) {
-        rng.pick(&[0, 0, 1, 7, 14, 22, 128, 254, 255])
+        rng.pick(&[0, 0, 1, 7, 14, 22, 25, 128, 254, 255])
     } else {
         rng.below(256) as u8
     }

@@ -2,6 +2,7 @@
 
 use std::fmt;
 
+use crate::refusal::Refusal;
 use crate::slip::Slip;
 
 /// What a comparison has to meet of slips.
@@ -16,6 +17,7 @@ pub enum Met {
     /// Slips of sheets.
     SheetAccepted,
     SheetTurnedDown,
+    SheetLimits,
     SheetStopped,
     SheetStoppedLater,
     /// Buffers of a view.
@@ -37,7 +39,7 @@ pub enum Met {
 
 use Met::*;
 
-const NAMES: [(Met, &str); 20] = [
+const NAMES: [(Met, &str); 21] = [
     (Accepted, "slips of no refusal"),
     (Stopped, "slips of a refusal"),
     (ReleasedAccepted, "released slips of no refusal"),
@@ -45,6 +47,7 @@ const NAMES: [(Met, &str); 20] = [
     (BitsAbove, "slips with bits above 40"),
     (SheetAccepted, "slips of accepted sheets"),
     (SheetTurnedDown, "slips of sheets refused at no record"),
+    (SheetLimits, "slips of sheets refused by 25"),
     (SheetStopped, "slips of sheets stopped before a line was accepted"),
     (SheetStoppedLater, "slips of sheets stopped after accepted lines"),
     (NoBytes, "views in no byte"),
@@ -90,6 +93,7 @@ impl SlipsMet {
         self.sheets += 1;
         self.met(SheetAccepted, !slip.stopped());
         self.met(SheetTurnedDown, slip.stopped() && slip.record == 0);
+        self.met(SheetLimits, slip.refusal == Refusal::LowAboveHigh.number());
         self.met(SheetStopped, slip.record != 0 && slip.lines == 0);
         self.met(SheetStoppedLater, slip.record != 0 && slip.lines != 0);
     }

@@ -3,11 +3,12 @@
 use super::boards::{self, Board};
 use super::checker::Checker;
 use super::drafts::{sheet_bytes, CaseNote, Draft};
+use super::limits::{Limited, Width};
 use super::rng::Rng;
 use super::search::Effort;
 use super::sets;
 use super::sheets::{self, Plan};
-use crate::lengths::Lengths;
+use crate::intervals::Intervals;
 use crate::sheet::{Record, Sheet};
 
 /// One input with the buffers of a call.
@@ -39,6 +40,21 @@ pub enum Call {
         coordinates: Vec<u8>,
         table: Vec<u8>,
     },
+    MarkBetween {
+        n: u32,
+        low: Vec<u8>,
+        high: Vec<u8>,
+        marks: Vec<u8>,
+        sheet: Vec<u8>,
+    },
+    ListBetween {
+        n: u32,
+        low: Vec<u8>,
+        high: Vec<u8>,
+        marks: Vec<u8>,
+        splits: Vec<[u16; 3]>,
+        list: Vec<u8>,
+    },
 }
 
 /// The buffers that calls change, as they stand before each run.
@@ -52,8 +68,8 @@ impl Call {
     pub fn buffers(&self) -> Buffers {
         let mut buffers = Buffers { marks: vec![], list: vec![], table: vec![] };
         match self {
-            Call::Mark { marks, .. } => buffers.marks = marks.clone(),
-            Call::List { list, .. } => buffers.list = list.clone(),
+            Call::Mark { marks, .. } | Call::MarkBetween { marks, .. } => buffers.marks = marks.clone(),
+            Call::List { list, .. } | Call::ListBetween { list, .. } => buffers.list = list.clone(),
             Call::Measure { table, .. } => buffers.table = table.clone(),
         }
         buffers
@@ -68,6 +84,13 @@ impl Call {
                 splits.iter().map(|&abc| checker.list_pairs(*n, table, marks, abc, &mut buffers.list)).sum()
             }
             Call::Measure { n, rule, coordinates, .. } => checker.measure(*n, *rule, coordinates, &mut buffers.table),
+            Call::MarkBetween { n, low, high, sheet, .. } => {
+                checker.mark_between(*n, low, high, &mut buffers.marks, sheet)
+            }
+            Call::ListBetween { n, low, high, marks, splits, .. } => {
+                let list = |&abc: &[u16; 3]| checker.list_between(*n, low, high, marks, abc, &mut buffers.list);
+                splits.iter().map(list).sum()
+            }
         }
     }
 }
@@ -83,12 +106,17 @@ const AFTER: &str = "line 180 after the split under 11 edges";
 const MEASURING: [(&str, u32); 4] =
     [("measure 180", 1), ("measure 180 att", 3), ("measure 180 man", 4), ("measure 180 max", 5)];
 
-/// The timed inputs: marking and listing at 30, 90 and 180 points, and measuring 180.
+/// The sheet of 90 points and the splits there, over two tables.
+const MARK_BETWEEN: &str = "mark 90 deep between";
+const LIST_BETWEEN: &str = "list 90 between";
+
+/// The timed inputs: marking and listing at 30, 90 and 180 points, measuring 180, marking and listing over two tables.
 pub fn names() -> Vec<String> {
     let marking = SIZES.iter().flat_map(|n| ["shallow", "deep"].map(|kind| format!("mark {n} {kind}")));
     let listing = SIZES.iter().map(|n| format!("list {n}"));
     let measuring = MEASURING.iter().map(|(name, _)| name.to_string());
-    marking.chain(listing).chain(measuring).collect()
+    let between = [MARK_BETWEEN, LIST_BETWEEN].map(str::to_string);
+    marking.chain(listing).chain(measuring).chain(between).collect()
 }
 
 /// The inputs whose instructions are counted.
@@ -102,6 +130,8 @@ pub fn named(name: &str) -> Option<Workload> {
         ["mark", n, kind] => Some(marking(n.parse().ok()?, kind == "deep")),
         ["list", n] => Some(listing(n.parse().ok()?)),
         ["measure", ..] => MEASURING.iter().find(|row| row.0 == name).map(|&(name, rule)| measuring(name, rule)),
+        _ if name == MARK_BETWEEN => Some(marking_between()),
+        _ if name == LIST_BETWEEN => Some(listing_between()),
         _ if name == BEFORE => Some(under_eleven(false)),
         _ if name == AFTER => Some(under_eleven(true)),
         _ => None,
@@ -135,7 +165,7 @@ fn random_board(n: usize) -> Board {
 }
 
 /// A sheet of several lines, all accepted, from fresh marks; deep ones have six splits one inside another.
-fn lines(board: &Board, deep: bool) -> Draft {
+fn lines(lengths: &Intervals, deep: bool) -> Draft {
     let plan = Plan {
         effort: if deep { Effort::DEEP } else { Effort::LARGE },
         lines: 12,
@@ -144,25 +174,68 @@ fn lines(board: &Board, deep: bool) -> Draft {
         gaps: 0,
         most_records: 4_000,
     };
-    let lengths = Lengths::new(board.n, &board.table);
-    sheets::valid(&mut Rng::new(2, u64::from(board.n)), &lengths, &sets::fresh(board.n), plan)
+    let n = lengths.order.n;
+    sheets::valid(&mut Rng::new(2, u64::from(n)), lengths, &sets::fresh(n), plan)
 }
 
 fn marking(n: usize, deep: bool) -> Workload {
     let board = random_board(n);
-    let draft = lines(&board, deep);
+    let draft = lines(&Intervals::exact(board.n, &board.table), deep);
+    sheet(format!("mark {n} {}", if deep { "deep" } else { "shallow" }), note(&draft), &board, &draft.records)
+}
+
+/// What a sheet is made of.
+fn note(draft: &Draft) -> String {
     let depth = draft.notes.iter().map(|note| note.depth).max().unwrap_or(0);
     let splits = draft.records.iter().filter(|record| record[0] != Sheet::CASE_CROSSING).count();
-    let note = format!("{} records, {splits} splits, up to {depth} one inside another", draft.records.len());
-    sheet(format!("mark {n} {}", if deep { "deep" } else { "shallow" }), note, &board, &draft.records)
+    format!("{} records, {splits} splits, up to {depth} one inside another", draft.records.len())
+}
+
+/// The board of 90 points, each length known within half a hundredth.
+fn limited_board() -> Limited {
+    Limited::apart(&mut Rng::new(4, 90), &random_board(90), Width::Narrow, 5)
+}
+
+fn marking_between() -> Workload {
+    let limited = limited_board();
+    let draft = lines(&limited.lengths(), true);
+    Workload {
+        name: MARK_BETWEEN.to_string(),
+        note: note(&draft),
+        call: Call::MarkBetween {
+            n: u32::from(limited.n),
+            low: entries(&limited.low),
+            high: entries(&limited.high),
+            marks: sets::fresh(limited.n),
+            sheet: sheet_bytes(&draft.records),
+        },
+    }
+}
+
+/// The splits of `listing`.
+fn listing_between() -> Workload {
+    let limited = limited_board();
+    Workload {
+        name: LIST_BETWEEN.to_string(),
+        note: SPLITS.to_string(),
+        call: Call::ListBetween {
+            n: u32::from(limited.n),
+            low: entries(&limited.low),
+            high: entries(&limited.high),
+            marks: sets::fresh(limited.n),
+            splits: splits(limited.n),
+            list: vec![0; 4 * limited.low.len()],
+        },
+    }
 }
 
 /// The deep sheet of 180 points, cut at its first split under K of 11 edges: before it, where its record is a closing that
 /// does not cross, or after the last case of its chain.
 fn under_eleven(after: bool) -> Workload {
     let board = random_board(180);
-    let mut records = lines(&board, true).records;
-    let at = first_under_eleven(&lines(&board, true)).expect("the deep sheet has a split under 11 edges");
+    let draft = lines(&Intervals::exact(board.n, &board.table), true);
+    let at = first_under_eleven(&draft).expect("the deep sheet has a split under 11 edges");
+    let mut records = draft.records;
     let cases =
         records[at..].iter().take_while(|record| record[0] == Sheet::CASE_CROSSING && record[7] != 0).count() + 1;
     records.truncate(at + cases);
@@ -180,27 +253,27 @@ fn first_under_eleven(draft: &Draft) -> Option<usize> {
     draft.notes.iter().find(holds).map(|note| note.index)
 }
 
-/// Twenty random splits.
+const SPLITS: &str = "20 random splits, fresh marks";
+
+/// Twenty random splits: an edge and a point off it.
+fn splits(n: u16) -> Vec<[u16; 3]> {
+    let mut rng = Rng::new(3, u64::from(n));
+    (0..20).map(|_| rng.points(n, 3).try_into().unwrap()).collect()
+}
+
 fn listing(n: usize) -> Workload {
     let board = random_board(n);
-    let mut rng = Rng::new(3, n as u64);
-    let splits = (0..20).map(|_| some_split(&mut rng, board.n)).collect();
     Workload {
         name: format!("list {n}"),
-        note: "20 random splits, fresh marks".to_string(),
+        note: SPLITS.to_string(),
         call: Call::List {
             n: n as u32,
             marks: sets::fresh(board.n),
             list: vec![0; 4 * board.table.len()],
             table: entries(&board.table),
-            splits,
+            splits: splits(board.n),
         },
     }
-}
-
-/// An edge and a point off it.
-fn some_split(rng: &mut Rng, n: u16) -> [u16; 3] {
-    rng.points(n, 3).try_into().unwrap()
 }
 
 fn measuring(name: &str, rule: u32) -> Workload {

@@ -1,5 +1,7 @@
 //! Two programs on the same inputs; everything that they show is compared.
 
+mod between;
+mod limits;
 mod looks;
 mod moves;
 mod packing;
@@ -19,7 +21,7 @@ use super::rng::Rng;
 use super::sets::old_bytes;
 use super::sheets::{self, Plan};
 use super::spoil;
-use crate::lengths::Lengths;
+use crate::intervals::Intervals;
 use steps::Run;
 
 /// A difference or a lost edge, with what is needed to see it again.
@@ -42,6 +44,8 @@ pub struct Comparison<'a> {
     saved: u64,
     /// The slip of the sheet before.
     last_slip: Option<u64>,
+    /// Whether operations over two tables are compared, too.
+    pub two_tables: bool,
     pub coverage: Coverage,
 }
 
@@ -66,6 +70,7 @@ impl<'a> Comparison<'a> {
             save: None,
             saved: 0,
             last_slip: None,
+            two_tables: true,
             coverage: Coverage::default(),
         }
     }
@@ -80,7 +85,7 @@ impl<'a> Comparison<'a> {
         Ok(())
     }
 
-    /// One instance with its sheets, listings, tours, files and savings; and slips.
+    /// One instance with its sheets, listings, tours, files and savings; one whose lengths are known within limits; and slips.
     pub fn run_case(&mut self, case: u64) -> Checked {
         self.case = case;
         let mut rng = Rng::new(self.seed, case);
@@ -95,6 +100,10 @@ impl<'a> Comparison<'a> {
         }
         self.savings(&mut rng, &run.board)?;
         self.moves(&mut rng, &run.board)?;
+        if self.two_tables {
+            self.readings_between(&mut rng)?;
+            self.limits(&mut rng)?;
+        }
         self.slips()
     }
 
@@ -102,7 +111,7 @@ impl<'a> Comparison<'a> {
     /// themselves.
     fn round(&mut self, rng: &mut Rng, run: &mut Run) -> Checked {
         let plan = Plan::random(rng, run.board.n);
-        let draft = sheets::valid(rng, &Lengths::new(run.board.n, &run.board.table), &run.marks, plan);
+        let draft = sheets::valid(rng, &Intervals::exact(run.board.n, &run.board.table), &run.marks, plan);
         for _ in 0..DAMAGED {
             let sheet = damaged_or_noise(rng, &draft);
             let mut marks = run.marks.clone();

@@ -2,6 +2,7 @@
 
 use super::{hex, Checked, Comparison};
 use crate::edge_set::EdgeSet;
+use crate::intervals::Intervals;
 use crate::kit::boards::{self, Board};
 use crate::kit::checker::Checker;
 use crate::kit::drafts::sheet_bytes;
@@ -11,7 +12,6 @@ use crate::kit::rng::Rng;
 use crate::kit::savings::Saving;
 use crate::kit::sets;
 use crate::kit::spoil::Lent;
-use crate::lengths::Lengths;
 use crate::marks::{Marks, OPEN, STRUCK};
 use crate::packed::put_mark;
 use crate::pairs::Split;
@@ -40,7 +40,7 @@ struct PairSheet {
 
 /// A sheet in the making.
 struct Maker<'a> {
-    lengths: &'a Lengths<'a>,
+    lengths: &'a Intervals<'a>,
     marks: Vec<u8>,
     records: Vec<Record>,
     known: EdgeSet,
@@ -65,7 +65,7 @@ impl Wish {
 
 impl<'a> Maker<'a> {
     /// A line for any edge.
-    fn new(rng: &mut Rng, lengths: &'a Lengths<'a>) -> Maker<'a> {
+    fn new(rng: &mut Rng, lengths: &'a Intervals<'a>) -> Maker<'a> {
         let n = lengths.order.n;
         let (a, open) = (rng.point(n), rng.pick(&[100, 100, 80, 50]));
         let b = a % n + 1;
@@ -141,7 +141,7 @@ impl<'a> Maker<'a> {
 
 impl PairSheet {
     /// One as wished, or one that is only as deep, if there are any.
-    fn wished(rng: &mut Rng, lengths: &Lengths, wish: Wish) -> Option<PairSheet> {
+    fn wished(rng: &mut Rng, lengths: &Intervals, wish: Wish) -> Option<PairSheet> {
         let mut found = None;
         for _ in 0..SHEETS_TRIED {
             let sheet = PairSheet::new(rng, lengths, wish);
@@ -154,7 +154,7 @@ impl PairSheet {
         found
     }
 
-    fn new(rng: &mut Rng, lengths: &Lengths, wish: Wish) -> Option<PairSheet> {
+    fn new(rng: &mut Rng, lengths: &Intervals, wish: Wish) -> Option<PairSheet> {
         let mut maker = Maker::new(rng, lengths);
         for _ in 1..wish.place.depth {
             maker.deeper(rng)?;
@@ -191,7 +191,7 @@ impl Comparison<'_> {
     }
 
     fn pairs_by_moves(&mut self, rng: &mut Rng, board: &Board) -> Checked {
-        let lengths = Lengths::new(board.n, &board.table);
+        let lengths = Intervals::exact(board.n, &board.table);
         for _ in 0..SHEETS {
             let wish = Wish::random(rng);
             if let Some(sheet) = PairSheet::wished(rng, &lengths, wish) {

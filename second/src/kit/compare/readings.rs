@@ -3,17 +3,18 @@
 
 use super::steps::Step;
 use super::{hex, hex_call, Checked, Comparison, Difference, Hex};
+use crate::intervals::Intervals;
 use crate::kit::boards::{self, Board};
 use crate::kit::checker::Checker;
 use crate::kit::coverage::Operation;
 use crate::kit::drafts::sheet_bytes;
+use crate::kit::limits::{Limited, Width};
 use crate::kit::rng::Rng;
 use crate::kit::set_faults::SetFault;
 use crate::kit::sets::{old_bytes, packed};
 use crate::kit::sets_met::POINTS;
 use crate::kit::sheets::{self, Plan};
 use crate::kit::spoil::{self, Lent};
-use crate::lengths::Lengths;
 
 /// An operation that reads a packed set.
 #[derive(Clone, Copy, PartialEq, Eq)]
@@ -22,6 +23,8 @@ enum Reading {
     List,
     Tour,
     Unpack,
+    MarkBetween,
+    ListBetween,
 }
 
 const READINGS: [Reading; 7] = [
@@ -34,6 +37,8 @@ const READINGS: [Reading; 7] = [
     Reading::Unpack,
 ];
 
+const READINGS_BETWEEN: [Reading; 2] = [Reading::MarkBetween, Reading::ListBetween];
+
 impl Reading {
     fn operation(self) -> Operation {
         match self {
@@ -41,13 +46,27 @@ impl Reading {
             Reading::List => Operation::ListPairs,
             Reading::Tour => Operation::CheckTour,
             Reading::Unpack => Operation::UnpackMarks,
+            Reading::MarkBetween => Operation::MarkBetween,
+            Reading::ListBetween => Operation::ListBetween,
         }
+    }
+
+    fn hands_in(self) -> bool {
+        matches!(self, Reading::Step(Step::Mark | Step::Ask) | Reading::MarkBetween)
+    }
+
+    fn two_tables(self) -> bool {
+        matches!(self, Reading::MarkBetween | Reading::ListBetween)
+    }
+
+    fn lists(self) -> bool {
+        matches!(self, Reading::List | Reading::ListBetween)
     }
 
     /// Marks in a hundred that are pending: mostly few where 20 would come of it.
     fn pending(self, rng: &mut Rng) -> usize {
         match self {
-            Reading::Step(Step::Mark | Step::Ask) => rng.pick(&[0, 0, 0, 10]),
+            _ if self.hands_in() => rng.pick(&[0, 0, 0, 10]),
             _ => rng.pick(&[0, 30, 30, 30]),
         }
     }
@@ -57,7 +76,9 @@ impl Reading {
 #[derive(Clone)]
 struct Call {
     reading: Reading,
+    /// Its table is the low one, where there are two.
     lent: Lent,
+    high: Vec<u8>,
     sheet: Vec<u8>,
     abc: [u16; 3],
     tour: Vec<u8>,
@@ -72,12 +93,14 @@ impl Call {
         let set = packed(&bytes);
         let pending = reading.pending(rng);
         boards::some_pending(rng, &mut bytes, pending);
-        let hands_in = [Step::Mark, Step::Ask].map(Reading::Step).contains(&reading);
-        let size = if reading == Reading::List { 4 * bytes.len() } else { bytes.len() };
+        let size = if reading.lists() { 4 * bytes.len() } else { bytes.len() };
+        let width = if reading.two_tables() { Width::FewEdges } else { Width::Equal };
+        let limited = Limited::apart(rng, board, width, 20);
         Call {
             reading,
             lent: Lent::new(board, &packed(&bytes)),
-            sheet: if hands_in { sheet(rng, board, &set) } else { vec![] },
+            high: limited.high.iter().flat_map(|l| l.to_le_bytes()).collect(),
+            sheet: if reading.hands_in() { sheet(rng, &limited.lengths(), &set) } else { vec![] },
             abc: spoil::three_points(rng, board.n),
             tour: spoil::tour(rng, board.n),
             written: old_bytes(rng, size),
@@ -92,6 +115,8 @@ impl Call {
             Reading::List => checker.list_pairs(*n, table, marks, self.abc, &mut self.written),
             Reading::Tour => checker.check_tour(*n, table, marks, &self.tour),
             Reading::Unpack => checker.unpack_marks(*n, marks, &mut self.written),
+            Reading::MarkBetween => checker.mark_between(*n, table, &self.high, marks, &self.sheet),
+            Reading::ListBetween => checker.list_between(*n, table, &self.high, marks, self.abc, &mut self.written),
         }
     }
 
@@ -101,6 +126,10 @@ impl Call {
             0 => self.lent.n = spoil::no_count(rng, self.lent.n),
             1 => self.lent.table.truncate(self.lent.table.len() - 4),
             2 => self.lent.table[..4].copy_from_slice(&2_000_001u32.to_le_bytes()),
+            3 if self.reading.two_tables() => {
+                self.lent.table[..4].copy_from_slice(&1u32.to_le_bytes());
+                self.high[..4].fill(0);
+            }
             3 | 4 => {
                 self.sheet.clear();
                 self.abc[1] = self.abc[0];
@@ -118,38 +147,57 @@ impl Call {
     fn hex(&self) -> String {
         let Lent { n, table, marks } = &self.lent;
         let (sheet, tour, written) = (hex(&self.sheet), hex(&self.tour), hex(&self.written));
-        format!("{}sheet {sheet}\na, b, c {:?}\ntour {tour}\nwritten {written}\n", hex_call(*n, table, marks), self.abc)
+        let call = format!("{}high {}\n", hex_call(*n, table, marks), hex(&self.high));
+        format!("{call}sheet {sheet}\na, b, c {:?}\ntour {tour}\nwritten {written}\n", self.abc)
     }
 }
 
 /// A short sheet whose lines are accepted, or no records if none is found.
-fn sheet(rng: &mut Rng, board: &Board, set: &[u8]) -> Vec<u8> {
-    let plan = Plan { lines: 2, want: rng.between(1, 2), ..Plan::random(rng, board.n) };
-    let lengths = Lengths::new(board.n, &board.table);
-    let drafts = (0..3).map(|_| sheets::valid(rng, &lengths, set, plan));
+fn sheet(rng: &mut Rng, lengths: &Intervals, set: &[u8]) -> Vec<u8> {
+    let plan = Plan { lines: 2, want: rng.between(1, 2), ..Plan::random(rng, lengths.order.n) };
+    let drafts = (0..3).map(|_| sheets::valid(rng, lengths, set, plan));
     let records = drafts.map(|draft| draft.records).find(|records| !records.is_empty());
     sheet_bytes(&records.unwrap_or_default())
 }
 
 impl Comparison<'_> {
-    /// All operations and the program for the number of points whose turn it is.
-    pub fn readings(&mut self, rng: &mut Rng) -> Checked {
+    /// The board of the number of points whose turn it is.
+    fn board_of_turn(&self, rng: &mut Rng) -> Board {
         let n = POINTS[(self.case % POINTS.len() as u64) as usize];
         let most = rng.pick(&[30, 1_000, 1_000_000]);
-        let board = boards::points_of(rng, n, most);
-        self.fresh(rng, u32::from(n))?;
-        self.conversions(rng, n)?;
+        boards::points_of(rng, n, most)
+    }
+
+    /// All operations over one table or none, and the program.
+    pub fn readings(&mut self, rng: &mut Rng) -> Checked {
+        let board = self.board_of_turn(rng);
+        self.fresh(rng, u32::from(board.n))?;
+        self.conversions(rng, board.n)?;
         for reading in READINGS {
             let call = Call::new(rng, &board, reading);
             self.good(&call)?;
             if reading == Reading::Step(Step::Mark) {
                 self.program(rng, &board, &call.sheet)?;
             }
-            for fault in SetFault::with(n) {
-                self.faulty(rng, &call, fault)?;
-            }
+            self.all_faults(rng, &call)?;
         }
         Ok(())
+    }
+
+    /// The operations over two tables.
+    pub fn readings_between(&mut self, rng: &mut Rng) -> Checked {
+        let board = self.board_of_turn(rng);
+        for reading in READINGS_BETWEEN {
+            let call = Call::new(rng, &board, reading);
+            self.good(&call)?;
+            self.all_faults(rng, &call)?;
+        }
+        Ok(())
+    }
+
+    fn all_faults(&mut self, rng: &mut Rng, call: &Call) -> Checked {
+        let faults = SetFault::with(call.lent.n as u16);
+        faults.into_iter().try_for_each(|fault| self.faulty(rng, call, fault))
     }
 
     /// A call in both programs; answers the number for C.
@@ -172,7 +220,7 @@ impl Comparison<'_> {
         self.same_as(&what, call.shown(answer), ("naive", naive_call.shown(naive)), || before.hex())
     }
 
-    /// A call on a set with a fault: 6, unless the call on the good set gets 1, 2 or 5; nothing is written.
+    /// A call on a set with a fault: 6, unless the call on the good set gets 1, 2, 5 or 25; nothing is written.
     fn faulty(&mut self, rng: &mut Rng, good: &Call, fault: SetFault) -> Checked {
         let mut good = good.clone();
         let n = good.lent.n as u16;
@@ -183,7 +231,7 @@ impl Comparison<'_> {
         let answer = self.reading(&before, &mut call)?;
         let repaired = good.run(self.one) % 256;
         self.coverage.sets.count_order(before.reading.operation(), repaired);
-        let due = if [1, 2, 5].contains(&repaired) { repaired } else { 6 };
+        let due = if [1, 2, 5, 25].contains(&repaired) { repaired } else { 6 };
         if call.shown(answer) != before.shown(due) {
             let what = format!("{} for {fault}", before.reading.operation().name());
             return Err(self.difference(&what, format!("{}answer {answer}, due {due}\n", before.hex())));

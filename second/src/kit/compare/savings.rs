@@ -5,6 +5,7 @@ use super::{hex, Checked, Comparison, Difference};
 use crate::bytes::numbers;
 use crate::crossing::Crossing;
 use crate::edge_set::EdgeSet;
+use crate::intervals::Intervals;
 use crate::kit::boards::{self, Board};
 use crate::kit::checker::Checker;
 use crate::kit::drafts::sheet_bytes;
@@ -14,7 +15,6 @@ use crate::kit::savings_met::NUMBERS;
 use crate::kit::search::crossings;
 use crate::kit::sets;
 use crate::kit::spoil::Lent;
-use crate::lengths::Lengths;
 use crate::marks::{Marks, OPEN};
 use crate::packed::put_mark;
 use crate::pairs::Split;
@@ -30,25 +30,24 @@ const PAIRS: usize = 12;
 const SHEETS: usize = 8;
 
 /// A crossing in a sheet: its record is the third, behind a line and a split.
-struct CrossingSheet {
-    marks: Vec<u8>,
-    records: [Record; 3],
+pub struct CrossingSheet {
+    pub marks: Vec<u8>,
+    pub records: [Record; 3],
     /// p, q, r, s, x, y, z, w.
     points: [u16; 8],
 }
 
 impl CrossingSheet {
     /// Closes the first pair of the first pair of a line by any crossing that passes 15, if there is one.
-    fn new(rng: &mut Rng, board: &Board) -> Option<CrossingSheet> {
-        let n = board.n;
+    pub fn new(rng: &mut Rng, lengths: &Intervals) -> Option<CrossingSheet> {
+        let n = lengths.order.n;
         let [a, b, c, d] = rng.points(n, 4).try_into().unwrap();
-        let lengths = Lengths::new(n, &board.table);
         let open = rng.pick(&[100, 80, 50]);
         let mut marks = sets::packed(&boards::random_marks(rng, n, open));
         put_mark(&mut marks, lengths.order.place(a, b), OPEN);
         let mut known = EdgeSet::one(a, b);
         let mut add_first = |c| {
-            let pair = Split::new(&lengths, Marks::in_sheet(&marks), &known, c).next_pair()?;
+            let pair = Split::new(lengths, Marks::in_sheet(&marks), &known, c).next_pair()?;
             known.add_pair(c, pair);
             Some(pair)
         };
@@ -62,6 +61,12 @@ impl CrossingSheet {
         ];
         let (xy, zw) = (known.ends(r), known.ends(s));
         Some(CrossingSheet { marks, records, points: [p, q, r, s, xy[0], xy[1], zw[0], zw[1]] })
+    }
+
+    /// What the crossing saves.
+    pub fn saving(&self, lengths: &Intervals) -> i64 {
+        let [p, q, r, s, x, y, z, w] = self.points;
+        Crossing { p, q, r, s }.saving(lengths, (x, y), (z, w))
     }
 }
 
@@ -88,7 +93,8 @@ impl Comparison<'_> {
             }
         }
         self.pairs_by_savings(rng, board)?;
-        match (0..SHEETS).find_map(|_| CrossingSheet::new(rng, board)) {
+        let lengths = Intervals::exact(board.n, &board.table);
+        match (0..SHEETS).find_map(|_| CrossingSheet::new(rng, &lengths)) {
             Some(sheet) => self.crossing_by_saving(board, &sheet),
             None => Ok(()),
         }

@@ -1,5 +1,5 @@
-//! Slips: random ones, and that of every sheet that is marked or asked. Three programs show them, and what two slips tell is
-//! held against what they keep.
+//! Slips: random ones, and that of every sheet that is asked or is marked, over one table or two. Three programs show them, and
+//! what two slips tell is held against what they keep.
 
 use super::{Checked, Comparison, Difference, Hex};
 use crate::bytes::slip_of;

@@ -4,6 +4,7 @@
 use std::fmt::{self, Debug};
 
 use super::{hex, hex_call, Checked, Comparison, Difference, Hex, PROGRAMS};
+use crate::intervals::Intervals;
 use crate::kit::boards::{self, Board};
 use crate::kit::checker::Checker;
 use crate::kit::coverage::{Event, Operation};
@@ -12,7 +13,7 @@ use crate::kit::kept::Kept;
 use crate::kit::rng::Rng;
 use crate::kit::sets::{self, pending};
 use crate::kit::spoil::{self, Lent};
-use crate::lengths::{EdgeOrder, Lengths};
+use crate::lengths::EdgeOrder;
 use crate::marks::PENDING;
 use crate::packed::mark;
 use crate::sheet::Sheet;
@@ -166,7 +167,7 @@ impl Comparison<'_> {
         let numbers = crate::bytes::numbers(sheet);
         let records = if lines > 0 {
             let table = crate::bytes::entries(&lent.table);
-            Entered::count(Lengths::new(lent.n as u16, &table), marks, &numbers, lines, &mut self.coverage)
+            Entered::count(Intervals::exact(lent.n as u16, &table), marks, &numbers, lines, &mut self.coverage)
         } else {
             0
         };

@@ -4,6 +4,7 @@
 //!
 //! A `Slip` builds in one mistake, to show that the comparison finds it.
 
+mod limits;
 mod reader;
 mod rules;
 mod savings;
@@ -134,18 +135,29 @@ impl Naive {
     /// *Mark a sheet*, directly or asked.
     fn hand_in(&self, n: u32, table: &[u8], set: &mut [u8], sheet: &[u8], asked: bool) -> Result<u64, u64> {
         let (table, whole) = table_of(table);
-        let mut marks = first_tests(self.slip, n, &table, whole, set)?;
+        let marks = first_tests(self.slip, n, &table, whole, set)?;
+        self.hand_in_on(Board::new(n as usize, &table, self.slip), marks, set, sheet, asked)
+    }
+
+    /// The same on a board, past the tests of the table and of the marks.
+    fn hand_in_on(
+        &self,
+        board: Board,
+        mut marks: Vec<u8>,
+        set: &mut [u8],
+        sheet: &[u8],
+        asked: bool,
+    ) -> Result<u64, u64> {
         self.sheet_tests(&marks, sheet, asked)?;
-        let answer = self.hand_in_bytes(n, &table, &mut marks, sheet, asked);
+        let answer = self.hand_in_bytes(board, &mut marks, sheet, asked);
         sets::write(self.slip, &marks, set);
         Ok(answer)
     }
 
     /// The same on a byte set, past the first tests.
-    fn hand_in_bytes(&self, n: u32, table: &[u32], marks: &mut [u8], sheet: &[u8], asked: bool) -> u64 {
+    fn hand_in_bytes(&self, board: Board, marks: &mut [u8], sheet: &[u8], asked: bool) -> u64 {
         let record = |bytes| numbers(bytes, 2).iter().map(|&v| v as usize).collect();
         let records = sheet.chunks(16).map(record).collect();
-        let board = Board::new(n as usize, table, self.slip);
         let before = marks.to_vec();
         let mut accepted = 0;
         let strike = if asked { 2 } else { 0 };
@@ -227,7 +239,7 @@ impl Naive {
         let closing = if self.slip == Some(Slip::OpenTour) { 1 } else { 0 };
         let edges: Vec<Edge> =
             (closing..points.len()).map(|i| (points[i], points[(i + points.len() - 1) % points.len()])).collect();
-        let length: i64 = edges.iter().map(|&(a, b)| board.l(a, b)).sum();
+        let length: i64 = edges.iter().map(|&(a, b)| board.out(a, b)).sum();
         let marks = pending_read_as(if self.slips(Slip::PendingStruckInTour) { 0 } else { 1 }, &marks);
         let open = edges.iter().filter(|&&(a, b)| marks[board.place(a, b)] == 0).count() == 0;
         Ok(length as u64 * 65_536 + if open { 256 } else { 0 })
@@ -236,12 +248,16 @@ impl Naive {
     fn list(&self, n: u32, table: &[u8], set: &[u8], abc: [u16; 3], list: &mut [u8]) -> Result<u64, u64> {
         let (table, whole) = table_of(table);
         let marks = first_tests(self.slip, n, &table, whole, set)?;
-        if abc.iter().any(|&v| v == 0 || u32::from(v) > n) || abc[0] == abc[1] {
+        self.list_on(Board::new(n as usize, &table, self.slip), &marks, abc, list)
+    }
+
+    /// The same on a board, past the tests of the table and of the marks.
+    fn list_on(&self, board: Board, marks: &[u8], abc: [u16; 3], list: &mut [u8]) -> Result<u64, u64> {
+        let [a, b, c] = abc.map(usize::from);
+        if [a, b, c].iter().any(|&v| v == 0 || v > board.n) || a == b {
             return Err(11);
         }
-        let [a, b, c] = abc.map(usize::from);
-        let board = Board::new(n as usize, &table, self.slip);
-        let marks = pending_read_as(if self.slips(Slip::PendingStruckInList) { 0 } else { 1 }, &marks);
+        let marks = pending_read_as(if self.slips(Slip::PendingStruckInList) { 0 } else { 1 }, marks);
         if marks[board.place(a, b)] == 0 {
             return Err(12);
         }
@@ -331,6 +347,14 @@ impl Checker for Naive {
         number(self.list(n, table, marks, abc, list))
     }
 
+    fn mark_between(&self, n: u32, low: &[u8], high: &[u8], marks: &mut [u8], sheet: &[u8]) -> u64 {
+        number(self.mark_within(n, low, high, marks, sheet))
+    }
+
+    fn list_between(&self, n: u32, low: &[u8], high: &[u8], marks: &[u8], abc: [u16; 3], list: &mut [u8]) -> u64 {
+        number(self.list_within(n, low, high, marks, abc, list))
+    }
+
     fn exchange_saving(&self, n: u32, table: &[u8], pqxy: [u16; 4]) -> i64 {
         saved(self.exchange(n, table, pqxy))
     }
@@ -378,7 +402,7 @@ impl Checker for Naive {
         let sheet = &file[sheet_start..];
         let table = table_of(&table).0;
         let answer = match self.sheet_tests(&marks, sheet, false) {
-            Ok(()) => self.hand_in_bytes(n, &table, &mut marks, sheet, false),
+            Ok(()) => self.hand_in_bytes(Board::new(n as usize, &table, self.slip), &mut marks, sheet, false),
             Err(refusal) => refusal,
         };
         let mut text = format!("points {} edges {}\n", n, edges.len());

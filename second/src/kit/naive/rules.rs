@@ -1,4 +1,4 @@
-//! The five tests and the crossing as 01 writes them.
+//! The five tests and the crossing as 01 writes them, over two tables as Paper 11 says.
 
 use super::slip::Slip;
 
@@ -8,7 +8,9 @@ pub struct Board<'a> {
     pub n: usize,
     /// All edges in 01's order.
     edges: Vec<Edge>,
-    table: &'a [u32],
+    /// "A low and a high length for each edge"; one table is both.
+    low: &'a [u32],
+    high: &'a [u32],
     /// The place of a-b at a × (n + 1) + b.
     places: Vec<usize>,
     pub slip: Option<Slip>,
@@ -89,38 +91,58 @@ pub fn short_cycle(k: &[Edge], limit: usize) -> bool {
 
 impl<'a> Board<'a> {
     pub fn new(n: usize, table: &'a [u32], slip: Option<Slip>) -> Self {
+        Board::between(n, table, table, slip)
+    }
+
+    pub fn between(n: usize, low: &'a [u32], high: &'a [u32], slip: Option<Slip>) -> Self {
         let edges = all_edges(n);
         let mut places = vec![usize::MAX; (n + 1) * (n + 1)];
         for (place, &(a, b)) in edges.iter().enumerate() {
             places[a * (n + 1) + b] = place;
             places[b * (n + 1) + a] = place;
         }
-        Board { n, edges, table, places, slip }
+        Board { n, edges, low, high, places, slip }
     }
 
     pub fn place(&self, a: usize, b: usize) -> usize {
         self.places[a * (self.n + 1) + b]
     }
 
-    pub fn l(&self, a: usize, b: usize) -> i64 {
+    fn l(&self, table: &[u32], a: usize, b: usize) -> i64 {
         if a == b {
             return 0;
         }
-        i64::from(self.table[self.place(a, b)])
+        i64::from(table[self.place(a, b)])
+    }
+
+    /// "Whatever a rule takes out counts low."
+    pub fn out(&self, a: usize, b: usize) -> i64 {
+        self.l(if self.slip == Some(Slip::OutHigh) { self.high } else { self.low }, a, b)
+    }
+
+    /// "Whatever it puts in counts high."
+    pub fn put(&self, a: usize, b: usize) -> i64 {
+        self.l(if self.slip == Some(Slip::PutLow) { self.low } else { self.high }, a, b)
     }
 
     pub fn compatible(&self, (p, q): Edge, (x, y): Edge) -> bool {
-        let straight = self.l(p, x) + self.l(q, y);
-        let crossed = self.l(p, y) + self.l(q, x);
+        let straight = self.put(p, x) + self.put(q, y);
+        let crossed = self.put(p, y) + self.put(q, x);
         let larger = if self.slip == Some(Slip::OneExchange) { straight } else { straight.max(crossed) };
-        larger >= self.l(p, q) + self.l(x, y)
+        larger >= self.out(p, q) + self.out(x, y)
     }
 
     /// Whether "moving the point between the edge's ends makes the sum smaller": w, from between s and t, and the edge uv.
     pub fn moves_between(&self, (u, v): Edge, w: usize, (s, t): Edge, ties: bool) -> bool {
-        let new = self.l(s, t) + self.l(u, w) + self.l(v, w);
-        let old = self.l(u, v) + self.l(s, w) + self.l(t, w);
-        new < old || (ties && new == old)
+        let new = self.put(s, t) + self.put(u, w) + self.put(v, w);
+        let old = self.out(u, v) + self.out(s, w) + self.out(t, w);
+        let stays = if self.slip == Some(Slip::BothCountsOnce) { self.stays_between((u, v), w, (s, t)) } else { 0 };
+        new - stays < old || (ties && new == old)
+    }
+
+    /// What a slip takes off: an edge that is taken out and put in again, sw where s is u or v, tw where t is.
+    fn stays_between(&self, (u, v): Edge, w: usize, (s, t): Edge) -> i64 {
+        [s, t].iter().filter(|&&e| e == u || e == v).map(|&e| self.put(e, w) - self.out(e, w)).sum()
     }
 
     /// Whether a slip forgets to move w.
@@ -180,8 +202,9 @@ impl<'a> Board<'a> {
 
     /// What the two moves of a labelling save.
     pub fn two_savings(&self, [p, q, r, s]: [usize; 4], (x, y): Edge, (z, w): Edge) -> [i64; 2] {
-        let first = self.l(p, q) + self.l(r, x) + self.l(s, w) - self.l(r, s) - self.l(p, x) - self.l(q, w);
-        let second = self.l(p, q) + self.l(r, y) + self.l(s, z) - self.l(r, s) - self.l(p, z) - self.l(q, y);
+        let put = |a, b| if self.slip == Some(Slip::CrossingLow) { self.out(a, b) } else { self.put(a, b) };
+        let first = self.out(p, q) + self.out(r, x) + self.out(s, w) - put(r, s) - put(p, x) - put(q, w);
+        let second = self.out(p, q) + self.out(r, y) + self.out(s, z) - put(r, s) - put(p, z) - put(q, y);
         [first, second]
     }
 
@@ -217,19 +240,25 @@ impl<'a> Board<'a> {
     }
 
     /// The length of the shortest tour that begins with `path`, from its last point on.
-    fn shortest_rest(&self, path: &[usize]) -> i64 {
+    fn shortest_rest(&self, table: &[u32], path: &[usize]) -> i64 {
         let at = path[path.len() - 1];
         let next = (1..=self.n).filter(|v| !path.contains(v));
-        let rest = next.map(|v| self.l(at, v) + self.shortest_rest(&[path, &[v]].concat()));
-        rest.min().unwrap_or(self.l(at, path[0]))
+        let rest = next.map(|v| self.l(table, at, v) + self.shortest_rest(table, &[path, &[v]].concat()));
+        rest.min().unwrap_or(self.l(table, at, path[0]))
+    }
+
+    /// Whether no shortest tour over a table has ab; up to nine points.
+    fn in_no_shortest(&self, table: &[u32], (a, b): Edge) -> bool {
+        self.n <= 9 && self.l(table, a, b) + self.shortest_rest(table, &[a, b]) > self.shortest_rest(table, &[a])
     }
 
     /// Whether a slip accepts a line for ab that has no cases.
     pub fn waved_on(&self, marks: &[u8], (a, b): Edge) -> bool {
         match self.slip {
             Some(Slip::LastEdges) => [a, b].iter().any(|&v| self.open_edges(marks, v) <= 2),
-            Some(Slip::ShortestOnly) => {
-                self.n <= 9 && self.l(a, b) + self.shortest_rest(&[a, b]) > self.shortest_rest(&[a])
+            Some(Slip::ShortestOnly) => self.in_no_shortest(self.low, (a, b)),
+            Some(Slip::EndsOnly) => {
+                self.low != self.high && [self.low, self.high].iter().all(|table| self.in_no_shortest(table, (a, b)))
             }
             _ => false,
         }

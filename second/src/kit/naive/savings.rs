@@ -6,7 +6,7 @@ use super::{edge_count, table_of, table_tests, Naive};
 
 impl Board<'_> {
     fn sum(&self, edges: &[Edge]) -> i64 {
-        edges.iter().map(|&(a, b)| self.l(a, b)).sum()
+        edges.iter().map(|&(a, b)| self.out(a, b)).sum()
     }
 
     /// "For two edges, their sum less the larger of the two exchanges."

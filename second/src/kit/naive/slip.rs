@@ -142,10 +142,32 @@ pub enum Slip {
     ShortViewWritten,
     /// A view clears the bytes past it.
     BytesPastCleared,
+    /// What is taken out counts high.
+    OutHigh,
+    /// What is put in counts low.
+    PutLow,
+    /// What a crossing puts in counts low.
+    CrossingLow,
+    /// In test 5 a length that is taken out and put in counts once, as low.
+    BothCountsOnce,
+    /// A line without cases is accepted over two different tables if no shortest tour over either of them has its edge, on a
+    /// board up to nine points.
+    EndsOnly,
+    /// Equal lengths get 25, too.
+    EqualRefused,
+    /// 25 is not told.
+    LimitsUntold,
+    /// 25 before 5.
+    LimitsBeforeLengths,
+    /// 25 after 6.
+    LimitsAfterMarks,
+    /// 5 does not read the low table, or the high one.
+    LowEntryUntested,
+    HighEntryUntested,
 }
 
 impl Slip {
-    pub const ALL: [Slip; 71] = [
+    pub const ALL: [Slip; 82] = [
         Slip::EqualShutsOut,
         Slip::EqualSaves,
         Slip::OneExchange,
@@ -217,5 +239,16 @@ impl Slip {
         Slip::ReleaseCutsAbove,
         Slip::ShortViewWritten,
         Slip::BytesPastCleared,
+        Slip::OutHigh,
+        Slip::PutLow,
+        Slip::CrossingLow,
+        Slip::BothCountsOnce,
+        Slip::EndsOnly,
+        Slip::EqualRefused,
+        Slip::LimitsUntold,
+        Slip::LimitsBeforeLengths,
+        Slip::LimitsAfterMarks,
+        Slip::LowEntryUntested,
+        Slip::HighEntryUntested,
     ];
 }
