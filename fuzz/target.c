@@ -28,7 +28,7 @@ static uint8_t *guarded(void)
 }
 
 static uint8_t *table_end, *marks_end, *sheet_end, *tour_end, *list_end, *measured_end, *asked_end, *settled_end, *other_list_end;
-static uint8_t *bytes_end, *packed_end, *view_end;
+static uint8_t *bytes_end, *packed_end, *view_end, *high_end;
 
 static uint32_t get32(const uint8_t *at) { return at[0] | (uint32_t)at[1] << 8 | (uint32_t)at[2] << 16 | (uint32_t)at[3] << 24; }
 static uint64_t get64(const uint8_t *at) { return get32(at) | (uint64_t)get32(at + 4) << 32; }
@@ -390,6 +390,155 @@ static void try_slip(uint64_t slip, size_t len)
     try_view(released, len, 0, revosti_candidate_view);
 }
 
+/* Low and high lengths. */
+struct limits {
+    uint32_t n;
+    const uint8_t *low, *high;
+    size_t low_len, high_len;
+};
+
+/* What tests 1, 2, 5 and 25 answer. */
+static uint64_t test_limits(struct limits l)
+{
+    if (no_points(l.n)) return REVOSTI_POINTS;
+    size_t len = 4 * revosti_edges(l.n);
+    if (l.low_len != len || l.high_len != len) return REVOSTI_SIZE;
+    for (size_t i = 0; i < len; i += 4)
+        if (get32(l.low + i) > REVOSTI_MOST_LENGTH || get32(l.high + i) > REVOSTI_MOST_LENGTH) return REVOSTI_LENGTH;
+    for (size_t i = 0; i < len; i += 4)
+        if (get32(l.low + i) > get32(l.high + i)) return REVOSTI_LIMITS;
+    return 0;
+}
+
+/* And those of listing: 6, 11, 12. */
+static uint64_t test_listing(struct limits l, const uint8_t *marks, size_t len, const uint16_t *abc)
+{
+    uint64_t number = test_limits(l);
+    if (number) return number;
+    if (test_6(l.n, marks, len)) return REVOSTI_MARKS;
+    for (int i = 0; i < 3; i++)
+        if (abc[i] == 0 || abc[i] > l.n) return REVOSTI_POINT;
+    if (abc[0] == abc[1]) return REVOSTI_POINT;
+    return mark_of(marks, revosti_place(l.n, abc[0], abc[1])) == REVOSTI_STRUCK ? REVOSTI_EDGE_STRUCK : 0;
+}
+
+/* Or those of marking before any record: 6, 20, 7. */
+static uint64_t test_marking(struct limits l, const uint8_t *marks, size_t len, size_t sheet_len)
+{
+    uint64_t number = test_limits(l);
+    if (number) return number;
+    if (test_6(l.n, marks, len)) return REVOSTI_MARKS;
+    if (count(marks, revosti_edges(l.n), REVOSTI_PENDING)) return REVOSTI_SOMETHING_PENDING;
+    return sheet_len == 0 || sheet_len % 16 || sheet_len > 16 * REVOSTI_MOST_RECORDS ? REVOSTI_SHEET : 0;
+}
+
+/* High lengths: the low ones and up to the rule's width more; by some rules one of them is below the low one, or above its limit. */
+static struct limits some_limits(uint32_t n, const uint8_t *table, size_t len, uint32_t rule)
+{
+    static const uint32_t widths[] = {0, 1, 1, 3, 40, 1000, 100000, REVOSTI_MOST_LENGTH};
+    uint8_t *high = high_end - len;
+    uint32_t width = widths[rule >> 5 & 7], hash = rule | 1;
+    for (size_t i = 0; i + 4 <= len; i += 4) {
+        hash = hash * 0x9e3779b1u + 0x7f4a7c15u;
+        uint32_t low = get32(table + i), l = low + (hash >> 8) % (width + 1);
+        if (l > REVOSTI_MOST_LENGTH && low <= REVOSTI_MOST_LENGTH) l = REVOSTI_MOST_LENGTH;
+        if (rule % 11 == 9 && i / 4 == rule / 11 % (len / 4)) l = rule % 2 ? low - 1 : REVOSTI_MOST_LENGTH + 1;
+        high[i] = (uint8_t)l, high[i + 1] = (uint8_t)(l >> 8), high[i + 2] = (uint8_t)(l >> 16), high[i + 3] = (uint8_t)(l >> 24);
+    }
+    size_t cut = rule % 13 == 12 && len > 4 ? 1 + (rule >> 4 & 3) : 0;
+    return (struct limits){n, table, high + cut, len, len - cut};
+}
+
+/* Marks over two tables, from the marks before: the slip; the refusals before any record; the parts of the answer, and the strikes. */
+static void try_mark_between(struct limits l, const uint8_t *before, size_t edges, const uint8_t *sheet, size_t sheet_len, uint32_t rule)
+{
+    size_t len = packed(edges);
+    uint8_t *marks = settled_end - len;
+    memcpy(marks, before, len);
+    uint64_t number = test_marking(l, before, len, sheet_len);
+    uint64_t answer = revosti_mark_between(l.n, l.low, l.low_len, l.high, l.high_len, marks, len, sheet, sheet_len);
+    unsigned refusal = revosti_refusal(answer), record = revosti_record(answer), lines = revosti_lines(answer);
+    seen(14, refusal, lines < 60 ? lines : 60);
+    try_slip(answer, 5 + rule % 3);
+    if (number) {
+        promise(answer == number && memcmp(before, marks, len) == 0, "1, 2, 5, 25, 6, 20, 7 of two tables, and no mark changed");
+        return;
+    }
+    promise(refusal == 0 || (refusal >= REVOSTI_INDEX_ABOVE && refusal <= REVOSTI_NO_SAVING), "0, or 8 to 16");
+    promise((record != 0) == (refusal != 0) && record * 16u <= sheet_len && answer >> 40 == 0, "a refusal names a record");
+    promise(lines == count(marks, edges, REVOSTI_STRUCK) - count(before, edges, REVOSTI_STRUCK), "lines accepted are marks changed");
+    for (size_t i = 0; i < 4 * len; i++) {
+        uint8_t mark = mark_of(marks, i), old = mark_of(before, i);
+        promise(mark == old || (old == REVOSTI_OPEN && mark == REVOSTI_STRUCK), "marks only go from open to struck");
+    }
+    if (rule % 5 != 4 && lines > 0) enough_open(l.n, marks, edges);
+}
+
+/* One table lent as both: the answer and the marks of marking. */
+static void try_mark_equal(uint32_t n, const uint8_t *table, size_t table_len, const uint8_t *before, const uint8_t *marked, size_t edges,
+                           const uint8_t *sheet, size_t sheet_len, uint64_t answer)
+{
+    size_t len = packed(edges);
+    uint8_t *marks = settled_end - len;
+    memcpy(marks, before, len);
+    uint64_t equal = revosti_mark_between(n, table, table_len, table, table_len, marks, len, sheet, sheet_len);
+    promise(equal == answer && memcmp(marks, marked, len) == 0, "over equal tables as over one");
+}
+
+/* The pairs of the first list are in the second. Both rise. */
+static int listed_too(const uint8_t *list, size_t pairs, const uint8_t *other, size_t others)
+{
+    size_t at = 0;
+    for (size_t i = 0; i < pairs; i++, at++) {
+        while (at < others && memcmp(list + 4 * i, other + 4 * at, 4) != 0) at++;
+        if (at == others) return 0;
+    }
+    return 1;
+}
+
+/* Lists over one table: lent as both it is listed as before; what stands over it is among the pairs over two, if there are such. */
+static void try_list_of_one(uint32_t n, const uint8_t *table, size_t table_len, const uint8_t *marks, size_t edges, const uint16_t *abc,
+                            const uint8_t *list, uint64_t between)
+{
+    size_t len = 4 * edges;
+    uint8_t *one = other_list_end - len, *equal = bytes_end - len;
+    memset(one, 0xa5, len), memset(equal, 0xa5, len);
+    uint64_t answer = revosti_list_pairs(n, table, table_len, marks, packed(edges), abc[0], abc[1], abc[2], one, len);
+    promise(answer == revosti_list_between(n, table, table_len, table, table_len, marks, packed(edges), abc[0], abc[1], abc[2], equal, len),
+            "over equal tables as over one");
+    promise(memcmp(one, equal, len) == 0, "the list over equal tables");
+    if (between % 65536 != 0) return;
+    promise(answer % 65536 == 0, "a list over one table if over both");
+    promise(listed_too(one, revosti_pairs(answer), list, revosti_pairs(between)), "what stands over one table stands over both");
+}
+
+/* A list a byte too short for the pairs. */
+static void try_short_list(struct limits l, const uint8_t *marks, size_t edges, const uint16_t *abc, size_t len)
+{
+    uint8_t *list = other_list_end - len;
+    memset(list, 0xa5, len);
+    uint64_t answer = revosti_list_between(l.n, l.low, l.low_len, l.high, l.high_len, marks, packed(edges), abc[0], abc[1], abc[2], list, len);
+    promise(answer == REVOSTI_LIST, "18 of a list over two tables");
+    for (size_t i = 0; i < len; i++) promise(list[i] == 0xa5, "a list that is too short stays");
+}
+
+/* Lists over two tables: 1, 2, 5, 25, 6, 11, 12 as due, nothing written but the pairs, and 18. */
+static void try_list_between(struct limits l, const uint8_t *marks, size_t edges, uint32_t rule)
+{
+    const uint16_t abc[] = {(uint16_t)(rule >> 8 & 0xff), (uint16_t)(rule >> 16 & 0xff), (uint16_t)(rule >> 24)};
+    size_t len = 4 * edges;
+    uint8_t *list = list_end - len;
+    memset(list, 0xa5, len);
+    uint64_t number = test_listing(l, marks, packed(edges), abc);
+    uint64_t answer = revosti_list_between(l.n, l.low, l.low_len, l.high, l.high_len, marks, packed(edges), abc[0], abc[1], abc[2], list, len);
+    promise(number ? answer == number : answer % 65536 == 0 && answer <= 65536 * edges, "1, 2, 5, 25, 6, 11, 12 of two tables, or pairs");
+    for (size_t i = 4 * revosti_pairs(answer); i < len; i++) promise(list[i] == 0xa5, "bytes past the pairs stay");
+    try_list_of_one(l.n, l.low, l.low_len, marks, edges, abc, list, answer);
+    try_list_of_one(l.n, l.high, l.high_len, marks, edges, abc, list, answer);
+    if (revosti_pairs(answer) > 0) try_short_list(l, marks, edges, abc, 4 * revosti_pairs(answer) - 1);
+    seen(15, revosti_refusal(answer), (unsigned)revosti_pairs(answer));
+}
+
 static void run(const uint8_t *file, size_t size)
 {
     if (size < 8) return;
@@ -433,6 +582,10 @@ static void run(const uint8_t *file, size_t size)
         promise(mark == old || (old == REVOSTI_OPEN && mark == REVOSTI_STRUCK), "marks only go from open to struck");
     }
     try_ask(n, table + (4 * edges - table_len), table_len, before, marks, edges, sheet, sheet_len, answer);
+    struct limits limits = some_limits(n, table + (4 * edges - table_len), table_len, rule);
+    try_mark_equal(n, table + (4 * edges - table_len), table_len, before, marks, edges, sheet, sheet_len, answer);
+    try_mark_between(limits, before, edges, sheet, sheet_len, rule);
+    try_list_between(limits, marks, edges, rule);
     if (lines > 0) try_looks(n, table, before, asked_end - len, edges, rule);
     if (rule % 5 != 4 && lines > 0) enough_open(n, marks, edges), enough_open(n, asked_end - len, edges);
     seen(1, refusal, record < 40 ? record : 40 + record / 64);
@@ -448,7 +601,7 @@ int main(void)
 {
     table_end = guarded(), marks_end = guarded(), sheet_end = guarded(), tour_end = guarded();
     list_end = guarded(), measured_end = guarded(), asked_end = guarded(), settled_end = guarded(), other_list_end = guarded();
-    bytes_end = guarded(), packed_end = guarded(), view_end = guarded();
+    bytes_end = guarded(), packed_end = guarded(), view_end = guarded(), high_end = guarded();
     __AFL_INIT();
     unsigned char *file = __AFL_FUZZ_TESTCASE_BUF;
     while (__AFL_LOOP(10000)) run(file, (size_t)__AFL_FUZZ_TESTCASE_LEN);
