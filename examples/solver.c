@@ -1,7 +1,7 @@
 /*
  * How a tour solver uses Revosti: a board is measured, a strike sheet written from lists of standing pairs, asked, withdrawn, asked again
- * and confirmed, and a search looks at open edges only. Then it asks how much the rules save, its marks go to a byte set and back, and the
- * slip of a sheet that stops is shown and released.
+ * and confirmed, and a search looks at open edges only. Then it asks how much the rules save, its marks go to a byte set and back, the slip
+ * of a sheet that stops is shown and released, and the sheet is marked for a board whose lengths are known within limits only.
  *
  *   cc -Iinclude examples/solver.c target/staticlib/librevosti.a -o solver && ./solver
  *
@@ -262,6 +262,52 @@ static void slips(size_t lines)
     expect("a view of five bytes", revosti_examiner_view(slip, view, REVOSTI_VIEW_BYTES - 1), REVOSTI_BUFFER);
 }
 
+/* The square before it is cut: its side is at least 10, and `table` has the low lengths. What the high ones are, and the marks for both. */
+static uint8_t high[sizeof table], between[sizeof marks];
+
+static void measure_high(uint32_t side)
+{
+    const uint32_t corners[2 * N] = {0, 0, side, 0, side, side, 0, side};
+    uint8_t points[8 * N];
+    for (size_t i = 0; i < 2 * N; i++) put32(points + 4 * i, corners[i]);
+    printf("a side of 10 to %u:\n", (unsigned)side);
+    expect("  measuring", revosti_measure(N, REVOSTI_EUC_2D, points, sizeof points, high, sizeof high), REVOSTI_ACCEPTED);
+    expect("  fresh marks", revosti_fresh_marks(N, between, sizeof between), REVOSTI_ACCEPTED);
+}
+
+static uint64_t mark_between(size_t lines)
+{
+    return revosti_mark_between(N, table, sizeof table, high, sizeof high, between, sizeof between, sheet, RECORD * lines);
+}
+
+static size_t pairs_between(unsigned a, unsigned b, unsigned c)
+{
+    return revosti_pairs(revosti_list_between(N, table, sizeof table, high, sizeof high, between, sizeof between, (uint16_t)a, (uint16_t)b,
+                                              (uint16_t)c, list, sizeof list));
+}
+
+/* Up to a side of 13 both strikes hold, whichever board is cut: the diagonals are at least 14 + 14, two sides at most 26. Up to 14 they do
+ * not: 14 + 14 against 28 is a tie, and pairs stand which neither table has. The same table twice is that table. */
+static void limits(size_t lines)
+{
+    measure_high(13);
+    expect("  pairs at 2 under 1-3", pairs_between(1, 3, 2), 0);
+    expect("  marking, lines accepted", revosti_lines(mark_between(lines)), 2);
+    expect("  marks differ from those of one table", (uint64_t)(memcmp(between, marks, sizeof marks) != 0), 0);
+    measure_high(14);
+    expect("  pairs at 2 under 1-3", pairs_between(1, 3, 2), 2);
+    expect("  first pair, x and y as digits", 10 * get16(list) + get16(list + 2), 14);
+    uint64_t answer = mark_between(lines);
+    expect("  marking, refusal", revosti_refusal(answer), REVOSTI_PAIR);
+    expect("  marking, record", revosti_record(answer), 1);
+    measure_high(10);
+    expect("  marking, as one table", mark_between(lines), (uint64_t)2 << 24);
+    expect("  marks differ from those of one table", (uint64_t)(memcmp(between, marks, sizeof marks) != 0), 0);
+    measure_high(9);
+    expect("  marking, a low length above its high one", mark_between(lines), REVOSTI_LIMITS);
+    expect("  mark of 1-3", revosti_mark_of(N, between, 1, 3), REVOSTI_OPEN);
+}
+
 /* Faulty input is refused, and changes nothing. `lines` is the length of the sheet that is marked already. */
 static void refusals(size_t lines)
 {
@@ -337,6 +383,7 @@ int main(void)
     crossing_saves(14, -2);
     convert();
     slips(lines);
+    limits(lines);
     refusals(lines);
     return faults != 0;
 }

@@ -1,6 +1,7 @@
 /*
  * Revosti for C: measure a board, make fresh marks, mark a strike sheet, ask one and confirm or withdraw it, list standing pairs, check a
- * tour; tell how much an exchange, a move or a crossing saves; convert sets of marks; show a marked sheet's slip to examiner and candidate.
+ * tour; mark and list where lengths are known within limits only; tell how much an exchange, a move or a crossing saves; convert sets of
+ * marks; show a marked sheet's slip to examiner and candidate.
  *
  * Link with librevosti.a (`rt staticlib revosti` writes target/staticlib/librevosti.a).
  *
@@ -9,6 +10,7 @@
  *
  *   coordinates  4 bytes a number, 2n numbers: both of point 1, then both of point 2, ..; each at most REVOSTI_MOST_COORDINATE.
  *   table        4 bytes an edge: its length, at most REVOSTI_MOST_LENGTH. It need not obey the triangle inequality.
+ *   low, high    two tables: each length is known to be at least the low one and at most the high one.
  *   marks        a packed set: 2 bits an edge, four edges a byte, the first edge in the lowest bits, each REVOSTI_OPEN, REVOSTI_PENDING or
  *                REVOSTI_STRUCK; what the last byte has left is 0. revosti_marks_size gives its bytes, revosti_mark_of the mark of an edge.
  *   byte set     1 byte an edge, the same three numbers. revosti_pack_marks reads it and revosti_unpack_marks writes it, no other function.
@@ -20,8 +22,8 @@
  * All functions accept any buffers of any lengths and any numbers: faulty input gets a refusal number, the first that applies in the
  * order given at each function. A length that is no whole number of entries is a wrong size there, for all buffers but list and view. A
  * refused call changes nothing, but for a sheet that stops at a record. They touch no byte outside the lengths given, allocate nothing,
- * keep no state and always return. They use some 160 KB of stack. A buffer that is written overlaps no other while the call runs;
- * buffers that are only read may overlap.
+ * keep no state and always return. They use some 160 KB of stack, revosti_mark_between some 290 KB. A buffer that is written overlaps no
+ * other while the call runs; buffers that are only read may overlap, and low and high may be the same.
  *
  * The life of a mark:
  *
@@ -44,6 +46,10 @@
  *   - nor of a tour that cannot be made shorter by taking out at most three of its edges and putting in as many: all its edges stay open;
  *   - every point keeps at least two open edges;
  *   - at least n edges stay open.
+ *
+ * And whatever sheets are marked by revosti_mark_between from fresh marks, over tables low and high that stay, the marks serve every table
+ * whose lengths lie between the two, ends included: the same four hold, the first two for the tours of each such table. Once the table is
+ * known, the other functions go on from these marks over it.
  */
 #ifndef REVOSTI_H
 #define REVOSTI_H
@@ -84,7 +90,7 @@ enum {
 enum {
     REVOSTI_ACCEPTED = 0,
     REVOSTI_POINTS = 1,          /* n outside 4 to 180 */
-    REVOSTI_SIZE = 2,            /* the coordinates have not 2n whole entries, or the table not n(n - 1)/2 */
+    REVOSTI_SIZE = 2,            /* the coordinates have not 2n whole entries, or a table not n(n - 1)/2 */
     REVOSTI_RULE = 3,            /* the rule is outside 1 to 5 */
     REVOSTI_COORDINATE = 4,      /* a coordinate above 1,000,000 */
     REVOSTI_LENGTH = 5,          /* a table entry above 2,000,000 */
@@ -104,7 +110,8 @@ enum {
     REVOSTI_LIST = 18,           /* the list has fewer than twice as many places as there are standing pairs */
     REVOSTI_SOMETHING_PENDING = 20, /* marking or asking while an edge is pending */
     REVOSTI_NOTHING_PENDING = 21,   /* confirming or withdrawing while none is */
-    REVOSTI_BUFFER = 22             /* a view is lent fewer than six bytes */
+    REVOSTI_BUFFER = 22,            /* a view is lent fewer than six bytes */
+    REVOSTI_LIMITS = 25             /* a low length above its high one */
 };
 
 /*
@@ -183,6 +190,24 @@ uint64_t revosti_list_pairs(uint32_t n, const uint8_t *table, size_t table_len, 
                             uint16_t a, uint16_t b, uint16_t c, uint8_t *list, size_t list_len);
 
 /*
+ * Marks a sheet where each length is known within limits only, from low to high: whatever a rule takes out counts low, whatever it puts in
+ * counts high, and a length that is both counts as each. As revosti_mark_sheet, with its answer, but with these refusals before the lines,
+ * in this order: 1; 2, of low and then of high; 5, likewise; 25, a low length above its high one; 6, 20, 7. A call that is refused by one
+ * of them changes nothing. Where low and high are equal everywhere it is revosti_mark_sheet.
+ */
+uint64_t revosti_mark_between(uint32_t n, const uint8_t *low, size_t low_len, const uint8_t *high, size_t high_len,
+                              uint8_t *marks, size_t marks_len, const uint8_t *sheet, size_t sheet_len);
+
+/*
+ * Lists the pairs that stand where each length is known within limits only: as revosti_list_pairs, with its answer, but with refusals in
+ * this order: 1; 2, of low and then of high; 5, likewise; 25; 6; 11, of a, b and c; 12; 18. Where low and high are equal everywhere it is
+ * revosti_list_pairs; else every pair that stands over a table between them stands, too.
+ */
+uint64_t revosti_list_between(uint32_t n, const uint8_t *low, size_t low_len, const uint8_t *high, size_t high_len,
+                              const uint8_t *marks, size_t marks_len, uint16_t a, uint16_t b, uint16_t c,
+                              uint8_t *list, size_t list_len);
+
+/*
  * Savings: how much a rule takes out less how much it puts in, a signed number. l(ab) is the length of a-b in the table, l(aa) is 0. A
  * rule shuts a case out exactly when its saving is above 0: at 0, a tie, it does not.
  *
@@ -227,8 +252,8 @@ int64_t revosti_crossing_saving(uint32_t n, const uint8_t *table, size_t table_l
 
 /*
  * Slips: what a marked sheet came to, for examiner and candidate. A slip is one number, the answer of revosti_mark_sheet (or
- * revosti_ask_sheet) as it is: refusal number or 0 in bits 0 to 7, record in 8 to 23, lines accepted in 24 to 39. Bit 40 is set once it is
- * released; in such an answer it is 0. Every number is a slip: bits 41 to 63 are ignored, and kept.
+ * revosti_ask_sheet, or revosti_mark_between) as it is: refusal number or 0 in bits 0 to 7, record in 8 to 23, lines accepted in 24 to 39.
+ * Bit 40 is set once it is released; in such an answer it is 0. Every number is a slip: bits 41 to 63 are ignored, and kept.
  *
  *   byte   the examiner sees             the candidate sees until release
  *   0      the refusal number, or 0      0, or REVOSTI_STOPPED where there is a refusal
