@@ -59,7 +59,9 @@ class Command(unittest.TestCase):
     def test_bad_use(self):
         for arguments in ((), ("paint",), ("pack", "--tour", "1"), ("explain", "--marks", "x"), ("draw", "--form", "x"), ("ask",),
                           ("confirm", "x"), ("show-marks", "--marks", "x"), ("pack-marks", "--form", "text"), ("saving",),
-                          ("saving", "x", "--marks", "x", "move", 3, 1, 4, 1, 2), ("slip", "--marks", "x"), ("slip", "--number")):
+                          ("saving", "x", "--marks", "x", "move", 3, 1, 4, 1, 2), ("slip", "--marks", "x"), ("slip", "--number"),
+                          ("pairs",), ("pairs", "x", 1, 2), ("pairs", "x", 1, 2, 3, 4), ("ask", "--high", "x", "--marks", "x"),
+                          ("fresh", "--high", "x", "--marks", "x"), ("slip", "--high", "x")):
             run = Run(*arguments)
             self.assertEqual((run.status, run.out), (2, b""))
             self.assertIn("usage: sheet", run.err)

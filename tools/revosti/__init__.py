@@ -7,19 +7,22 @@ ask_sheet    marks it so that its strikes are pending
 confirm      strikes what is pending
 withdraw     opens it again
 list_pairs   the standing pairs of a split
+mark_between, list_between
+             mark_sheet and list_pairs over two tables, where each length is known to lie between a low one and a high one
 check_tour   a tour's length, and whether its edges are open
 exchange_saving, move_saving, crossing_saving
              how much a rule saves, below 0 too: it shuts a case out exactly when that is above 0
 pack_marks   a byte set to a packed set
 unpack_marks a packed set to a byte set
-new_slip     marks a sheet as mark_sheet does, and answers its slip, refused or not
+new_slip, new_slip_between
+             mark a sheet as mark_sheet and mark_between do, and answer its slip, refused or not
 release      the slip, released
 examiner_view, candidate_view
              the six bytes that each of them sees of a slip
 
 A board has n points, 4 to 180. A table is one length an edge, in the order 1-2, 1-3, .., 1-n, 2-3, ..; `place` gives the place of an edge.
 Marks are a packed set in a bytearray, two bits an edge in the same order, four edges a byte: `mark_of` reads the mark of an edge (OPEN,
-PENDING or STRUCK), `marks_size` gives the bytes of a set. A byte set has a byte an edge; only the last two functions take and give it.
+PENDING or STRUCK), `marks_size` gives the bytes of a set. A byte set has a byte an edge; only pack_marks and unpack_marks take and give it.
 A sheet is a list of records of eight numbers: kind, a, b, u, v, c, d, next. A slip is a number. docs/RULES.md has the rules.
 
 Faulty input raises a Refusal, and a refused call changes nothing, but for a sheet that stops at a record: the strikes of the lines accepted
@@ -31,12 +34,12 @@ The first call makes the library where it is missing, or raises NoLibrary.
 
 from .library import NoLibrary
 from .operations import (LEAST_POINTS, MOST_POINTS, OPEN, PENDING, STRUCK, Tour, ask_sheet, check_tour, confirm, crossing_saving,
-                         exchange_saving, fresh_marks, list_pairs, mark_of, mark_sheet, marks_size, measure, move_saving, pack_marks, place,
-                         unpack_marks, withdraw)
+                         exchange_saving, fresh_marks, list_between, list_pairs, mark_between, mark_of, mark_sheet, marks_size, measure,
+                         move_saving, pack_marks, place, unpack_marks, withdraw)
 from .refusal import Refusal, meaning
-from .slips import STOPPED, candidate_view, examiner_view, new_slip, release
+from .slips import STOPPED, candidate_view, examiner_view, new_slip, new_slip_between, release
 
 __all__ = ["LEAST_POINTS", "MOST_POINTS", "NoLibrary", "OPEN", "PENDING", "Refusal", "STOPPED", "STRUCK", "Tour", "ask_sheet",
-           "candidate_view", "check_tour", "confirm", "crossing_saving", "examiner_view", "exchange_saving", "fresh_marks", "list_pairs",
-           "mark_of", "mark_sheet", "marks_size", "meaning", "measure", "move_saving", "new_slip", "pack_marks", "place", "release",
-           "unpack_marks", "withdraw"]
+           "candidate_view", "check_tour", "confirm", "crossing_saving", "examiner_view", "exchange_saving", "fresh_marks",
+           "list_between", "list_pairs", "mark_between", "mark_of", "mark_sheet", "marks_size", "meaning", "measure", "move_saving",
+           "new_slip", "new_slip_between", "pack_marks", "place", "release", "unpack_marks", "withdraw"]

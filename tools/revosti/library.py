@@ -26,6 +26,8 @@ ARGUMENTS = {
     "revosti_withdraw": (WORD, *BUFFER),
     "revosti_list_pairs": (WORD, *BUFFER, *BUFFER, HALF, HALF, HALF, *BUFFER),
     "revosti_check_tour": (WORD, *BUFFER, *BUFFER, *BUFFER),
+    "revosti_mark_between": (WORD, *BUFFER, *BUFFER, *BUFFER, *BUFFER),
+    "revosti_list_between": (WORD, *BUFFER, *BUFFER, *BUFFER, HALF, HALF, HALF, *BUFFER),
     "revosti_release": (LONG,),
     "revosti_examiner_view": (LONG, *BUFFER),
     "revosti_candidate_view": (LONG, *BUFFER),

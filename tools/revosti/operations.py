@@ -52,12 +52,17 @@ def unpack_marks(n, marks):
 
 def mark_sheet(n, table, marks, sheet):
     """The number of lines accepted, where all are. It strikes their edges in `marks`, the bytearray handed in."""
-    return hand_in(library().revosti_mark_sheet, n, table, marks, sheet)
+    return hand_in(library().revosti_mark_sheet, n, [table], marks, sheet)
 
 
 def ask_sheet(n, table, marks, sheet):
     """As `mark_sheet`, but the edges get PENDING, until `confirm` or `withdraw`."""
-    return hand_in(library().revosti_ask_sheet, n, table, marks, sheet)
+    return hand_in(library().revosti_ask_sheet, n, [table], marks, sheet)
+
+
+def mark_between(n, low, high, marks, sheet):
+    """As `mark_sheet`, over two tables: what a rule takes out counts low, what it puts in counts high."""
+    return hand_in(library().revosti_mark_between, n, [low, high], marks, sheet)
 
 
 def confirm(n, marks):
@@ -72,12 +77,12 @@ def withdraw(n, marks):
 
 def list_pairs(n, table, marks, a, b, c):
     """The pairs (x, y) that stand at the split point c under the edge ab, rising. A pending edge counts as open."""
-    found = array(HALF, [0]) * (2 * edges(n))  # a pair is an edge, too
-    answer = library().revosti_list_pairs(fit(WORD, n), *lend(array(WORD, table)), *lend(copy(marks)), fit(HALF, a), fit(HALF, b),
-                                          fit(HALF, c), *lend(found))
-    refuse(answer)
-    numbers = found[:2 * (answer >> 16)].tolist()
-    return list(zip(numbers[::2], numbers[1::2]))
+    return listed(library().revosti_list_pairs, n, [table], marks, a, b, c)
+
+
+def list_between(n, low, high, marks, a, b, c):
+    """As `list_pairs`, over two tables: what a rule takes out counts low, what it puts in counts high."""
+    return listed(library().revosti_list_between, n, [low, high], marks, a, b, c)
 
 
 def check_tour(n, table, marks, tour):
@@ -121,17 +126,26 @@ def mark_of(n, marks, a, b):
     return marks[byte] >> 2 * rank & 3
 
 
-def marked(function, n, table, marks, sheet):
+def marked(function, n, tables, marks, sheet):
     """What a function answers on a sheet, refused or not."""
-    return function(fit(WORD, n), *lend(array(WORD, table)), *lend(marks), *lend(records(sheet)))
+    return function(fit(WORD, n), *lend_tables(tables), *lend(marks), *lend(records(sheet)))
 
 
-def hand_in(function, n, table, marks, sheet):
+def hand_in(function, n, tables, marks, sheet):
     """The number of lines that a function accepts, where it accepts all."""
-    answer = marked(function, n, table, marks, sheet)
+    answer = marked(function, n, tables, marks, sheet)
     lines = answer >> 24
     refuse(answer, record=answer >> 8 & 0xffff, lines=lines)
     return lines
+
+
+def listed(function, n, tables, marks, a, b, c):
+    """The pairs that a function lists."""
+    found = array(HALF, [0]) * (2 * edges(n))  # a pair is an edge, too
+    answer = function(fit(WORD, n), *lend_tables(tables), *lend(copy(marks)), fit(HALF, a), fit(HALF, b), fit(HALF, c), *lend(found))
+    refuse(answer)
+    numbers = found[:2 * (answer >> 16)].tolist()
+    return list(zip(numbers[::2], numbers[1::2]))
 
 
 def saving(function, n, table, *points):
@@ -177,6 +191,12 @@ def records(sheet):
 def copy(marks):
     """Marks that are only read may be any bytes."""
     return bytearray(memoryview(marks))
+
+
+def lend_tables(tables):
+    """Tables as C takes them, one after the other."""
+    for table in tables:
+        yield from lend(array(WORD, table))
 
 
 def lend(buffer):

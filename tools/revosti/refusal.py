@@ -26,12 +26,13 @@ REFUSALS = {
     20: "Something is pending: confirm or withdraw it first.",
     21: "Nothing is pending: there is nothing to confirm or withdraw.",
     22: "The buffer is too short: a view has six bytes.",
+    25: "A low length is above its high one.",
 }
 
 
 def meaning(number):
     """A refusal's meaning."""
-    return REFUSALS.get(number, "This number is not one of 1 to 18 and 20 to 22.")
+    return REFUSALS.get(number, "This number is not one of 1 to 18, 20 to 22 and 25.")
 
 
 class Refusal(Exception):

@@ -11,7 +11,12 @@ LONG = "Q"  # 64 bits without sign
 
 def new_slip(n, table, marks, sheet):
     """Marks a sheet as `mark_sheet` does, and answers its slip, not released. A refusal is in the slip and is not raised."""
-    return marked(library().revosti_mark_sheet, n, table, marks, sheet)
+    return marked(library().revosti_mark_sheet, n, [table], marks, sheet)
+
+
+def new_slip_between(n, low, high, marks, sheet):
+    """The same over two tables, as `mark_between` marks."""
+    return marked(library().revosti_mark_between, n, [low, high], marks, sheet)
 
 
 def release(slip):

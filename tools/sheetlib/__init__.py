@@ -10,6 +10,7 @@ marks    the marks of a board, and sets of marks taken apart
 archive  packed sets in files: handing in over one, settling, the two conversions
 board    lengths, K and standing pairs
 saving   what a rule takes out and puts in, in words
+between  lengths known within limits: marking over two boards, and standing pairs in words
 slip     what examiner and candidate see of a marked sheet, in words
 words    numbers in sentences
 fault    what a file itself shows about its refusal

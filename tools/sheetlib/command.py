@@ -4,10 +4,11 @@ import argparse
 import sys
 from pathlib import Path
 
-from revosti import NoLibrary, Refusal, ask_sheet, confirm, mark_sheet, release, withdraw
+from revosti import NoLibrary, Refusal, ask_sheet, confirm, release, withdraw
 
 from .answer import NoAnswer, ask
 from .archive import bytes_of, hand_in, packed_of, settle, start
+from .between import BadHigh, marking, tell_pairs
 from .draw import BadTour, draw, read_tour
 from .explain import explain, kept
 from .marks import BadMarks, marks_left, packed_points, read_marks, show
@@ -34,6 +35,8 @@ def main(arguments=None):
         return complain(f"--tour: {error}", 2)
     except BadMarks as error:
         return complain(f"{'--marks' if options.marks else name_of(options.file)}: {error}", 2)
+    except BadHigh as error:
+        return complain(f"--high: {error}", 1)
     except Refusal as error:
         return complain(f"{error} {kept(error.lines)}" if error.record else str(error), 1)
     except (NoAnswer, NoLibrary) as error:
@@ -54,11 +57,12 @@ def complain(message, status):
 def parser():
     """All commands and their options."""
     top = argparse.ArgumentParser(
-        prog="sheet", description="Write, read, explain, draw and hand in strike sheets; tell savings; show slips and sets of marks, "
-                                  "convert sets.")
+        prog="sheet", description="Write, read, explain, draw and hand in strike sheets; tell savings and standing pairs; show slips "
+                                  "and sets of marks, convert sets.")
     commands = top.add_subparsers(required=True, metavar="COMMAND")
     add_sheets(commands)
     add_saving(commands)
+    add_pairs(commands)
     add_slip(commands)
     add_hand_in(commands)
     add_sets(commands)
@@ -87,6 +91,23 @@ def add_saving(commands):
     command.add_argument("points", metavar="POINT", nargs="+", type=point, action=Named,
                          help="; ".join(f"{name}: {rule.points}" for name, rule in SAVINGS.items()))
     command.add_argument("--form", choices=("text", "binary"), help="do not detect the form")
+
+
+def add_pairs(commands):
+    """The command for the standing pairs of a split."""
+    command = add(commands, "pairs", run_pairs, "the pairs that stand at C under the edge A-B", files=False)
+    command.add_argument("file", metavar="BOARD", help="a sheet of either form, - for standard input; its records are not read")
+    for name in "abc":
+        command.add_argument(name, metavar=name.upper(), type=point)
+    command.add_argument("--marks", metavar="MARKS", help="the packed set in this file, not fresh marks")
+    add_high(command)
+    command.add_argument("--form", choices=("text", "binary"), help="do not detect the form")
+
+
+def add_high(command):
+    """The option for a second board."""
+    command.add_argument("--high", metavar="BOARD", help="a sheet whose board has the high lengths, those of the first being the low ones; "
+                                                         "its records are not read")
 
 
 class Named(argparse.Action):
@@ -137,6 +158,8 @@ def add_hand_in(commands):
                                    ("withdraw", run_withdraw, False, "open again what is pending in a set")):
         command = add(commands, name, run, text, files=sheet)
         command.add_argument("--marks", metavar="MARKS", required=True, help="the file of the packed set, which is written")
+        if name == "mark":
+            add_high(command)
         if sheet:
             command.add_argument("--form", choices=("text", "binary"), help="do not detect the form")
 
@@ -154,7 +177,7 @@ def add(commands, name, run, text, files=True):
     if files:
         command.add_argument("file", nargs="?", metavar="FILE", help="standard input if none is named")
     command.add_argument("-o", metavar="OUT", dest="out", help="standard output if none is named")
-    command.set_defaults(run=run, file=None, marks=None)
+    command.set_defaults(run=run, file=None, marks=None, high=None)
     return command
 
 
@@ -204,6 +227,14 @@ def load(options):
     return pack(decode(data)) if as_text else Sheet(split(data), [])
 
 
+def load_high(options):
+    """The pieces of the file with the high lengths, or None. It is then the file that is named where its text is bad."""
+    if options.high is None:
+        return None
+    options.file = options.high
+    return load(options).parts
+
+
 def run_pack(options):
     """sheet pack"""
     write(options, join(pack(decode(read(options))).parts))
@@ -236,6 +267,12 @@ def run_saving(options):
     say(options, tell(load(options).parts, options.rule, options.points))
 
 
+def run_pairs(options):
+    """sheet pairs"""
+    parts = load(options).parts
+    say(options, tell_pairs(parts, load_high(options), options.marks, options.a, options.b, options.c))
+
+
 def run_slip(options):
     """sheet slip"""
     slip = slip_of(load(options).parts) if options.number is None else options.number
@@ -249,7 +286,8 @@ def run_fresh(options):
 
 def run_mark(options):
     """sheet mark"""
-    say(options, hand_in(mark_sheet, load(options).parts, options.marks))
+    parts = load(options).parts
+    say(options, hand_in(marking(load_high(options)), parts, options.marks))
 
 
 def run_ask(options):
