@@ -1,5 +1,6 @@
 // Examples of the operations, executed by their functions for C, for every refusal but those of a sheet's records: a line for each, with what it
 // should be.
+mod between;
 mod c;
 mod converting;
 mod fresh;
@@ -24,5 +25,6 @@ fn main() {
     let t = converting::run(t);
     let t = savings::run(t);
     let t = slips::run(t);
+    let t = between::run(t);
     t.print();
 }

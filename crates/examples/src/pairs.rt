@@ -12,7 +12,7 @@ use check::same;
 use revosti::listing::revosti_list_pairs;
 
 // A list that nothing was written to.
-const UNTOUCHED: [u16; 8] = [9, 9, 9, 9, 9, 9, 9, 9];
+pub const UNTOUCHED: [u16; 8] = [9, 9, 9, 9, 9, 9, 9, 9];
 
 // Writes an answer with what is left in the list.
 fn answer(number: u64, count: u64, left: &[u8]) {
@@ -23,7 +23,7 @@ fn answer(number: u64, count: u64, left: &[u8]) {
 }
 
 // Holds an answer and what is left in the list to what they should be.
-fn hold(
+pub fn hold_list(
     t: Tally,
     got: u64,
     found: u64,
@@ -75,7 +75,7 @@ fn pairs(
     let m = some_bytes(bytes, &marks);
     let p = some_bytes(2 * places as usize, &list);
     let got = revosti_list_pairs(n, &table[..k], &marks[..m], a, b, c, &mut list[..p]);
-    hold(
+    hold_list(
         t,
         got % 65_536,
         got / 65_536,
