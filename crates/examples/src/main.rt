@@ -10,6 +10,7 @@ mod pending;
 mod savings;
 mod six;
 mod slips;
+mod texts;
 mod tour_checks;
 
 use answers::tally::Tally;
@@ -26,5 +27,6 @@ fn main() {
     let t = savings::run(t);
     let t = slips::run(t);
     let t = between::run(t);
+    let t = texts::run(t);
     t.print();
 }

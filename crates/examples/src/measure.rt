@@ -10,7 +10,7 @@ use check::same;
 use revosti::measure::revosti_measure;
 
 // A table of sevens that nothing was written to.
-const UNTOUCHED: [u32; 10] = [7, 7, 7, 7, 7, 7, 7, 7, 7, 7];
+pub const UNTOUCHED: [u32; 10] = [7, 7, 7, 7, 7, 7, 7, 7, 7, 7];
 
 // Writes an answer with the first seven lengths that are left in the table.
 fn answer(number: u64, left: &[u8]) {
@@ -21,7 +21,7 @@ fn answer(number: u64, left: &[u8]) {
 }
 
 // Holds an answer and what is left to what they should be.
-fn hold(t: Tally, got: u64, found: [u8; 40], number: u64, left: [u8; 40]) -> Tally {
+pub fn hold(t: Tally, got: u64, found: [u8; 40], number: u64, left: [u8; 40]) -> Tally {
     answer(got, &found);
     text(b", should be");
     answer(number, &left);

@@ -35,6 +35,8 @@ pub const TOUR: u8 = 17;
 
 pub const LIST: u8 = 18;
 
+pub const TEXT: u8 = 19;
+
 pub const SOMETHING_PENDING: u8 = 20;
 
 pub const NOTHING_PENDING: u8 = 21;

@@ -4,6 +4,7 @@ pub mod ListAnswers
 pub mod MarkAnswers
 pub mod MeasureAnswers
 pub mod PendingAnswers
+pub mod ReadAnswers
 pub mod SavedNumbers
 pub mod SlipAnswers
 pub mod SlipNumbers

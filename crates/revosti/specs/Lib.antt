@@ -6,6 +6,7 @@ pub mod Listing
 pub mod Mark
 pub mod Measure
 pub mod Pending
+pub mod Reading
 pub mod Saved
 pub mod Slip
 pub mod Tour

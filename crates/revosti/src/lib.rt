@@ -6,6 +6,7 @@ pub mod listing;
 pub mod mark;
 pub mod measure;
 pub mod pending;
+pub mod reading;
 pub mod saved;
 pub mod slip;
 pub mod tour;

@@ -1,0 +1,15 @@
+pub mod Completions
+pub mod Entries
+pub mod Exact
+pub mod FirstFault
+pub mod Judgement
+pub mod NumbersGathered
+pub mod Reader
+pub mod SmallNumbers
+pub mod Stepping
+pub mod Steps
+pub mod TextLines
+pub mod TextsExact
+pub mod TextsRead
+pub mod Verdicts
+pub mod Witnesses

@@ -1,0 +1,148 @@
+-- The operations against the language: a text of it gets the answer of its n, weighing and data; any other gets 19 with the line that is told first; and
+-- 19 is no answer to a text of the language; and a refused call leaves the table. Assumes nothing.
+use Prim.Native.Nat.{ℕ, _*_, _≤_}
+use mathlib.Core.Path.{_≡_, refl, sym, _∙_, ap}
+use mathlib.Core.Bool.{Bool, true, false}
+use mathlib.Core.List.{List}
+use native.Mathlib.Omega.{arith}
+use lib.Dec.{eqb}
+use lib.ListN.{length}
+use Rattle.lists.specs.Test.{allAtMost, unless}
+use Rattle.endian.specs.Bytes.{whole32}
+use Rattle.lengths.specs.Distance.{ruleOf}
+use Rattle.lengths.specs.Edge.{edgeCount}
+use Rattle.lengths.specs.Instance.{inRange, mostLength, mostCoordinate}
+use Rattle.lengths.specs.Measure.{measured, tableAfter, leftBy, known}
+use Rattle.lengths.specs.declared.distance.NamedRule.{NamedRule}
+use Rattle.lengths.specs.declared.measure.Measured.{Measured}
+use Rattle.lengths.specs.declared.measure.Measured.the-variants as measure
+use Rattle.tsplib_lines.specs.declared.line.Weighing.{Weighing}
+use Rattle.tsplib_lines.specs.declared.line.Weighing.the-variants.{Explicit, Rule}
+use Rattle.tsplib.specs.Language.{Tsplib}
+use Rattle.tsplib.specs.Told.{ToldFirst}
+use Rattle.tsplib.specs.Judging.{judged, linesOf}
+use Rattle.tsplib.specs.Reading.{coordinatesOf, weightsOf, ofMeasured, ofWeights, filledWith, readAs, leftAs, ReadAs, answerFor, leftFor, pointsOf}
+use Rattle.tsplib.specs.declared.judging.Judged.{Judged}
+use Rattle.tsplib.specs.declared.judging.Judged.the-variants.{Instance, Fault}
+use Rattle.tsplib.specs.declared.reading.Read.{Read}
+use Rattle.tsplib.specs.declared.reading.Read.the-variants.{Points, Refused}
+use Rattle.tsplib.proofs.Exact.{skipFor}
+use Rattle.tsplib.specs.Gathering.{gathered}
+use Rattle.tsplib.proofs.FirstFault.{told-first}
+use Rattle.tsplib.proofs.TextsExact.{accepted-text, text-accepted, AcceptedAs}
+
+-- the text is outside the language
+abbrev pub Outside : List ℕ → Type 0
+Outside text = (n : ℕ) (w : Weighing) (xs : List ℕ) → Tsplib text n w xs → ⊥
+
+-- a text of the language
+pub record ReadOf (n : ℕ) (w : Weighing) (xs table : List ℕ) (answer : Read) (left : List ℕ) : Type 0 where
+  pub answered : answer ≡ answerFor w n xs (length (whole32 table))
+  pub table-left : left ≡ leftFor w n xs table
+
+module _ {text : List ℕ} {n : ℕ} {w : Weighing} {xs : List ℕ} (t : Tsplib text n w xs) where
+  read-inside-as : (v : Weighing) (size : ℕ) → AcceptedAs text n v xs → readAs (judged text) (linesOf text) size ≡ answerFor v n xs size
+  unfolding readAs answerFor
+  read-inside-as (Rule r) size a =
+      ap (λ (j : Judged). readAs j (linesOf text) size) (a .verdict) ∙ ap (λ (ys : List ℕ). ofMeasured n (measured n r ys size)) (a .data-are)
+  read-inside-as Explicit size a = ap (λ (j : Judged). readAs j (linesOf text) size) (a .verdict) ∙ ap (λ (ys : List ℕ). ofWeights n ys size) (a .data-are)
+
+  left-inside-as : (v : Weighing) (table : List ℕ) → AcceptedAs text n v xs → leftAs (judged text) (linesOf text) table ≡ leftFor v n xs table
+  unfolding leftAs leftFor
+  left-inside-as (Rule r) table a = ap (λ (j : Judged). leftAs j (linesOf text) table) (a .verdict) ∙ ap (λ (ys : List ℕ). tableAfter n r ys table) (a .data-are)
+  left-inside-as Explicit table a =
+      ap (λ (j : Judged). leftAs j (linesOf text) table) (a .verdict) ∙ ap (λ (ys : List ℕ). leftFor Explicit n ys table) (a .data-are)
+
+  pub read-inside : {table : List ℕ} {answer : Read} {left : List ℕ} → ReadAs text table answer left → ReadOf n w xs table answer left
+  read-inside {table} r = let a = text-accepted text t in record {
+    answered = r .answered ∙ read-inside-as w (length (whole32 table)) a;
+    table-left = r .table-left ∙ left-inside-as w table a;
+  }
+
+  pub points-inside : pointsOf (judged text) ≡ Points n
+  unfolding pointsOf
+  points-inside = ap pointsOf (text-accepted text t .verdict)
+
+-- a text outside it
+pub record ReadOutside (text table : List ℕ) (answer : Read) (left : List ℕ) : Type 0 where
+  pub line : ℕ
+  pub answered : answer ≡ Refused 19 line
+  pub told : ToldFirst text line
+  pub untouched : left ≡ table
+
+module _ (text : List ℕ) (o : Outside text) where
+  outside-fault : (j : Judged) → judged text ≡ j → (line : ℕ) × (judged text ≡ Fault line)
+  outside-fault (Fault line) e = (line, e)
+  outside-fault (Instance n w m) e = absurd (o n w (gathered (skipFor w) (linesOf text)) (accepted-text text e))
+
+  pub read-outside : {table : List ℕ} {answer : Read} {left : List ℕ} → ReadAs text table answer left → ReadOutside text table answer left
+  unfolding readAs leftAs
+  read-outside {table} r = let f = outside-fault (judged text) refl in record {
+    line = f .0;
+    answered = r .answered ∙ ap (λ (j : Judged). readAs j (linesOf text) (length (whole32 table))) (f .1);
+    told = told-first text (f .0) (f .1);
+    untouched = r .table-left ∙ ap (λ (j : Judged). leftAs j (linesOf text) table) (f .1);
+  }
+
+  pub points-outside : (line : ℕ) × (pointsOf (judged text) ≡ Refused 19 line) × ToldFirst text line
+  unfolding pointsOf
+  points-outside = let f = outside-fault (judged text) refl in (f .0, ap pointsOf (f .1), told-first text (f .0) (f .1))
+
+-- 19 is no answer to a text of the language
+number-of : Read → ℕ
+number-of (Points n) = 0
+number-of (Refused number line) = number
+
+measured-number : (n rule : ℕ) (cs : List ℕ) (size : ℕ) → number-of (ofMeasured n (measured n rule cs size)) ≤ 5
+unfolding measured ofMeasured number-of
+measured-number n rule cs size =
+    go (inRange n) (eqb (length cs) (2 * n)) (eqb size (edgeCount n)) (known (ruleOf rule)) (allAtMost mostCoordinate cs)
+  where
+    go : (a b c d e : Bool)
+        → number-of
+        (ofMeasured n
+        (unless a (measure.Refused 1 0)
+        (unless b (measure.Refused 2 0) (unless c (measure.Refused 2 0) (unless d (measure.Refused 3 0) (unless e (measure.Refused 4 0) measure.Done))))))
+        ≤ 5
+    go false b c d e = omega arith
+    go true false c d e = omega arith
+    go true true false d e = omega arith
+    go true true true false e = omega arith
+    go true true true true false = omega arith
+    go true true true true true = omega arith
+
+weights-number : (n : ℕ) (ws : List ℕ) (size : ℕ) → number-of (ofWeights n ws size) ≤ 5
+unfolding ofWeights number-of
+weights-number n ws size = go (inRange n) (eqb size (edgeCount n)) (allAtMost mostLength ws)
+  where
+    go : (a b c : Bool) → number-of (unless a (Refused 1 0) (unless b (Refused 2 0) (unless c (Refused 5 0) (Points n)))) ≤ 5
+    go false b c = omega arith
+    go true false c = omega arith
+    go true true false = omega arith
+    go true true true = omega arith
+
+inside-number : (w : Weighing) (n : ℕ) (xs : List ℕ) (size : ℕ) → number-of (answerFor w n xs size) ≤ 5
+unfolding answerFor
+inside-number (Rule r) n xs size = measured-number n r xs size
+inside-number Explicit n xs size = weights-number n xs size
+
+pub refused-outside : {text table left : List ℕ} {line : ℕ} → ReadAs text table (Refused 19 line) left → Outside text
+unfolding number-of
+refused-outside {table = table} r n w xs t =
+    let e : 19 ≡ number-of (answerFor w n xs (length (whole32 table))) = ap number-of (read-inside t r .answered) in
+    omega (arith, inside-number w n xs (length (whole32 table)))
+
+-- a refused call leaves the table, whatever its number
+pub refused-left : {text table left : List ℕ} {number line : ℕ} → ReadAs text table (Refused number line) left → left ≡ table
+unfolding readAs leftAs ofMeasured tableAfter
+refused-left {text} {table} {left} {number} {line} r = r .table-left ∙ go (judged text) (r .answered)
+  where
+    by-measure : (n : ℕ) (cs : List ℕ) (m : Measured) (rule : NamedRule) → Refused number line ≡ ofMeasured n m → leftBy m rule n cs table ≡ table
+    by-measure n cs measure.Done rule e = let z : _≡_ {A = ℕ} 0 1 = cc in absurd (omega arith)
+    by-measure n cs (measure.Refused a b) rule e = refl
+
+    go : (j : Judged) → Refused number line ≡ readAs j (linesOf text) (length (whole32 table)) → leftAs j (linesOf text) table ≡ table
+    go (Fault l) e = refl
+    go (Instance n (Rule r) m) e =
+        by-measure n (coordinatesOf (linesOf text)) (measured n r (coordinatesOf (linesOf text)) (length (whole32 table))) (ruleOf r) e
+    go (Instance n Explicit m) e = ap (λ (x : Read). filledWith x (weightsOf (linesOf text)) table) (sym e)

@@ -1,0 +1,49 @@
+-- `tsplib::state::on_nodes` meets its contract. Assumes nothing.
+use mathlib.Core.Path.{refl}
+use Rattle.tsplib.proofs.Stepping.{at, end-yes, end-no}
+use Rattle.tsplib.specs.State.{onNodes}
+use borrow.Author.Tests.{eq-eqb, ne-eqb}
+use borrow.Author.Needs.{needs}
+use Rattle.tsplib.proofs.state.on_nodes.Statement.{statement}
+use Rattle.tsplib.proofs.state.on_nodes.Tie as tie
+
+enum-known-line : tie.Need-enum-known-line
+enum-known-line c = search needs
+
+on-node-requires : tie.Need-on-node-requires
+on-node-requires c κs = search needs
+
+enum-told : tie.Need-enum-told
+enum-told c = search needs
+
+returns : tie.Need-returns
+unfolding onNodes
+returns c = at (onNodes _ _ _) (c .before .enum-told .given .1) (end-yes _ (eq-eqb _ _ (c .if1 .taken)))
+
+enum-told-2 : tie.Need-enum-told-2
+enum-told-2 c = search needs
+
+returns-2 : tie.Need-returns-2
+unfolding onNodes
+returns-2 c = at (onNodes _ _ _) (c .before .before .line .given .1) (c .on-node .ensures)
+
+returns-3 : tie.Need-returns-3
+unfolding onNodes
+returns-3 c = at (onNodes _ _ _) (c .before .enum-told .given .1) (end-no _ (ne-eqb _ _ (c .if1 .left)))
+
+returns-4 : tie.Need-returns-4
+unfolding onNodes
+returns-4 c = at (onNodes _ _ _) (c .enum-told2 .given .1) refl
+
+pub on-nodes-spec : {M : Type 1} → statement M
+on-nodes-spec =
+    tie.close
+    (tie.spec
+    enum-known-line
+    on-node-requires
+    enum-told
+    returns
+    enum-told-2
+    returns-2
+    returns-3
+    returns-4)

@@ -1,0 +1,7 @@
+pub mod asks
+pub mod Gathering
+pub mod Judging
+pub mod Language
+pub mod Reading
+pub mod State
+pub mod Told

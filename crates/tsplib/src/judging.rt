@@ -1,0 +1,95 @@
+// The judge of a text: the first line that the language cannot hold, or what the text says.
+use crate::state::BodyLine;
+use crate::state::Points;
+use crate::state::State;
+use crate::state::Stepped;
+use crate::state::Weigh;
+use crate::state::body_line;
+use crate::state::step;
+use tsplib_lines::line::Line;
+use tsplib_lines::line::Weighing;
+use tsplib_lines::line::read_line;
+use tsplib_lines::numbers::larger;
+use tsplib_lines::words;
+use tsplib_lines::words::find;
+ghost use mathlib.Core.Path.{_≡_};
+ghost use mathlib.Core.List.{[]};
+ghost use Prim.Native.Nat.{_+_, _^_, _<_};
+ghost use Rattle.tsplib.specs.Judging.{judged, judgedEnd, mostOf};
+
+// What a text says: n, how it is weighed and its largest number; or the line at fault.
+pub enum Judged {
+    Instance {
+        n: u32,
+        weighing: Weighing,
+        most: u32,
+    },
+    Fault(u64),
+}
+
+// The largest number of a line.
+fn most_of(line: Line) -> u32
+    ensures { λ r. ⌜ r ≡ mostOf line ⌝ }
+{
+    match body_line(line) {
+        BodyLine::Numbers(tally) => tally.most,
+        BodyLine::Eof => 0,
+        BodyLine::Other => 0,
+    }
+}
+
+// The end of a text after whole lines, so many of them.
+fn judge_end(state: State, passed: u64, most: u32) -> Judged
+    requires { ⌜ passed + 1 < 2 ^ 64 ⌝ }
+    ensures { λ r. ⌜ r ≡ judgedEnd state passed most [] ⌝ }
+{
+    match state {
+        State::Header {
+            name: _,
+            typed: _,
+            points: _,
+            weigh: _,
+        } => Judged::Fault(passed + 1),
+        State::Nodes {
+            n: _,
+            rule: _,
+            passed: _,
+        } => Judged::Fault(passed + 1),
+        State::Weights { n: _, left: _ } => Judged::Fault(passed + 1),
+        State::Ended { n, weighing } => Judged::Instance {
+            n: n,
+            weighing: weighing,
+            most: most,
+        },
+    }
+}
+
+// Judges a text line by line.
+pub fn judge(text: &[u8]) -> Judged
+    ensures { λ r. ⌜ r ≡ judged (now (text .entry)) ⌝ }
+{
+    let mut state = State::Header {
+        name: false,
+        typed: false,
+        points: Points::Unset,
+        weigh: Weigh::Unset,
+    };
+    let mut at: usize = 0;
+    let mut passed: u64 = 0;
+    let mut most: u32 = 0;
+    while at < text.len() {
+        let end = find(text, at, words::NEWLINE);
+        if end == text.len() {
+            return Judged::Fault(passed + 1);
+        }
+        let line = read_line(&text[at..end]);
+        let Stepped::To(next) = step(state, line) else {
+            return Judged::Fault(passed + 1);
+        };
+        state = next;
+        most = larger(most, most_of(line));
+        at = end + 1;
+        passed += 1;
+    }
+    judge_end(state, passed, most)
+}

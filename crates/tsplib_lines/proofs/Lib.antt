@@ -1,0 +1,6 @@
+pub mod LineReading
+pub mod LinesExact
+pub mod NumberSweep
+pub mod NumbersExact
+pub mod SoleWords
+pub mod WordsExact

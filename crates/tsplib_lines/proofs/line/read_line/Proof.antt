@@ -1,0 +1,29 @@
+-- `tsplib_lines::line::read_line` meets its contract. Assumes nothing.
+use mathlib.Core.Path.{sym, _∙_}
+use Rattle.tsplib_lines.proofs.LineReading.{number-line-told, word-line-told}
+use borrow.Author.Needs.{needs}
+use Rattle.tsplib_lines.proofs.line.read_line.Statement.{statement}
+use Rattle.tsplib_lines.proofs.line.read_line.Tie as tie
+
+numbers-of-requires : tie.Need-numbers-of-requires
+numbers-of-requires c κs = search needs
+
+enum-known-tally : tie.Need-enum-known-tally
+enum-known-tally c = search needs
+
+enum-told : tie.Need-enum-told
+enum-told c = search needs
+
+word-line-requires : tie.Need-word-line-requires
+word-line-requires c κs = search needs
+
+returns : tie.Need-returns
+returns c = number-line-told _ (sym (c .before .before .before .numbers-of .ensures) ∙ c .before .tally .given .1)
+
+returns-2 : tie.Need-returns-2
+returns-2 c = word-line-told _ (sym (c .before .before .before .numbers-of .ensures) ∙ c .before .enum-told .given .1) (c .word-line .ensures)
+
+pub read-line-spec : {M : Type 1} → statement M
+read-line-spec =
+    tie.close
+    (tie.spec numbers-of-requires enum-known-tally enum-told word-line-requires returns returns-2)

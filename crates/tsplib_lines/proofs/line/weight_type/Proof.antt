@@ -1,0 +1,28 @@
+-- `tsplib_lines::line::weight_type` meets its contract. Assumes nothing.
+use mathlib.Core.Path.{sym, _∙_, ap}
+use Rattle.tsplib_lines.specs.Line.{weighingLine, toldOf}
+use Rattle.tsplib_lines.specs.declared.line.NamedWeighing.{NamedWeighing}
+use borrow.Author.Needs.{needs}
+use Rattle.tsplib_lines.proofs.line.weight_type.Statement.{statement}
+use Rattle.tsplib_lines.proofs.line.weight_type.Tie as tie
+
+weighing-of-requires : tie.Need-weighing-of-requires
+weighing-of-requires c κs = search needs
+
+enum-known-w : tie.Need-enum-known-w
+enum-known-w c = search needs
+
+enum-told : tie.Need-enum-told
+enum-told c = search needs
+
+returns : tie.Need-returns
+unfolding toldOf
+returns c = sym (ap (λ (n : NamedWeighing). toldOf (weighingLine n)) (sym (c .before .before .before .weighing-of .ensures) ∙ c .before .w .given .1))
+
+returns-2 : tie.Need-returns-2
+unfolding toldOf
+returns-2 c = sym (ap (λ (n : NamedWeighing). toldOf (weighingLine n)) (sym (c .before .before .weighing-of .ensures) ∙ c .enum-told .given .1))
+
+pub weight-type-spec : {M : Type 1} → statement M
+weight-type-spec =
+    tie.close (tie.spec weighing-of-requires enum-known-w enum-told returns returns-2)

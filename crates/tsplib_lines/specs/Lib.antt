@@ -1,0 +1,4 @@
+pub mod asks
+pub mod Line
+pub mod Numbers
+pub mod Words
