@@ -1,7 +1,8 @@
 /*
- * How a tour solver uses Revosti: a board is measured, a strike sheet written from lists of standing pairs, asked, withdrawn, asked again
- * and confirmed, and a search looks at open edges only. Then it asks how much the rules save, its marks go to a byte set and back, the slip
- * of a sheet that stops is shown and released, and the sheet is marked for a board whose lengths are known within limits only.
+ * How a tour solver uses Revosti: a board is measured, and read from TSPLIB texts, a strike sheet written from lists of standing pairs,
+ * asked, withdrawn, asked again and confirmed, and a search looks at open edges only. Then it asks how much the rules save, its marks go to
+ * a byte set and back, the slip of a sheet that stops is shown and released, and the sheet is marked for a board whose lengths are known
+ * within limits only.
  *
  *   cc -Iinclude examples/solver.c target/staticlib/librevosti.a -o solver && ./solver
  *
@@ -354,6 +355,46 @@ static void measure_square(void)
     expect("length of 4-2", length(4, 2), 14);
 }
 
+/* The square as two TSPLIB texts, by its coordinates and by its lengths. */
+#define HEAD "NAME : square\nTYPE : TSP\nDIMENSION : 4\n"
+static const char by_coordinates[] = HEAD "EDGE_WEIGHT_TYPE : EUC_2D\nNODE_COORD_SECTION\n1 0 0\n2 10 0\n3 10 10\n4 0 10\nEOF\n";
+static const char by_lengths[] = HEAD "EDGE_WEIGHT_TYPE : EXPLICIT\nEDGE_WEIGHT_FORMAT : UPPER_ROW\nEDGE_WEIGHT_SECTION\n"
+                                      "10 14 10\n10 14 10\nEOF\n";
+
+static uint64_t points_of(const char *text) { return revosti_tsplib_points((const uint8_t *)text, strlen(text)); }
+static uint64_t read_text(const char *text, uint8_t *to, size_t size)
+{
+    return revosti_read_tsplib((const uint8_t *)text, strlen(text), to, size);
+}
+
+/* Asks how many points a text has, reads it, and holds its table against the measured one. */
+static void read_board(const char *text)
+{
+    uint8_t found[sizeof table];
+    uint32_t n = revosti_points(points_of(text));
+    expect("points of the text", n, N);
+    expect("bytes of its table", 4 * revosti_edges(n), sizeof found);
+    expect("reading, points", revosti_points(read_text(text, found, sizeof found)), N);
+    expect("table differs from the measured one", (uint64_t)(memcmp(found, table, sizeof found) != 0), 0);
+}
+
+/* A text that is none is refused by 19 and its line; a table of wrong size by 2. Neither writes to the table. */
+static void refuse_texts(void)
+{
+    static const char real[] = HEAD "EDGE_WEIGHT_TYPE : EUC_2D\nNODE_COORD_SECTION\n1 0 0\n2 1.0e+01 0\n3 10 10\n4 0 10\nEOF\n";
+    uint8_t found[sizeof table], none[sizeof table];
+    memset(none, 0x5a, sizeof none);
+    memcpy(found, none, sizeof none);
+    uint64_t answer = read_text(real, found, sizeof found);
+    expect("reading 1.0e+01, refusal", revosti_refusal(answer), REVOSTI_TEXT);
+    expect("reading 1.0e+01, line", revosti_text_line(answer), 7);
+    expect("points of that text, line", revosti_text_line(points_of(real)), 7);
+    expect("reading no text, line", revosti_text_line(read_text("", found, sizeof found)), 1);
+    expect("reading, a table one byte short", read_text(by_coordinates, found, sizeof found - 1), REVOSTI_SIZE);
+    expect("reading lengths, a table one byte short", read_text(by_lengths, found, sizeof found - 1), REVOSTI_SIZE);
+    expect("table changed by refused texts", (uint64_t)(memcmp(found, none, sizeof found) != 0), 0);
+}
+
 /* Two pairs stand at 3 under 1-2: 1 and 4, 2 and 4. A last odd byte of the list stays. */
 static void list_at_3(void)
 {
@@ -367,6 +408,9 @@ static void list_at_3(void)
 int main(void)
 {
     measure_square();
+    read_board(by_coordinates);
+    read_board(by_lengths);
+    refuse_texts();
     expect("bytes of marks", sizeof marks, revosti_marks_size(N));
     expect("fresh marks", fresh_marks(), REVOSTI_ACCEPTED);
     list_at_3();

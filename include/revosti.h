@@ -1,7 +1,7 @@
 /*
- * Revosti for C: measure a board, make fresh marks, mark a strike sheet, ask one and confirm or withdraw it, list standing pairs, check a
- * tour; mark and list where lengths are known within limits only; tell how much an exchange, a move or a crossing saves; convert sets of
- * marks; show a marked sheet's slip to examiner and candidate.
+ * Revosti for C: measure a board or read one from a TSPLIB text, make fresh marks, mark a strike sheet, ask one and confirm or withdraw it,
+ * list standing pairs, check a tour; mark and list where lengths are known within limits only; tell how much an exchange, a move or a
+ * crossing saves; convert sets of marks; show a marked sheet's slip to examiner and candidate.
  *
  * Link with librevosti.a (`rt staticlib revosti` writes target/staticlib/librevosti.a).
  *
@@ -18,6 +18,7 @@
  *   tour         2 bytes a point, n points.
  *   list         2 bytes a point: x then y of each pair. It takes any length: its places are its whole entries.
  *   view         REVOSTI_VIEW_BYTES bytes, what the examiner or the candidate sees of a slip. It may be longer: bytes past them stay.
+ *   text         a TSPLIB text, lent whole. Any bytes of any length: no 0 need stand behind it, and one in it is a byte like others.
  *
  * All functions accept any buffers of any lengths and any numbers: faulty input gets a refusal number, the first that applies in the
  * order given at each function. A length that is no whole number of entries is a wrong size there, for all buffers but list and view. A
@@ -108,6 +109,7 @@ enum {
     REVOSTI_NO_SAVING = 16,      /* no labelling of the crossing saves */
     REVOSTI_TOUR = 17,           /* not n whole numbers, or not each point from 1 to n exactly once */
     REVOSTI_LIST = 18,           /* the list has fewer than twice as many places as there are standing pairs */
+    REVOSTI_TEXT = 19,           /* not a TSPLIB text as they are read here; names the line */
     REVOSTI_SOMETHING_PENDING = 20, /* marking or asking while an edge is pending */
     REVOSTI_NOTHING_PENDING = 21,   /* confirming or withdrawing while none is */
     REVOSTI_BUFFER = 22,            /* a view is lent fewer than six bytes */
@@ -120,6 +122,27 @@ enum {
  */
 uint64_t revosti_measure(uint32_t n, uint32_t rule, const uint8_t *coordinates, size_t coordinates_len, uint8_t *table,
                          size_t table_len);
+
+/*
+ * Reads a TSPLIB text: writes the table that revosti_measure writes for its coordinates and its rule, or, of an EXPLICIT text, the weights
+ * as they are. Refusals in this order: 19; then of coordinates 1, 2 (the table), 4, and of weights 1, 2, 5 (a weight above
+ * REVOSTI_MOST_LENGTH). Answer: 19 + 256 * line; or another refusal number alone; or 65,536 * n. It changes the table alone, and a refused
+ * call nothing.
+ *
+ * Read are NAME, COMMENT, TYPE (TSP), DIMENSION, EDGE_WEIGHT_TYPE (EUC_2D, CEIL_2D, ATT, MAN_2D, MAX_2D, EXPLICIT), EDGE_WEIGHT_FORMAT
+ * (UPPER_ROW, with EXPLICIT alone), NODE_COORD_SECTION or EDGE_WEIGHT_SECTION, and EOF; docs/FORMATS.md has the text corner by corner.
+ * Numbers are whole, in digits alone, below 2^32. Every line ends in a newline, the last one, EOF, too.
+ *
+ * The line told, from 1 on, is the first that no such text could hold after the lines before it, or one past the last whole line. (It is
+ * told modulo 2^56, which no text in memory reaches.)
+ */
+uint64_t revosti_read_tsplib(const uint8_t *text, size_t text_len, uint8_t *table, size_t table_len);
+
+/*
+ * How many points a TSPLIB text has, for a caller who does not know how large a table to lend. It makes no test but 19, so that n is any
+ * number of 32 bits here: test it before a table is made for it. Answer: 19 + 256 * line, or 65,536 * n. It changes nothing.
+ */
+uint64_t revosti_tsplib_points(const uint8_t *text, size_t text_len);
 
 /*
  * Makes fresh marks: sets every mark to REVOSTI_OPEN and the unused bits to 0, whatever they were: bytes of 85, the last one 1, 5, 21 or
@@ -276,8 +299,9 @@ uint64_t revosti_examiner_view(uint64_t slip, uint8_t *bytes, size_t bytes_len);
 uint64_t revosti_candidate_view(uint64_t slip, uint8_t *bytes, size_t bytes_len);
 
 /*
- * The parts of an answer, and of a slip. revosti_refusal takes that of a saving, too: made a uint64_t it keeps its lowest byte, which is 0
- * where the saving is below 0. revosti_saving is exact, since such an answer is a multiple of 65,536; of a refusal it is 0.
+ * The parts of an answer, and of a slip. revosti_points is that of a TSPLIB text which is read, revosti_text_line the line of a refusal 19
+ * (of any other refusal it is 0). revosti_refusal takes that of a saving, too: made a uint64_t it keeps its lowest byte, which is 0 where the
+ * saving is below 0. revosti_saving is exact, since such an answer is a multiple of 65,536; of a refusal it is 0.
  */
 static inline unsigned revosti_refusal(uint64_t answer) { return (unsigned)(answer & 0xff); }
 static inline unsigned revosti_record(uint64_t answer) { return (unsigned)(answer >> 8 & 0xffff); }
@@ -286,6 +310,8 @@ static inline int revosti_is_released(uint64_t slip) { return (int)(slip >> 40 &
 static inline size_t revosti_pairs(uint64_t answer) { return (size_t)(answer >> 16); }
 static inline uint64_t revosti_tour_length(uint64_t answer) { return answer >> 16; }
 static inline int revosti_tour_open(uint64_t answer) { return (int)(answer >> 8 & 1); }
+static inline uint32_t revosti_points(uint64_t answer) { return (uint32_t)(answer >> 16); }
+static inline uint64_t revosti_text_line(uint64_t answer) { return answer >> 8; }
 static inline int64_t revosti_saving(int64_t answer) { return answer / 65536; }
 
 /* How many edges n points have, and the place of the edge a-b (a and b different, in either order). */
