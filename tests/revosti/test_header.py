@@ -1,5 +1,5 @@
 """The inline functions for packed sets in include/revosti.h, compiled as C99 and as C++, against sets made by another way; and those for
-the answer of a saving and for a slip."""
+the answers of a saving and of a TSPLIB text and for a slip."""
 
 import ctypes
 import shutil
@@ -24,11 +24,15 @@ unsigned mark(uint32_t n, const uint8_t *marks, uint32_t a, uint32_t b);
 int64_t saving(int64_t answer);
 unsigned refusal(int64_t answer);
 int released(uint64_t slip);
+uint32_t points(uint64_t answer);
+uint64_t line(uint64_t answer);
 size_t size(uint32_t n) { return revosti_marks_size(n); }
 unsigned mark(uint32_t n, const uint8_t *marks, uint32_t a, uint32_t b) { return revosti_mark_of(n, marks, a, b); }
 int64_t saving(int64_t answer) { return revosti_saving(answer); }
 unsigned refusal(int64_t answer) { return revosti_refusal((uint64_t)answer); }
 int released(uint64_t slip) { return revosti_is_released(slip); }
+uint32_t points(uint64_t answer) { return revosti_points(answer); }
+uint64_t line(uint64_t answer) { return revosti_text_line(answer); }
 #ifdef __cplusplus
 }
 #endif
@@ -46,6 +50,8 @@ def compiled(folder, *words):
     functions.saving.restype = ctypes.c_int64
     functions.saving.argtypes = functions.refusal.argtypes = (ctypes.c_int64,)
     functions.released.argtypes = (ctypes.c_uint64,)
+    functions.points.restype, functions.line.restype = ctypes.c_uint32, ctypes.c_uint64
+    functions.points.argtypes = functions.line.argtypes = (ctypes.c_uint64,)
     return functions
 
 
@@ -80,6 +86,15 @@ class Inline:
         for bit in range(64):
             self.assertEqual(self.functions.released(1 << bit), bit == 40)
             self.assertEqual(self.functions.released(2**64 - 1 - (1 << bit)), bit != 40)
+
+    def test_answers_of_a_text(self):
+        for n in (0, 1, 4, 180, 181, 65536, 2**32 - 1):
+            self.assertEqual((self.functions.refusal(65536 * n), self.functions.points(65536 * n)), (0, n))
+        for line in (1, 2, 255, 256, 65536, 2**32, 2**56 - 1):
+            answer = 19 + 256 * line
+            self.assertEqual((self.functions.refusal(ctypes.c_int64(answer).value), self.functions.line(answer)), (19, line))
+        for number in (1, 2, 4, 5):
+            self.assertEqual((self.functions.refusal(number), self.functions.line(number)), (number, 0))
 
     def test_refusal_of_other_answers(self):
         for answer, number in ((21, 21), (18, 18), (16 + 256 * 3, 16), (14 + 256 * 4000 + 16_777_216 * 7, 14), (65536 * 40 + 256, 0)):

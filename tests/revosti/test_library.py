@@ -154,7 +154,7 @@ class Load(unittest.TestCase):
             self.assertEqual(function(*nothing), -place if name in library.SAVINGS else 2**64 - place, name)
 
     def test_a_function_is_missing(self):
-        with self.assertRaisesRegex(NoLibrary, "cannot load .*librevosti.so: .*undefined symbol: revosti_fresh_marks"):
+        with self.assertRaisesRegex(NoLibrary, "cannot load .*librevosti.so: .*undefined symbol: revosti_read_tsplib"):
             self.load("unsigned long revosti_measure() { return 0; }\n")
 
 

@@ -19,7 +19,7 @@ KEYS = {1: "4 to 180", 2: "not 2n numbers", 3: "outside 1 to 5", 4: "above 1,000
         11: "outside 1 to n, or a = b", 12: "struck already", 13: "seventh split",
         14: "next standing one", 15: "edge or centres break", 16: "No labelling",
         17: "each point from 1 to n exactly once", 18: "fewer than twice as many places",
-        20: "Something is pending", 21: "Nothing is pending", 22: "a view has six bytes",
+        19: "no TSPLIB text", 20: "Something is pending", 21: "Nothing is pending", 22: "a view has six bytes",
         25: "A low length is above its high one"}
 
 
@@ -69,8 +69,8 @@ class Numbers(unittest.TestCase):
             "Struck: 2 edges. Open: 4 edges.\n"))
 
     def test_unknown_number(self):
-        for number in (19, 23, 40):
-            self.assertIn("not one of 1 to 18, 20 to 22 and 25", told(SQUARE_RECORDS, number, 1))
+        for number in (23, 24, 40):
+            self.assertIn("not one of 1 to 22 and 25", told(SQUARE_RECORDS, number, 1))
 
     def test_record_that_the_sheet_has_not(self):
         self.assertIn("Record 9 is at fault, but the sheet has 2 records.",

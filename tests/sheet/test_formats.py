@@ -1,5 +1,5 @@
-"""The examples in docs/FORMATS.md, sets of marks among them, and the distances and savings in docs/RULES.md are true, and both have each
-refusal."""
+"""The examples in docs/FORMATS.md, sets of marks and TSPLIB texts among them, and the distances and savings in docs/RULES.md are true, and
+both have each refusal."""
 
 import re
 import unittest
@@ -15,6 +15,7 @@ from sheetlib.board import RULES, length_of
 from sheetlib.marks import NAMES, edges
 from sheetlib.parts import join
 from sheetlib.read import pack
+from sheetlib.tsplib import complaint
 
 PAGE = (TOOLS.parent / "docs" / "FORMATS.md").read_text(encoding="utf-8")
 RULES_PAGE = (TOOLS.parent / "docs" / "RULES.md").read_text(encoding="utf-8")
@@ -95,6 +96,32 @@ class Distances(unittest.TestCase):
         self.assertEqual({int(row[0]): row[1] for row in self.rules}, RULES)
         for rule, row in enumerate(self.rules, 1):
             self.assertEqual(numbers(*row[3:]), [length_of(rule, (0, 0), d) for d in self.differences], row)
+
+
+class Texts(unittest.TestCase):
+    """The TSPLIB texts in FORMATS.md are the examples, and are what `unpack` and the complaint of `pack` say."""
+
+    EXAMPLES = TOOLS.parent / "examples"
+
+    def test_examples(self):
+        self.assertEqual(block("NAME : square\nCOMMENT : four"), (self.EXAMPLES / "square.tsp").read_text())
+        self.assertEqual(block("NAME : square\nCOMMENT : the lengths"), (self.EXAMPLES / "square_weights.tsp").read_text())
+        self.assertEqual(block("# two lines"), (self.EXAMPLES / "square.txt").read_text())
+
+    def test_parts(self):
+        data = (self.EXAMPLES / "square.bin").read_bytes()
+        written = (self.EXAMPLES / "square.tsp").read_text().splitlines(keepends=True)
+        self.assertEqual(Run("unpack", "--tsplib", data=data).text, "".join(written[2:]))
+        self.assertEqual(Run("unpack", "--records", data=data).text, "".join(block("# two lines").splitlines(keepends=True)[1:]))
+
+    def test_complaint(self):
+        line, message = re.fullmatch(r"sheet: board.tsp, line (\d+): (.*)\n", block("sheet: board.tsp, line")).groups()
+        text = block("NAME : square\nCOMMENT : four").replace("2 10 0", "2 1.11630e+03 0")
+        self.assertEqual(complaint(text.split("\n"), int(line)), message)
+
+    def test_answers(self):
+        cut = (self.EXAMPLES / "square.tsp").read_bytes().removesuffix(b"EOF\n").count(b"\n") + 1
+        self.assertIn(f"`examples/square.tsp`: {4 * 65536:,}; cut before EOF, which is line {cut}: {19 + 256 * cut:,} |", RULES_PAGE)
 
 
 class Savings(unittest.TestCase):

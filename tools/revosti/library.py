@@ -17,6 +17,8 @@ BUFFER = (ctypes.POINTER(ctypes.c_uint8), ctypes.c_size_t)
 WORD, HALF, LONG = ctypes.c_uint32, ctypes.c_uint16, ctypes.c_uint64
 ARGUMENTS = {
     "revosti_measure": (WORD, WORD, *BUFFER, *BUFFER),
+    "revosti_read_tsplib": (*BUFFER, *BUFFER),
+    "revosti_tsplib_points": BUFFER,
     "revosti_fresh_marks": (WORD, *BUFFER),
     "revosti_pack_marks": (WORD, *BUFFER, *BUFFER),
     "revosti_unpack_marks": (WORD, *BUFFER, *BUFFER),

@@ -22,11 +22,34 @@ class Tour(NamedTuple):
     open: bool
 
 
+class Instance(NamedTuple):
+    """What a TSPLIB text says: the number of points, and the table."""
+
+    n: int
+    table: list
+
+
 def measure(n, rule, coordinates):
     """The table of a board by rule 1 (EUC_2D), 2 (CEIL_2D), 3 (ATT), 4 (MAN_2D) or 5 (MAX_2D). Coordinates are pairs, or 2n numbers."""
     table = array(WORD, [0]) * edges(n)
     refuse(library().revosti_measure(fit(WORD, n), fit(WORD, rule), *lend(array(WORD, flat(coordinates))), *lend(table)))
     return table.tolist()
+
+
+def read_tsplib(text):
+    """n and the table of a TSPLIB text, which is bytes: as `measure` makes it of the coordinates, or the weights. A text that is none is
+    refused by 19, with `text_line`."""
+    table = array(WORD, [0]) * edges(tsplib_points(text))
+    answer = library().revosti_read_tsplib(*lend(copy(text)), *lend(table))
+    refuse(answer)
+    return Instance(answer >> 16, table.tolist())
+
+
+def tsplib_points(text):
+    """The n of a TSPLIB text, which is bytes. It may be one that every operation refuses."""
+    answer = library().revosti_tsplib_points(*lend(copy(text)))
+    refuse(answer, text_line=answer >> 8)
+    return answer >> 16
 
 
 def fresh_marks(n):
@@ -160,10 +183,10 @@ def edges(n):
     return n * (n - 1) // 2 if LEAST_POINTS <= n <= MOST_POINTS else 0
 
 
-def refuse(answer, record=0, lines=0):
-    """Raises the refusal that an answer has in its lowest byte."""
+def refuse(answer, **place):
+    """Raises the refusal that an answer has in its lowest byte, with what the answer says of its place."""
     if answer & 0xff:
-        raise Refusal(answer & 0xff, record, lines)
+        raise Refusal(answer & 0xff, **place)
 
 
 def fit(form, number):
@@ -188,9 +211,9 @@ def records(sheet):
     return array(HALF, flat(sheet))
 
 
-def copy(marks):
-    """Marks that are only read may be any bytes."""
-    return bytearray(memoryview(marks))
+def copy(data):
+    """Marks and texts that are only read may be any bytes."""
+    return bytearray(memoryview(data))
 
 
 def lend_tables(tables):

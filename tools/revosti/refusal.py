@@ -23,6 +23,7 @@ REFUSALS = {
     16: "No labelling of the crossing saves on both moves.",
     17: "The tour is not n numbers, or not each point from 1 to n exactly once.",
     18: "The list has fewer than twice as many places as there are standing pairs.",
+    19: "The text is no TSPLIB text as they are read here (docs/FORMATS.md).",
     20: "Something is pending: confirm or withdraw it first.",
     21: "Nothing is pending: there is nothing to confirm or withdraw.",
     22: "The buffer is too short: a view has six bytes.",
@@ -32,15 +33,16 @@ REFUSALS = {
 
 def meaning(number):
     """A refusal's meaning."""
-    return REFUSALS.get(number, "This number is not one of 1 to 18, 20 to 22 and 25.")
+    return REFUSALS.get(number, "This number is not one of 1 to 22 and 25.")
 
 
 class Refusal(Exception):
-    """A call that is refused: the number, the record at fault (0 where none is), and the lines of a sheet that are accepted before it."""
+    """A call that is refused: the number, the record at fault (0 where none is), the lines of a sheet that are accepted before it, and of
+    a TSPLIB text the line at fault (0 but for 19)."""
 
-    def __init__(self, number, record=0, lines=0):
-        super().__init__(number, record, lines)
-        self.number, self.record, self.lines = number, record, lines
+    def __init__(self, number, record=0, lines=0, text_line=0):
+        super().__init__(number, record, lines, text_line)
+        self.number, self.record, self.lines, self.text_line = number, record, lines, text_line
 
     @property
     def words(self):
@@ -48,5 +50,5 @@ class Refusal(Exception):
         return meaning(self.number)
 
     def __str__(self):
-        place = f", record {self.record}" if self.record else ""
+        place = (f", record {self.record}" if self.record else "") + (f", line {self.text_line}" if self.text_line else "")
         return f"Refused, number {self.number}{place}: {self.words}"

@@ -5,6 +5,7 @@ nest     which record lies inside which
 write    pieces to text (unpack)
 scan     text to lines of tokens, and complaints with their place
 read     text to pieces (pack)
+tsplib   a board from a TSPLIB text and as one, and its faults in words
 answer   running `mark` and reading its lines
 marks    the marks of a board, and sets of marks taken apart
 archive  packed sets in files: handing in over one, settling, the two conversions

@@ -13,11 +13,12 @@ from .draw import BadTour, draw, read_tour
 from .explain import explain, kept
 from .marks import BadMarks, marks_left, packed_points, read_marks, show
 from .parts import MAX_16, join, split
-from .read import Sheet, pack
+from .read import Sheet, pack, pack_beside
 from .saving import SAVINGS, tell
 from .scan import BadText
 from .slip import slip_of, tell_slip
-from .write import unpack
+from .tsplib import BadBoard, read_board, write_board
+from .write import unpack, unpack_beside
 
 MAX_64 = 2**64 - 1
 CONTROLS = frozenset(range(32)) - frozenset(b"\t\n\r")
@@ -31,6 +32,8 @@ def main(arguments=None):
         return 0
     except BadText as error:
         return complain(f"{name_of(options.file)}, {error}", 2)
+    except BadBoard as error:
+        return complain(f"{options.board or name_of(options.file)}{error}", 2)
     except BadTour as error:
         return complain(f"--tour: {error}", 2)
     except BadMarks as error:
@@ -71,16 +74,25 @@ def parser():
 
 def add_sheets(commands):
     """The commands for a sheet."""
-    add(commands, "pack", run_pack, "text to the input of mark")
-    unpacking = add(commands, "unpack", run_unpack, "the input of mark to text")
+    add_board(add(commands, "pack", run_pack, "text to the input of mark"))
+    unpacking = add(commands, "unpack", run_unpack, "the input of mark to text").add_mutually_exclusive_group()
     unpacking.add_argument("-n", "--numbers", action="store_true",
                            help="add each record's number as a comment")
+    unpacking.add_argument("--tsplib", action="store_true", help="the board alone, as a TSPLIB text")
+    unpacking.add_argument("--records", action="store_true", help="the records alone, as --board takes them")
     for name, run, text in (("explain", run_explain, "the verdict of mark in words"),
                             ("draw", run_draw, "the board as SVG")):
         command = add(commands, name, run, text)
-        command.add_argument("--form", choices=("text", "binary"), help="do not detect the form")
+        source = command.add_mutually_exclusive_group()
+        source.add_argument("--form", choices=("text", "binary"), help="do not detect the form")
+        add_board(source)
     command.add_argument("--marks", metavar="MARKS", help="draw the packed set in this file, not the marks that mark leaves")
     command.add_argument("--tour", metavar="1,2,3,..", help="a tour to draw, all points in order")
+
+
+def add_board(command):
+    """The option for a board in a file of its own."""
+    command.add_argument("--board", metavar="FILE.tsp", help="a TSPLIB text with the board; the sheet is a text without one")
 
 
 def add_saving(commands):
@@ -177,7 +189,7 @@ def add(commands, name, run, text, files=True):
     if files:
         command.add_argument("file", nargs="?", metavar="FILE", help="standard input if none is named")
     command.add_argument("-o", metavar="OUT", dest="out", help="standard output if none is named")
-    command.set_defaults(run=run, file=None, marks=None, high=None)
+    command.set_defaults(run=run, file=None, marks=None, high=None, board=None)
     return command
 
 
@@ -220,8 +232,18 @@ def is_text(data):
     return True
 
 
+def load_text(options):
+    """The sheet in a text, with its board or beside one."""
+    if options.board is None:
+        return pack(decode(read(options)))
+    board = read_board(Path(options.board).read_bytes())
+    return pack_beside(board, decode(read(options)))
+
+
 def load(options):
-    """The sheet in a file of either form."""
+    """The sheet in a file of either form. Beside a board it is a text."""
+    if options.board is not None:
+        return load_text(options)
     data = read(options)
     as_text = options.form == "text" if options.form else is_text(data)
     return pack(decode(data)) if as_text else Sheet(split(data), [])
@@ -237,12 +259,18 @@ def load_high(options):
 
 def run_pack(options):
     """sheet pack"""
-    write(options, join(pack(decode(read(options))).parts))
+    write(options, join(load_text(options).parts))
 
 
 def run_unpack(options):
     """sheet unpack"""
-    write(options, unpack(split(read(options)), options.numbers).encode("ascii"))
+    parts = split(read(options))
+    if options.tsplib or options.records:
+        board = write_board(parts)  # a file that has none is refused for its records, too
+        text = board if options.tsplib else unpack_beside(parts)
+    else:
+        text = unpack(parts, options.numbers)
+    write(options, text.encode("ascii"))
 
 
 def run_explain(options):

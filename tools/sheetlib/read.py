@@ -27,7 +27,19 @@ def pack(text):
     n, cut = read_count(lines)
     if cut:
         return Sheet(read_cut(lines, rule, n), [])
-    points = [read_point(lines, i, n) for i in range(1, n + 1)]
+    return read_rest(lines, rule, n, [read_point(lines, i, n) for i in range(1, n + 1)])
+
+
+def pack_beside(board, text):
+    """The sheet of a board and of a text that has no board. Raises BadText."""
+    lines = scan(text)
+    if lines[0].peek() in ("rule", "points"):
+        lines[0].fail(f'expected "strike", found {lines[0].found()}; the board is that of --board')
+    return read_rest(lines, *board)
+
+
+def read_rest(lines, rule, n, points):
+    """The sheet of a board and the records behind it."""
     chains = read_records(lines)
     tail = read_bytes(lines)
     close(lines, "the end of the text" if tail else after_records(chains))

@@ -25,6 +25,11 @@ def unpack(parts, numbers=False):
     return "".join(row.text + "\n" for row in rows)
 
 
+def unpack_beside(parts):
+    """The text form without the board."""
+    return "".join(row.text + "\n" for row in record_rows(parts.records) + bytes_rows(parts.tail, ""))
+
+
 def numbered(row):
     """A row's text, with its record number as a comment."""
     return f"{row.text:<48}  # {row.record}" if row.record else row.text
