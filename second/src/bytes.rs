@@ -3,6 +3,7 @@
 use crate::marking::{self, Marked};
 use crate::refusal::Refusal;
 use crate::slip::{self, Slip, View};
+use crate::tsplib::{self, TextFault};
 use crate::{lengths, listing, marks, packed, saving, tour};
 
 /// 32-bit entries; a length that is no whole number of entries becomes a wrong size.
@@ -30,11 +31,32 @@ fn number(answer: Result<u64, Refusal>) -> u64 {
 pub fn measure(n: u32, rule: u32, coordinates: &[u8], table: &mut [u8]) -> u64 {
     let mut lengths = entries(table);
     number(lengths::measure(n, rule, &entries(coordinates), &mut lengths).map(|()| {
-        for (place, length) in table.chunks_exact_mut(4).zip(lengths) {
-            place.copy_from_slice(&length.to_le_bytes());
-        }
+        write_entries(&lengths, table);
         0
     }))
+}
+
+/// Writes 32-bit entries.
+fn write_entries(numbers: &[u32], bytes: &mut [u8]) {
+    for (place, number) in bytes.chunks_exact_mut(4).zip(numbers) {
+        place.copy_from_slice(&number.to_le_bytes());
+    }
+}
+
+/// The refusal number plus 256 × its line, or 65,536 × n.
+fn text_number(answer: Result<u32, TextFault>) -> u64 {
+    answer.map_or_else(|fault| u64::from(fault.refusal.number()) + 256 * fault.line, |n| 65_536 * u64::from(n))
+}
+
+/// *Read a TSPLIB text* for C. On a refusal the table keeps its bytes.
+pub fn read_tsplib(text: &[u8], table: &mut [u8]) -> u64 {
+    let mut lengths = entries(table);
+    text_number(tsplib::read_tsplib(text, &mut lengths).inspect(|_| write_entries(&lengths, table)))
+}
+
+/// The number of points of a TSPLIB text for C.
+pub fn tsplib_points(text: &[u8]) -> u64 {
+    text_number(tsplib::tsplib_points(text))
 }
 
 /// *Fresh marks* for C: the refusal number or 0.

@@ -21,3 +21,4 @@ pub mod saving;
 pub mod sheet;
 pub mod slip;
 pub mod tour;
+pub mod tsplib;

@@ -22,6 +22,7 @@ pub enum Refusal {
     NoSaving = 16,
     Tour = 17,
     ListSize = 18,
+    Text = 19,
     SomethingPending = 20,
     NothingPending = 21,
     Buffer = 22,

@@ -228,6 +228,61 @@ fn limits_are_demanded() {
     (1..=6).for_each(|depth| demanded(format!("a line accepted over two tables at depth {depth}")));
 }
 
+/// Before the first case no text has been read.
+#[test]
+fn texts_are_demanded() {
+    let missing = Coverage::default().missing();
+    assert!(Coverage::default().missing_texts().iter().all(|unmet| missing.contains(unmet)));
+    let demanded = |unmet: String| assert!(missing.contains(&unmet), "{unmet}");
+    [0, 1, 2, 4, 5, 19].iter().for_each(|number| demanded(format!("read a text: {number}")));
+    (0..=5).for_each(|rule| demanded(format!("a text read by rule {rule}")));
+    for line in ["Line(Name)", "Line(Dimension)", "Line(Node)", "Line(Eof)", "Unfinished", "Missing", "BehindEof"] {
+        demanded(format!("19 at {line}"));
+        demanded(format!("19 at {line}, held against completions"));
+    }
+    for kind in ["Name", "Comment", "Type", "Dimension", "WeightType", "Format", "NodeSection", "Weights", "Eof"] {
+        for damage in ["Emptied", "Tab", "Doubled", "Dropped", "CutWithin", "ByteChanged", "ByteInserted"] {
+            demanded(format!("{damage} at {kind}"));
+        }
+    }
+    for body in ["coordinates", "weights"] {
+        let demanded = |unmet: &str| demanded(format!("a text with {body}: {unmet}"));
+        ["CutAtEveryByte", "EachDamageAtEachLine", "EachByteChanged"].into_iter().for_each(demanded);
+        [0, 1, 3, 180, 181, 260, 4_294_967_295u64, 4_294_967_296].iter().for_each(|n| demanded(&format!("Points{n}")));
+        for size in ["None", "ByteLess", "EntryLess", "ByteMore", "EntryMore"] {
+            demanded(&format!("refused for the table's size, {size}"));
+        }
+        for (first, later) in [(19, 1), (19, 2), (19, 4), (1, 2), (1, 4), (2, 4), (1, 1), (2, 2), (4, 4)] {
+            demanded(&format!("refused by {first} where {later} is due"));
+        }
+    }
+    demanded("a text made line by line".to_string());
+    for shape in ["TypeFirst", "NoType", "AnyBytes", "ManyZeros", "LinesAcrossRows", "BlanksAtBothEnds"] {
+        demanded(format!("a text read with {shape}"));
+    }
+}
+
+#[test]
+fn texts_alike_and_everything_met() {
+    let naive = Naive::default();
+    let mut comparison = Comparison::new(&Second, &naive, &naive, 8);
+    if let Err(difference) = comparison.run_texts(20_000) {
+        panic!("{}", difference.0);
+    }
+    assert!(comparison.coverage.missing_texts().is_empty(), "{:?}", comparison.coverage.missing_texts());
+}
+
+#[test]
+fn slips_in_texts_are_found() {
+    for slip in Slip::TEXTS {
+        let naive = Naive { slip: Some(slip) };
+        let mut comparison = Comparison::new(&Second, &naive, &naive, 7);
+        let found = comparison.run_texts(20_000).is_err();
+        println!("{slip:?}: {} texts", comparison.coverage.texts.texts);
+        assert!(found, "{slip:?} is not found");
+    }
+}
+
 /// Sheets until the comparison finds the slip.
 fn found_after(slip: Slip) -> Option<u64> {
     let naive = Naive { slip: Some(slip) };
@@ -371,5 +426,20 @@ fn slips_of_both_are_found_by_the_refusals_over_two_tables() {
 fn slips_of_both_are_found() {
     for slip in [Slip::EqualShutsOut, Slip::OneExchange, Slip::EarlyStrike, Slip::EdgeAtPoint] {
         found_in_both(slip);
+    }
+}
+
+/// Paper 1's laws: a good text is as its numbers, the line told is held against all completions, a refused call leaves
+/// the table, and the first number that is for a call is told.
+#[test]
+fn slips_of_both_in_texts_are_found() {
+    for slip in Slip::TEXTS {
+        let naive = Naive { slip: Some(slip) };
+        let mut comparison = Comparison::new(&naive, &naive, &naive, 7);
+        let Err(difference) = comparison.run_texts(20_000) else { panic!("{slip:?} is not found") };
+        let what = difference.0.split(" differs").next().unwrap();
+        println!("{slip:?}: {what} after {} texts", comparison.coverage.texts.texts);
+        let laws = ["text as its numbers", "text by its completions", "text, refused", "text and its points"];
+        assert!(laws.contains(&what), "{slip:?}: {what}");
     }
 }

@@ -8,7 +8,7 @@ use std::process::exit;
 use std::time::Instant;
 
 use second::kit::checker::{Checker, Second};
-use second::kit::workloads::{counted, named, names, Workload};
+use second::kit::workloads::{counted, named, names, Call, Workload};
 
 #[cfg(feature = "revosti")]
 fn sides() -> Vec<Box<dyn Checker>> {
@@ -68,6 +68,10 @@ fn race(workload: &Workload, sides: &[Box<dyn Checker>], runs: usize) {
             revosti.low / second.high,
             revosti.high / second.low
         );
+    }
+    if let Call::Read { text, .. } = &workload.call {
+        let speeds: Vec<String> = times.iter().map(|time| format!("{:.0}", text.len() as f64 / time.median)).collect();
+        print!("   {} MB a second", speeds.join(" and "));
     }
     println!("   {}", workload.note);
 }

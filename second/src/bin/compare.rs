@@ -1,6 +1,7 @@
 //! Compares Revosti (feature `revosti`), or the naive checker, with the second program.
 //!
-//! `compare [--sheets N] [--seed S] [--case K] [--save FOLDER]`; the inputs of the program are kept in the folder.
+//! `compare [--sheets N | --texts N] [--seed S] [--case K] [--save FOLDER]`; `--texts` compares TSPLIB texts alone. The
+//! inputs of the program are kept in the folder.
 
 use std::path::PathBuf;
 use std::process::exit;
@@ -13,23 +14,25 @@ use second::kit::naive::Naive;
 
 struct Options {
     sheets: u64,
+    texts: Option<u64>,
     seed: u64,
     case: Option<u64>,
     save: Option<PathBuf>,
 }
 
 fn options() -> Options {
-    let mut options = Options { sheets: 20_000, seed: 1, case: None, save: None };
+    let mut options = Options { sheets: 20_000, texts: None, seed: 1, case: None, save: None };
     let mut words = std::env::args().skip(1);
     while let Some(word) = words.next() {
         let value = words.next().unwrap_or_default();
         match (word.as_str(), value.parse()) {
             ("--sheets", Ok(number)) => options.sheets = number,
+            ("--texts", Ok(number)) => options.texts = Some(number),
             ("--seed", Ok(number)) => options.seed = number,
             ("--case", Ok(number)) => options.case = Some(number),
             ("--save", _) if !value.is_empty() => options.save = Some(value.into()),
             _ => {
-                eprintln!("compare [--sheets N] [--seed S] [--case K] [--save FOLDER]");
+                eprintln!("compare [--sheets N | --texts N] [--seed S] [--case K] [--save FOLDER]");
                 exit(2);
             }
         }
@@ -54,18 +57,25 @@ fn main() {
     let naive = Naive::default();
     let mut comparison = Comparison::new(&Second, &other, &naive, options.seed);
     comparison.save = options.save;
-    let outcome = match options.case {
-        Some(case) => comparison.run_case(case),
-        None => comparison.run(options.sheets),
+    let outcome = match (options.case, options.texts) {
+        (Some(case), None) => comparison.run_case(case),
+        (Some(case), Some(_)) => comparison.texts(case),
+        (None, None) => comparison.run(options.sheets),
+        (None, Some(texts)) => comparison.run_texts(texts),
     };
     if let Err(difference) = outcome {
         println!("{}", difference.0);
         exit(1);
     }
-    println!("second and {}: {} sheets alike, seed {}", other.name(), comparison.sheets, options.seed);
-    print!("{}", comparison.coverage);
+    let (sheets, texts) = (comparison.sheets, comparison.coverage.texts.texts);
+    println!("second and {}: {sheets} sheets and {texts} texts alike, seed {}", other.name(), options.seed);
+    match options.texts {
+        None => print!("{}", comparison.coverage),
+        Some(_) => println!("{}", comparison.coverage.texts),
+    }
     println!("{:.1} s", start.elapsed().as_secs_f64());
-    let missing = comparison.coverage.missing();
+    let coverage = &comparison.coverage;
+    let missing = if options.texts.is_some() { coverage.missing_texts() } else { coverage.missing() };
     if options.case.is_none() && !missing.is_empty() {
         println!("not met: {}", missing.join(", "));
         exit(1);

@@ -39,6 +39,10 @@ pub trait Checker {
     fn examiner_view(&self, slip: u64, bytes: &mut [u8]) -> u64;
     /// The refusal number or 0.
     fn candidate_view(&self, slip: u64, bytes: &mut [u8]) -> u64;
+    /// 19 plus 256 × its line, another refusal number, or 65,536 × n.
+    fn read_tsplib(&self, text: &[u8], table: &mut [u8]) -> u64;
+    /// 19 plus 256 × its line, or 65,536 × n.
+    fn tsplib_points(&self, text: &[u8]) -> u64;
     /// What `mark` prints for a file.
     fn program(&self, file: &[u8]) -> Vec<u8>;
     /// Whether every program text is compared, or a sample only because each starts a process.
@@ -125,6 +129,14 @@ impl Checker for Second {
 
     fn candidate_view(&self, slip: u64, bytes: &mut [u8]) -> u64 {
         crate::bytes::candidate_view(slip, bytes)
+    }
+
+    fn read_tsplib(&self, text: &[u8], table: &mut [u8]) -> u64 {
+        crate::bytes::read_tsplib(text, table)
+    }
+
+    fn tsplib_points(&self, text: &[u8]) -> u64 {
+        crate::bytes::tsplib_points(text)
     }
 
     fn program(&self, file: &[u8]) -> Vec<u8> {

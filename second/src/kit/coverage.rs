@@ -8,6 +8,7 @@ use super::rules_met::RulesMet;
 use super::savings_met::SavingsMet;
 use super::sets_met::SetsMet;
 use super::slips_met::SlipsMet;
+use super::texts_met::TextsMet;
 use crate::sheet::Sheet;
 
 #[derive(Clone, Copy, Debug, PartialEq, Eq)]
@@ -29,6 +30,8 @@ pub enum Operation {
     CandidateView,
     MarkBetween,
     ListBetween,
+    ReadTsplib,
+    TsplibPoints,
     Program,
 }
 
@@ -53,11 +56,13 @@ const DEMANDS: [(Operation, &str, &[usize]); Operation::COUNT] = [
     (CandidateView, "candidate view", &[0, 22]),
     (MarkBetween, "mark between", &[0, 1, 2, 5, 25, 6, 20, 7, 8, 9, 10, 11, 12, 13, 14, 15, 16]),
     (ListBetween, "list between", &[0, 1, 2, 5, 25, 6, 11, 12, 18]),
+    (ReadTsplib, "read a text", &[0, 1, 2, 4, 5, 19]),
+    (TsplibPoints, "points of a text", &[0, 19]),
     (Program, "program", &[0, 1, 3, 4, 7, 8, 9, 10, 11, 12, 13, 14, 15, 16]),
 ];
 
 impl Operation {
-    pub const COUNT: usize = 18;
+    pub const COUNT: usize = 20;
 
     pub fn name(self) -> &'static str {
         DEMANDS.iter().find(|demand| demand.0 == self).unwrap().1
@@ -210,6 +215,7 @@ pub struct Coverage {
     pub moves: MovesMet,
     pub slips: SlipsMet,
     pub limits: LimitsMet,
+    pub texts: TextsMet,
     /// Accepted lines by the number of splits one inside another, from 1.
     depths: [u64; Sheet::MOST_SPLITS + 1],
     /// Accepted lines by the size of the board.
@@ -232,6 +238,7 @@ impl Default for Coverage {
             moves: MovesMet::default(),
             slips: SlipsMet::default(),
             limits: LimitsMet::default(),
+            texts: TextsMet::default(),
             depths: [0; Sheet::MOST_SPLITS + 1],
             sizes: [0; SIZES.len()],
         }
@@ -264,11 +271,7 @@ impl Coverage {
 
     /// What was demanded and never met.
     pub fn missing(&self) -> Vec<String> {
-        let mut missing = Vec::new();
-        for (operation, name, numbers) in DEMANDS {
-            let unmet = numbers.iter().filter(|&&number| self.numbers[operation as usize][number] == 0);
-            missing.extend(unmet.map(|number| format!("{name}: {number}")));
-        }
+        let mut missing = self.missing_numbers(|_| true);
         let unmet = EVENTS.iter().filter(|&&(event, _)| self.events[event as usize] == 0);
         missing.extend(unmet.map(|(_, name)| name.to_string()));
         missing.extend(self.measure_rules.missing().iter().map(|unmet| format!("measure: {unmet}")));
@@ -278,10 +281,28 @@ impl Coverage {
         missing.extend(self.moves.missing());
         missing.extend(self.slips.missing());
         missing.extend(self.limits.missing());
+        missing.extend(self.texts.missing());
         let unmet = (1..=Sheet::MOST_SPLITS).filter(|&depth| self.depths[depth] == 0);
         missing.extend(unmet.map(|depth| format!("accepted line at depth {depth}")));
         let unmet = SIZES.iter().zip(self.sizes).filter(|&(_, lines)| lines == 0);
         missing.extend(unmet.map(|(most, _)| format!("accepted line on a board of up to {most} points")));
+        missing
+    }
+
+    /// The same for texts alone.
+    pub fn missing_texts(&self) -> Vec<String> {
+        let mut missing = self.missing_numbers(|operation| matches!(operation, ReadTsplib | TsplibPoints));
+        missing.extend(self.texts.missing());
+        missing
+    }
+
+    /// The numbers that some operations have not met.
+    fn missing_numbers(&self, of: impl Fn(Operation) -> bool) -> Vec<String> {
+        let mut missing = Vec::new();
+        for (operation, name, numbers) in DEMANDS.into_iter().filter(|demand| of(demand.0)) {
+            let unmet = numbers.iter().filter(|&&number| self.numbers[operation as usize][number] == 0);
+            missing.extend(unmet.map(|number| format!("{name}: {number}")));
+        }
         missing
     }
 }
@@ -291,7 +312,7 @@ impl fmt::Display for Coverage {
     fn fmt(&self, f: &mut fmt::Formatter) -> fmt::Result {
         write!(f, "{:>8}", "number")?;
         for (_, name, _) in DEMANDS {
-            write!(f, "{name:>16}")?;
+            write!(f, "{name:>17}")?;
         }
         writeln!(f)?;
         for number in 0..NUMBERS {
@@ -299,7 +320,7 @@ impl fmt::Display for Coverage {
             for (operation, _, numbers) in DEMANDS {
                 let times = self.numbers[operation as usize][number];
                 let cell = if times == 0 && !numbers.contains(&number) { "-".to_string() } else { times.to_string() };
-                write!(f, "{cell:>16}")?;
+                write!(f, "{cell:>17}")?;
             }
             writeln!(f)?;
         }
@@ -308,6 +329,7 @@ impl fmt::Display for Coverage {
         }
         writeln!(f, "measure: {}\nprogram: {}\n{}", self.measure_rules, self.program_rules, self.sets)?;
         write!(f, "{}{}\n{}{}", self.savings, self.moves, self.slips, self.limits)?;
+        writeln!(f, "{}", self.texts)?;
         write!(f, "accepted lines by depth:")?;
         for depth in 1..=Sheet::MOST_SPLITS {
             write!(f, " {depth}: {}", self.depths[depth])?;

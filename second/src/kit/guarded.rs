@@ -99,6 +99,14 @@ impl<C: Checker> Checker for Guarded<C> {
         lend(bytes, |bytes| self.0.candidate_view(slip, bytes))
     }
 
+    fn read_tsplib(&self, text: &[u8], table: &mut [u8]) -> u64 {
+        lend(table, |table| self.0.read_tsplib(text, table))
+    }
+
+    fn tsplib_points(&self, text: &[u8]) -> u64 {
+        self.0.tsplib_points(text)
+    }
+
     fn program(&self, file: &[u8]) -> Vec<u8> {
         self.0.program(file)
     }

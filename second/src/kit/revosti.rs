@@ -102,6 +102,8 @@ extern "C" {
     fn revosti_release(slip: u64) -> u64;
     fn revosti_examiner_view(slip: u64, bytes: *mut u8, bytes_len: usize) -> u64;
     fn revosti_candidate_view(slip: u64, bytes: *mut u8, bytes_len: usize) -> u64;
+    fn revosti_read_tsplib(text: *const u8, text_len: usize, table: *mut u8, table_len: usize) -> u64;
+    fn revosti_tsplib_points(text: *const u8, text_len: usize) -> u64;
 }
 
 /// Revosti; `mark` is the program's path.
@@ -241,6 +243,14 @@ impl Checker for Revosti {
 
     fn candidate_view(&self, slip: u64, bytes: &mut [u8]) -> u64 {
         unsafe { revosti_candidate_view(slip, bytes.as_mut_ptr(), bytes.len()) }
+    }
+
+    fn read_tsplib(&self, text: &[u8], table: &mut [u8]) -> u64 {
+        unsafe { revosti_read_tsplib(text.as_ptr(), text.len(), table.as_mut_ptr(), table.len()) }
+    }
+
+    fn tsplib_points(&self, text: &[u8]) -> u64 {
+        unsafe { revosti_tsplib_points(text.as_ptr(), text.len()) }
     }
 
     /// Runs the program. It may stop reading early, so a broken pipe is no failure.

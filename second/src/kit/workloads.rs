@@ -55,6 +55,11 @@ pub enum Call {
         splits: Vec<[u16; 3]>,
         list: Vec<u8>,
     },
+    /// A TSPLIB text.
+    Read {
+        text: Vec<u8>,
+        table: Vec<u8>,
+    },
 }
 
 /// The buffers that calls change, as they stand before each run.
@@ -70,7 +75,7 @@ impl Call {
         match self {
             Call::Mark { marks, .. } | Call::MarkBetween { marks, .. } => buffers.marks = marks.clone(),
             Call::List { list, .. } | Call::ListBetween { list, .. } => buffers.list = list.clone(),
-            Call::Measure { table, .. } => buffers.table = table.clone(),
+            Call::Measure { table, .. } | Call::Read { table, .. } => buffers.table = table.clone(),
         }
         buffers
     }
@@ -91,6 +96,7 @@ impl Call {
                 let list = |&abc: &[u16; 3]| checker.list_between(*n, low, high, marks, abc, &mut buffers.list);
                 splits.iter().map(list).sum()
             }
+            Call::Read { text, .. } => checker.read_tsplib(text, &mut buffers.table),
         }
     }
 }
@@ -110,13 +116,17 @@ const MEASURING: [(&str, u32); 4] =
 const MARK_BETWEEN: &str = "mark 90 deep between";
 const LIST_BETWEEN: &str = "list 90 between";
 
-/// The timed inputs: marking and listing at 30, 90 and 180 points, measuring 180, marking and listing over two tables.
+/// Reading a text of 180 points with weights.
+const READING: &str = "read 180 weights";
+
+/// The timed inputs: marking and listing at 30, 90 and 180 points, measuring 180, marking and listing over two tables, and reading
+/// a text of 180.
 pub fn names() -> Vec<String> {
     let marking = SIZES.iter().flat_map(|n| ["shallow", "deep"].map(|kind| format!("mark {n} {kind}")));
     let listing = SIZES.iter().map(|n| format!("list {n}"));
     let measuring = MEASURING.iter().map(|(name, _)| name.to_string());
     let between = [MARK_BETWEEN, LIST_BETWEEN].map(str::to_string);
-    marking.chain(listing).chain(measuring).chain(between).collect()
+    marking.chain(listing).chain(measuring).chain(between).chain([READING.to_string()]).collect()
 }
 
 /// The inputs whose instructions are counted.
@@ -132,6 +142,7 @@ pub fn named(name: &str) -> Option<Workload> {
         ["measure", ..] => MEASURING.iter().find(|row| row.0 == name).map(|&(name, rule)| measuring(name, rule)),
         _ if name == MARK_BETWEEN => Some(marking_between()),
         _ if name == LIST_BETWEEN => Some(listing_between()),
+        _ if name == READING => Some(reading()),
         _ if name == BEFORE => Some(under_eleven(false)),
         _ if name == AFTER => Some(under_eleven(true)),
         _ => None,
@@ -283,5 +294,24 @@ fn measuring(name: &str, rule: u32) -> Workload {
         name: name.to_string(),
         note: format!("rule {rule}, coordinates to 1,000,000"),
         call: Call::Measure { n: 180, rule, coordinates, table: vec![0; 4 * board.table.len()] },
+    }
+}
+
+/// A text with the lengths of a board as its weights, a row a line.
+fn reading() -> Workload {
+    let board = random_board(180);
+    let mut text = String::from("NAME : board\nTYPE : TSP\nDIMENSION : 180\nEDGE_WEIGHT_TYPE : EXPLICIT\n");
+    text.push_str("EDGE_WEIGHT_FORMAT : UPPER_ROW\nEDGE_WEIGHT_SECTION\n");
+    let mut rest = &board.table[..];
+    for point in 1..board.n {
+        let (row, behind) = rest.split_at(usize::from(board.n - point));
+        text.push_str(&(row.iter().map(u32::to_string).collect::<Vec<_>>().join(" ") + "\n"));
+        rest = behind;
+    }
+    text.push_str("EOF\n");
+    Workload {
+        name: READING.to_string(),
+        note: format!("{} bytes of text, a row a line", text.len()),
+        call: Call::Read { text: text.into_bytes(), table: vec![0; 4 * board.table.len()] },
     }
 }

@@ -9,12 +9,14 @@ mod readings;
 mod savings;
 mod slips;
 mod steps;
+mod texts;
 
 use std::fmt::{self, Debug, Write};
 use std::path::PathBuf;
 
 use super::boards::{self, Board};
 use super::checker::Checker;
+use super::completions::Completions;
 use super::coverage::{Coverage, Event, Operation};
 use super::drafts::{sheet_bytes, Draft};
 use super::rng::Rng;
@@ -33,7 +35,7 @@ type Checked = Result<(), Difference>;
 pub struct Comparison<'a> {
     one: &'a dyn Checker,
     other: &'a dyn Checker,
-    /// A third program, for savings, for slips and for packed sets, which it reads into byte sets.
+    /// A third program, for savings, for slips, for texts and for packed sets, which it reads into byte sets.
     naive: &'a dyn Checker,
     seed: u64,
     case: u64,
@@ -46,6 +48,7 @@ pub struct Comparison<'a> {
     last_slip: Option<u64>,
     /// Whether operations over two tables are compared, too.
     pub two_tables: bool,
+    completions: Completions,
     pub coverage: Coverage,
 }
 
@@ -71,6 +74,7 @@ impl<'a> Comparison<'a> {
             saved: 0,
             last_slip: None,
             two_tables: true,
+            completions: Completions::default(),
             coverage: Coverage::default(),
         }
     }
@@ -85,7 +89,8 @@ impl<'a> Comparison<'a> {
         Ok(())
     }
 
-    /// One instance with its sheets, listings, tours, files and savings; one whose lengths are known within limits; and slips.
+    /// One instance with its sheets, listings, tours, files and savings; one whose lengths are known within limits; slips;
+    /// and texts.
     pub fn run_case(&mut self, case: u64) -> Checked {
         self.case = case;
         let mut rng = Rng::new(self.seed, case);
@@ -104,7 +109,8 @@ impl<'a> Comparison<'a> {
             self.readings_between(&mut rng)?;
             self.limits(&mut rng)?;
         }
-        self.slips()
+        self.slips()?;
+        self.texts(case)
     }
 
     /// Damaged sheets on copies of the marks; noise, lines for edges that are kept and the valid sheet on the marks

@@ -4,12 +4,14 @@
 //!
 //! A `Slip` builds in one mistake, to show that the comparison finds it.
 
+pub mod language;
 mod limits;
 mod reader;
 mod rules;
 mod savings;
 mod sets;
 mod slip;
+pub mod texts;
 mod views;
 
 use super::checker::Checker;
@@ -377,6 +379,14 @@ impl Checker for Naive {
 
     fn candidate_view(&self, slip: u64, bytes: &mut [u8]) -> u64 {
         self.view(Viewer::Candidate, slip, bytes)
+    }
+
+    fn read_tsplib(&self, text: &[u8], table: &mut [u8]) -> u64 {
+        number(self.read(text, table).map(|n| 65_536 * n))
+    }
+
+    fn tsplib_points(&self, text: &[u8]) -> u64 {
+        number(self.points(text).map(|n| 65_536 * n))
     }
 
     fn program(&self, file: &[u8]) -> Vec<u8> {

@@ -164,6 +164,66 @@ pub enum Slip {
     /// 5 does not read the low table, or the high one.
     LowEntryUntested,
     HighEntryUntested,
+    /// A second DIMENSION is let through.
+    SecondDimension,
+    /// A second NAME is let through.
+    SecondName,
+    /// EDGE_WEIGHT_FORMAT with coordinates.
+    FormatWithCoordinates,
+    /// EXPLICIT without EDGE_WEIGHT_FORMAT.
+    FormatMissing,
+    /// Surplus weights are let through.
+    WeightPastTheCount,
+    /// A number of 33 bits loses its highest bit.
+    NumberOf33Bits,
+    /// A number may have ten digits only.
+    TenDigits,
+    /// A number may begin with a plus sign.
+    PlusSign,
+    /// 19 tells the line after the one at fault.
+    LineToldLate,
+    /// 19 tells the last whole line where one is missing.
+    LastLineTold,
+    /// Weights above the limit are let through.
+    WeightLimitUntested,
+    /// Weights are written before test 5.
+    WeightsWrittenFirst,
+    /// 5 before 2 in reading a text.
+    LengthsBeforeSize,
+    /// 1 before 19.
+    PointsBeforeText,
+    /// 19 for a DIMENSION outside 4 to 180.
+    PointsInLanguage,
+    /// The number of points of a text is tested where it alone is asked for.
+    PointsTested,
+    /// A tab passes for a blank.
+    TabIsBlank,
+    /// A line may end in a carriage return.
+    ReturnEnds,
+    /// Keywords in lower case.
+    AnyCase,
+    /// Any TYPE.
+    AnyType,
+    /// EUC_2D and CEIL_2D alone.
+    TwoNames,
+    /// A NAME may have no colon in it.
+    EveryColon,
+    /// NAME and COMMENT need a value.
+    ValueNeeded,
+    /// A colon after EOF.
+    EofColon,
+    /// Blank lines before the section.
+    BlankLines,
+    /// COMMENT after the section.
+    CommentInBody,
+    /// Node lines in any order.
+    AnyOrder,
+    /// Weights a row a line.
+    RowsByLine,
+    /// The last line needs no newline.
+    NewlineMissing,
+    /// Anything behind EOF.
+    BehindEof,
 }
 
 impl Slip {
@@ -250,5 +310,39 @@ impl Slip {
         Slip::LimitsAfterMarks,
         Slip::LowEntryUntested,
         Slip::HighEntryUntested,
+    ];
+
+    /// Those of TSPLIB texts.
+    pub const TEXTS: [Slip; 30] = [
+        Slip::SecondDimension,
+        Slip::SecondName,
+        Slip::FormatWithCoordinates,
+        Slip::FormatMissing,
+        Slip::WeightPastTheCount,
+        Slip::NumberOf33Bits,
+        Slip::TenDigits,
+        Slip::PlusSign,
+        Slip::LineToldLate,
+        Slip::LastLineTold,
+        Slip::WeightLimitUntested,
+        Slip::WeightsWrittenFirst,
+        Slip::LengthsBeforeSize,
+        Slip::PointsBeforeText,
+        Slip::PointsInLanguage,
+        Slip::PointsTested,
+        Slip::TabIsBlank,
+        Slip::ReturnEnds,
+        Slip::AnyCase,
+        Slip::AnyType,
+        Slip::TwoNames,
+        Slip::EveryColon,
+        Slip::ValueNeeded,
+        Slip::EofColon,
+        Slip::BlankLines,
+        Slip::CommentInBody,
+        Slip::AnyOrder,
+        Slip::RowsByLine,
+        Slip::NewlineMissing,
+        Slip::BehindEof,
     ];
 }
