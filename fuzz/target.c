@@ -1,6 +1,6 @@
 /*
  * The fuzzing target over the functions for C. An input is a file of the program `mark`: rule, n, coordinates, records. Its last
- * 16 bytes are read as the eight points of a saving, too, and its last 8 as a slip.
+ * 16 bytes are read as the eight points of a saving, too, its last 8 as a slip, and all of it as a TSPLIB text.
  *
  * Every buffer ends at a page that must not be touched, so a read or write past its end is a crash. The archive carries no
  * instrumentation; instead what a call answers (refusal, record, lines, strikes) is written into AFL's map, so that inputs with a new
@@ -28,7 +28,7 @@ static uint8_t *guarded(void)
 }
 
 static uint8_t *table_end, *marks_end, *sheet_end, *tour_end, *list_end, *measured_end, *asked_end, *settled_end, *other_list_end;
-static uint8_t *bytes_end, *packed_end, *view_end, *high_end;
+static uint8_t *bytes_end, *packed_end, *view_end, *high_end, *text_end;
 
 static uint32_t get32(const uint8_t *at) { return at[0] | (uint32_t)at[1] << 8 | (uint32_t)at[2] << 16 | (uint32_t)at[3] << 24; }
 static uint64_t get64(const uint8_t *at) { return get32(at) | (uint64_t)get32(at + 4) << 32; }
@@ -539,8 +539,80 @@ static void try_list_between(struct limits l, const uint8_t *marks, size_t edges
     seen(15, revosti_refusal(answer), (unsigned)revosti_pairs(answer));
 }
 
+/* A copy of a text's first bytes that ends where nothing more can be read. */
+static const uint8_t *lent_text(const uint8_t *file, size_t size) { return memcpy(text_end - size, file, size); }
+
+/* Reads a text into a table of old bytes: 19 before 1 before 2 before 4 and 5, and a table of lengths or as it was. */
+static void read_text(const uint8_t *file, size_t size, size_t len, uint64_t points)
+{
+    uint8_t *table = measured_end - len;
+    memset(table, 0xa5, len);
+    uint64_t answer = revosti_read_tsplib(lent_text(file, size), size, table, len), n = points >> 16;
+    int few = n < REVOSTI_LEAST_POINTS || n > REVOSTI_MOST_POINTS;
+    if (revosti_refusal(points)) promise(answer == points, "19 is told alike");
+    else if (few) promise(answer == REVOSTI_POINTS, "1 after 19");
+    else if (len != 4 * revosti_edges((uint32_t)n)) promise(answer == REVOSTI_SIZE, "2 after 1");
+    else promise(answer == points || answer == REVOSTI_COORDINATE || answer == REVOSTI_LENGTH, "n, or 4, or 5");
+    for (size_t i = 0; i < len; i++) promise(!revosti_refusal(answer) || table[i] == 0xa5, "a refused text leaves the table");
+    for (size_t i = 0; i + 4 <= len; i += 4)
+        promise(revosti_refusal(answer) || get32(table + i) <= REVOSTI_MOST_LENGTH, "lengths within the limit");
+    seen(17, revosti_refusal(answer), revosti_refusal(answer) == REVOSTI_TEXT || few ? 0 : (unsigned)n);
+}
+
+/* The first bytes of a text that end with so many newlines. */
+static size_t first_lines(const uint8_t *file, uint64_t lines)
+{
+    size_t at = 0;
+    for (; lines; at++) lines -= file[at] == '\n';
+    return at;
+}
+
+/* What the first bytes of a text are like: the first byte of each of their lines that is no blank, and how many words it has. */
+static unsigned likeness(const uint8_t *file, size_t size)
+{
+    unsigned like = 0, words = 0;
+    for (size_t i = 0; i < size; i++) {
+        int begins = file[i] > ' ' && (i == 0 || file[i - 1] <= ' ');
+        if (begins && words == 0) like = like * 31 + file[i];
+        words = file[i] == '\n' ? 0 : words + (unsigned)begins;
+        if (i + 1 < size && file[i + 1] == '\n') like = like * 31 + (words < 4 ? words : 4);
+    }
+    return like & 0xff;
+}
+
+/*
+ * The whole input as a text. The line told is one of its lines or the one after them; the whole lines before it by themselves miss just
+ * that line, or are a good text. A good text without its last newline misses its last line; with one more it has a line too many.
+ */
+static void try_text(const uint8_t *file, size_t size)
+{
+    if (size + 1 > MOST) return;
+    static uint8_t longer[MOST];
+    uint64_t points = revosti_tsplib_points(lent_text(file, size), size), line = points >> 8, lines = 0, n = points >> 16;
+    for (size_t i = 0; i < size; i++) lines += file[i] == '\n';
+    if (revosti_refusal(points)) {
+        promise(revosti_refusal(points) == REVOSTI_TEXT && line >= 1 && line <= lines + 1, "19, and a line or the one after the last");
+        size_t good = first_lines(file, line - 1);
+        uint64_t before = revosti_tsplib_points(lent_text(file, good), good);
+        promise(before == points || revosti_refusal(before) == 0, "the lines before it begin some text");
+        if (line > 1) seen(18, line < 40 ? (unsigned)line : 40, likeness(file, good));
+    } else {
+        promise(points % 65536 == 0 && points >> 48 == 0, "19, or n");
+        seen(19, n < 40 ? (unsigned)n : 40, likeness(file, size));
+        promise(revosti_tsplib_points(lent_text(file, size - 1), size - 1) == REVOSTI_TEXT + 256 * lines, "EOF ends in a newline");
+        memcpy(longer, file, size), longer[size] = '\n';
+        promise(revosti_tsplib_points(lent_text(longer, size + 1), size + 1) == REVOSTI_TEXT + 256 * (lines + 1), "EOF is last");
+    }
+    size_t len = revosti_refusal(points) || n > REVOSTI_MOST_POINTS ? size % 101 : n < 2 ? 0 : 4 * revosti_edges((uint32_t)n);
+    read_text(file, size, len, points);
+    read_text(file, size, len + 1, points);
+    if (len) read_text(file, size, len - 1, points);
+    seen(16, revosti_refusal(points), line < 200 && revosti_refusal(points) ? (unsigned)line : 200);
+}
+
 static void run(const uint8_t *file, size_t size)
 {
+    try_text(file, size);
     if (size < 8) return;
     uint32_t rule = get32(file), n = get32(file + 4);
     size_t points = n <= 200 ? n : 200;
@@ -601,7 +673,7 @@ int main(void)
 {
     table_end = guarded(), marks_end = guarded(), sheet_end = guarded(), tour_end = guarded();
     list_end = guarded(), measured_end = guarded(), asked_end = guarded(), settled_end = guarded(), other_list_end = guarded();
-    bytes_end = guarded(), packed_end = guarded(), view_end = guarded(), high_end = guarded();
+    bytes_end = guarded(), packed_end = guarded(), view_end = guarded(), high_end = guarded(), text_end = guarded();
     __AFL_INIT();
     unsigned char *file = __AFL_FUZZ_TESTCASE_BUF;
     while (__AFL_LOOP(10000)) run(file, (size_t)__AFL_FUZZ_TESTCASE_LEN);
