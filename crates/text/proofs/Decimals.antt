@@ -52,7 +52,7 @@ decimal-length (suc k) n h = elim (decLt n 10) [
 ]
 
 -- the value of a text and one more digit
-value-append : (before : ℕ) (t : List ℕ) (d : ℕ) → valueFrom before (t ++ (d ∷ [])) ≡ 10 * valueFrom before t + (d - 48)
+pub value-append : (before : ℕ) (t : List ℕ) (d : ℕ) → valueFrom before (t ++ (d ∷ [])) ≡ 10 * valueFrom before t + (d - 48)
 unfolding valueFrom
 value-append before [] d = refl
 value-append before (x ∷ t) d = value-append (10 * before + (x - 48)) t d

@@ -1,2 +1,5 @@
 pub mod Decimals
+pub mod Padding
+pub mod SameTexts
+pub mod Values
 pub mod Writing

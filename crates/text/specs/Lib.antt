@@ -1,3 +1,4 @@
 pub mod asks
+pub mod Columns
 pub mod Decimal
 pub mod Words

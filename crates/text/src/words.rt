@@ -1,5 +1,6 @@
-// Words into a buffer: written at a place, with the next place as the answer.
-ghost use Rattle.text.specs.Words.{Room, Wrote};
+// Words into a buffer: written at a place, with the next place as the answer. And words compared.
+ghost use mathlib.Core.Path.{_≡_};
+ghost use Rattle.text.specs.Words.{Room, Wrote, same};
 
 // Writes a word.
 pub fn put_word(word: &[u8], out: &mut [u8], at: usize) -> usize
@@ -12,4 +13,21 @@ pub fn put_word(word: &[u8], out: &mut [u8], at: usize) -> usize
         i += 1;
     }
     at + i
+}
+
+// Are two words the same?
+pub fn same(a: &[u8], b: &[u8]) -> bool
+    ensures { λ r. ⌜ r ≡ same (now (a .entry)) (now (b .entry)) ⌝ }
+{
+    if a.len() != b.len() {
+        return false;
+    }
+    let mut i = 0;
+    while i < a.len() {
+        if a[i] != b[i] {
+            return false;
+        }
+        i += 1;
+    }
+    true
 }

@@ -10,7 +10,8 @@ use borrow.Author.Tests.{ne-eqb}
 use Rattle.lengths.specs.Edge.{edgeCount}
 use Rattle.text.specs.Decimal.{decimal, valueFrom}
 use Rattle.text.proofs.Decimals.{decimal-is}
-use Rattle.tsplib_lines.specs.Words.{newline, free, blank, Sole, dimensionWord, weightTypeWord, explicitWord, euc2dWord, formatWord, upperRowWord, nodeSectionWord, weightSectionWord, eofWord}
+use Rattle.text.specs.Words.{blank}
+use Rattle.tsplib_lines.specs.Words.{newline, free, Sole, dimensionWord, weightTypeWord, explicitWord, euc2dWord, formatWord, upperRowWord, nodeSectionWord, weightSectionWord, eofWord}
 use Rattle.tsplib_lines.specs.Numbers.{numberLimit, Digits, Number, NumberText}
 use Rattle.tsplib_lines.specs.Numbers as number
 use Rattle.tsplib_lines.specs.Line.{Line, format-line, node-section, weight-section, eof-line, dimension-line, weighing-line, number-line, Reads}

@@ -11,7 +11,8 @@ use lib.ListN.{length, getD, take, drop, length-append, drop-of-length-le}
 use lib.Seq.{drop-cons}
 use borrow.Author.Tests.{eq-eqb, ne-eqb, ltb-true, leb-true}
 use Rattle.lists.proofs.Bools.{and-left, and-right}
-use Rattle.tsplib_lines.specs.Words.{blank, newline, isSole, tspWord, upperRowWord, nodeSectionWord, weightSectionWord, eofWord}
+use Rattle.text.specs.Words.{blank}
+use Rattle.tsplib_lines.specs.Words.{newline, isSole, tspWord, upperRowWord, nodeSectionWord, weightSectionWord, eofWord}
 use Rattle.tsplib_lines.specs.asks.Words.{Found}
 use Rattle.tsplib_lines.specs.Numbers.{numberLimit, atBlank, atDigit, isDigit, numbersFrom, numbersIn, noTally, talliedOf}
 use Rattle.tsplib_lines.specs.Line.{Line, other-line, type-line, format-line, node-section, weight-section, eof-line, Parts, whole, parts, when, numbersOr, partsLine, atColon, sectionOf, valued, keywordOf, weighingOf, weighingLine, dimensionOf, lineOf}

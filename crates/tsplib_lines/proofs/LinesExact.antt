@@ -7,7 +7,8 @@ use mathlib.Core.Option.{Option, none, some}
 use native.Mathlib.Omega.{arith}
 use lib.Dec.{eqb}
 use borrow.Author.Tests.{eqb-true}
-use Rattle.tsplib_lines.specs.Words.{blank, blanks, colon, Sole, wordThenBlanks, isSole, free, nameWord, commentWord, typeWord, tspWord, dimensionWord, weightTypeWord, euc2dWord, ceil2dWord, attWord, man2dWord, max2dWord, explicitWord, formatWord, upperRowWord, nodeSectionWord, weightSectionWord, eofWord}
+use Rattle.text.specs.Words.{blank, blanks}
+use Rattle.tsplib_lines.specs.Words.{colon, Sole, wordThenBlanks, isSole, free, nameWord, commentWord, typeWord, tspWord, dimensionWord, weightTypeWord, euc2dWord, ceil2dWord, attWord, man2dWord, max2dWord, explicitWord, formatWord, upperRowWord, nodeSectionWord, weightSectionWord, eofWord}
 use Rattle.tsplib_lines.specs.Numbers.{isDigit, numbersIn}
 use Rattle.tsplib_lines.specs.Line.{Line, type-line, format-line, node-section, weight-section, eof-line, other-line, number-line, Names, explicit, euc2d, ceil2d, att, man2d, max2d, Reads, name, comment, type-tsp, dimension, weight-type, format, nodes, weights, eof, numbers, Parts, whole, parts, withByte, atColon, when, keywordOf, weighingOf, sectionOf, dimensionOf, weighingLine, valued, partsLine, numbersOr, lineOf}
 use Rattle.tsplib_lines.specs.declared.line.Weighing.{Weighing}

@@ -10,7 +10,7 @@ use lib.Dec.{eqb, ltb}
 use lib.ListN.{length, getD, drop, drop-of-length-le}
 use lib.Seq.{drop-cons}
 use borrow.Author.Tests.{eq-eqb, ne-eqb, lt-ltb, le-ltb, le-leb, lt-leb}
-use Rattle.tsplib_lines.specs.Words.{blank}
+use Rattle.text.specs.Words.{blank}
 use Rattle.tsplib_lines.specs.Numbers.{numberLimit, withNumber, atBlank, atDigit, isDigit, numbersFrom, numbersIn, counted, countedAll, noTally, totalOf, talliedOf, sweptBlank, sweptDigit, sweptByte, ended}
 use Rattle.tsplib_lines.specs.asks.Numbers.{openOf, Countable, Sweepable}
 use Rattle.tsplib_lines.specs.declared.numbers.Place.{Place}

@@ -10,7 +10,7 @@ use lib.ListN.{length}
 use borrow.Author.Tests.{eqb-true, ltb-true, leb-true, lt-ltb, le-leb, ne-eqb}
 use Rattle.lists.proofs.Bools.{and-left, and-right}
 use Rattle.text.specs.Decimal.{valueFrom}
-use Rattle.tsplib_lines.specs.Words.{blank, blanks}
+use Rattle.text.specs.Words.{blank, blanks}
 use Rattle.tsplib_lines.specs.Numbers.{numberLimit, Digits, end, digit, Number, NumberText, padded, last, more, withNumber, atBlank, atDigit, isDigit, numbersFrom, numbersIn}
 use Rattle.tsplib_lines.specs.declared.numbers.Place.{Place}
 use Rattle.tsplib_lines.specs.declared.numbers.Place.the-variants.{Between, Within}

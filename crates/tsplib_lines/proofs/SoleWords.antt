@@ -11,7 +11,8 @@ use lib.Dec.{eqb}
 use lib.ListN.{length, getD, take, drop, drop-of-length-le, length-drop}
 use lib.Seq.{drop-cons, take-suc, getD-drop}
 use borrow.Author.Tests.{eq-eqb, ne-eqb}
-use Rattle.tsplib_lines.specs.Words.{blank, afterBlanks, onlyBlanks, wordThenBlanks, isSole, free}
+use Rattle.text.specs.Words.{blank}
+use Rattle.tsplib_lines.specs.Words.{afterBlanks, onlyBlanks, wordThenBlanks, isSole, free}
 use Rattle.tsplib_lines.specs.asks.Words.{Skipped, Found}
 
 -- the loop over blanks

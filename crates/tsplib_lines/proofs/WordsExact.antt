@@ -7,7 +7,8 @@ use native.Mathlib.Omega.{arith}
 use lib.Dec.{eqb}
 use borrow.Author.Tests.{eqb-true, eq-eqb}
 use Rattle.lists.proofs.Bools.{and-left, and-right, and-both}
-use Rattle.tsplib_lines.specs.Words.{blank, blanks, Sole, afterBlanks, onlyBlanks, wordThenBlanks, isSole, free}
+use Rattle.text.specs.Words.{blank, blanks}
+use Rattle.tsplib_lines.specs.Words.{Sole, afterBlanks, onlyBlanks, wordThenBlanks, isSole, free}
 use Rattle.tsplib_lines.specs.Line.{when}
 
 -- so many blanks, and then something

@@ -7,7 +7,7 @@ use mathlib.Core.Option.{Option, none, some}
 use lib.Dec.{eqb, leb, ltb}
 use lib.ListN.{length}
 use Rattle.text.specs.Decimal.{valueFrom}
-use Rattle.tsplib_lines.specs.Words.{blank, blanks}
+use Rattle.text.specs.Words.{blank, blanks}
 use Rattle.tsplib_lines.specs.declared.numbers.Place.{Place}
 use Rattle.tsplib_lines.specs.declared.numbers.Place.the-variants.{Between, Within}
 use Rattle.tsplib_lines.specs.declared.numbers.Tally.{Tally}

@@ -4,21 +4,14 @@ use mathlib.Core.Path.{_≡_}
 use mathlib.Core.Bool.{Bool, true, false, _&&_}
 use mathlib.Core.List.{List, [], _∷_, _++_}
 use lib.Dec.{eqb}
-use lib.ListN.{replicate}
+use Rattle.text.specs.Words.{blank, blanks}
 
--- a space, the colon of a keyword line, and the end of a line
-abbrev pub blank : ℕ
-blank = 32
-
+-- the colon of a keyword line, and the end of a line
 abbrev pub colon : ℕ
 colon = 58
 
 abbrev pub newline : ℕ
 newline = 10
-
--- so many blanks
-abbrev pub blanks : ℕ → List ℕ
-blanks k = replicate k blank
 
 -- the text is the word by itself, with blanks around it at will
 pub record Sole (word text : List ℕ) : Type 0 where

@@ -6,8 +6,7 @@ use mathlib.Core.List.{List, [], _∷_, _++_}
 use lib.Dec.{eqb}
 use lib.ListN.{length, drop}
 use Rattle.endian.specs.Bytes.{bytes32}
-use Rattle.text.specs.Words.{Wrote}
-use Rattle.tsplib_lines.specs.Words.{blank}
+use Rattle.text.specs.Words.{Wrote, blank}
 use Rattle.tsplib_lines.specs.Numbers.{numberLimit}
 use Rattle.tsplib_lines.specs.declared.numbers.Place.{Place}
 use Rattle.tsplib_lines.specs.declared.numbers.Place.the-variants.{Between, Within}
