@@ -18,6 +18,7 @@ pub mod OpenBetween
 pub mod OpenEdges
 pub mod Optimal
 pub mod PackedRuns
+pub mod Pages
 pub mod SheetLines
 pub mod Slips
 pub mod Strikes

@@ -48,7 +48,7 @@ record Noted (r : Result (List ℕ)) : Type 0 where
   pub told : (number at : ℕ) → r .verdict ≡ refused number at → (1 ≤ number) × (number < 256) × (at < 65536)
 
 -- the tests before the sheet's own answer a refusal from 1 to 25
-record Numbered (t : Tested) : Type 0 where
+pub record Numbered (t : Tested) : Type 0 where
   pub number-told : (number : ℕ) → t ≡ Refused number → (1 ≤ number) × (number < 256)
 
 number-of : (k : ℕ) → 1 ≤ k → k < 256 → Numbered (Refused k)
@@ -69,13 +69,16 @@ pending-numbered : (t : Tested) (marks : List ℕ) → Numbered t → Numbered (
 pending-numbered (Refused number) marks h = h
 pending-numbered (Points n) marks h = test-numbered (omega arith) (omega arith) (nonePending marks) (points-of n)
 
-ready-numbered : (n : ℕ) (table marks : List ℕ) → Numbered (ready n table marks)
-unfolding ready tested
-ready-numbered n table marks =
-    pending-numbered (tested n table marks) marks
-    (test-numbered (omega arith) (omega arith) (inRange n)
+pub tested-numbered : (n : ℕ) (table marks : List ℕ) → Numbered (tested n table marks)
+unfolding tested
+tested-numbered n table marks =
+    test-numbered (omega arith) (omega arith) (inRange n)
     (test-numbered (omega arith) (omega arith) (eqb (length table) (edgeCount n))
-    (test-numbered (omega arith) (omega arith) (allAtMost mostLength table) (marks-numbered n marks))))
+    (test-numbered (omega arith) (omega arith) (allAtMost mostLength table) (marks-numbered n marks)))
+
+ready-numbered : (n : ℕ) (table marks : List ℕ) → Numbered (ready n table marks)
+unfolding ready
+ready-numbered n table marks = pending-numbered (tested n table marks) marks (tested-numbered n table marks)
 
 -- over two tables, too
 limits-numbered : (n : ℕ) (low high : List ℕ) → Numbered (testedLimits n low high)

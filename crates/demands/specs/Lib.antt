@@ -2,5 +2,6 @@ pub mod Between
 pub mod Listed
 pub mod Marked
 pub mod Measured
+pub mod Pages
 pub mod Run
 pub mod SheetAnswer

@@ -22,7 +22,7 @@ numbers-count16 [] = refl
 numbers-count16 (a ∷ []) = refl
 numbers-count16 (a ∷ b ∷ rest) = omega (arith, numbers-count16 rest)
 
-numbers-count32 : (bytes : List ℕ) → length (numbers32 bytes) ≡ length bytes / 4
+pub numbers-count32 : (bytes : List ℕ) → length (numbers32 bytes) ≡ length bytes / 4
 unfolding numbers32
 numbers-count32 [] = refl
 numbers-count32 (a ∷ []) = refl

@@ -23,10 +23,15 @@ unfolding bytesOf
 bytes-length width [] = sym (mul-zero width)
 bytes-length width (x ∷ xs) = omega (arith, length-append (littleEndian width x) (bytesOf width xs), digits-length width x, bytes-length width xs)
 
+-- the bytes of two lists of numbers, one after the other
+pub bytes-append : (width : ℕ) (xs ys : List ℕ) → bytesOf width (xs ++ ys) ≡ bytesOf width xs ++ bytesOf width ys
+unfolding bytesOf
+bytes-append width [] ys = refl
+bytes-append width (x ∷ xs) ys = ap (λ (r : List ℕ). littleEndian width x ++ r) (bytes-append width xs ys) ∙ sym (append-assoc (littleEndian width x) (bytesOf width xs) (bytesOf width ys))
+
 bytes-snoc : (width : ℕ) (xs : List ℕ) (x : ℕ) → bytesOf width (xs ++ (x ∷ [])) ≡ bytesOf width xs ++ littleEndian width x
 unfolding bytesOf
-bytes-snoc width [] x = append-nil (littleEndian width x)
-bytes-snoc width (y ∷ xs) x = ap (λ (r : List ℕ). littleEndian width y ++ r) (bytes-snoc width xs x) ∙ sym (append-assoc (littleEndian width y) (bytesOf width xs) (littleEndian width x))
+bytes-snoc width xs x = bytes-append width xs (x ∷ []) ∙ ap (λ (r : List ℕ). bytesOf width xs ++ r) (append-nil (littleEndian width x))
 
 -- numbers that are written one after another
 pub encoding-start : {width : ℕ} {numbers bytes : List ℕ} → EncodeAsked width numbers bytes → Encoding width numbers bytes bytes 0

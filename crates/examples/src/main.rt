@@ -5,6 +5,7 @@ mod c;
 mod converting;
 mod fresh;
 mod measure;
+mod pages;
 mod pairs;
 mod pending;
 mod savings;
@@ -28,5 +29,6 @@ fn main() {
     let t = slips::run(t);
     let t = between::run(t);
     let t = texts::run(t);
+    let t = pages::run(t);
     t.print();
 }

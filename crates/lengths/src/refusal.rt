@@ -45,5 +45,9 @@ pub const BUFFER: u8 = 22;
 
 pub const LIMITS: u8 = 25;
 
+pub const PAGE: u8 = 26;
+
+pub const PAGE_TEXT: u8 = 27;
+
 // The record of a refusal where no record is at fault.
 pub const NO_RECORD: u16 = 0;

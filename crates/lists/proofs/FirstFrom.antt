@@ -57,6 +57,19 @@ module _ (p : ℕ → Bool) where
     | no q ↦ firstFrom-no z k (none z (omega arith) (omega arith)) ∙ firstFrom-at (suc z) k a (omega arith) (omega arith) (λ i g g′. none i (omega arith) g′) e
   ]
 
+  -- none before the first passes
+  pub firstFrom-before : (z k j : ℕ) → z ≤ j → j < firstFrom p z k → p j ≡ false
+  unfolding firstFrom
+  firstFrom-before z zero j l h = absurd (omega arith)
+  firstFrom-before z (suc k) j l h = go (p z) refl (firstFrom-before (suc z) k j)
+    where
+      go : (t : Bool) → p z ≡ t → (suc z ≤ j → j < firstFrom p (suc z) k → p j ≡ false) → p j ≡ false
+      go true e ih = absurd (omega (arith, firstFrom-yes z k e))
+      go false e ih = elim (ℕ-discrete z j) [
+        | yes q ↦ ap p (sym q) ∙ e
+        | no q ↦ ih (omega arith) (omega (arith, firstFrom-no z k e))
+      ]
+
   -- one number more: the first stays, unless there was none and the new one fails too
   pub firstFrom-stays : (z k : ℕ) → (firstFrom p z k ≡ z + k → p (z + k) ≡ true) → firstFrom p z (suc k) ≡ firstFrom p z k
   unfolding firstFrom

@@ -3,6 +3,7 @@ pub mod FreshAnswers
 pub mod ListAnswers
 pub mod MarkAnswers
 pub mod MeasureAnswers
+pub mod PageNumbers
 pub mod PendingAnswers
 pub mod ReadAnswers
 pub mod SavedNumbers

@@ -5,6 +5,7 @@ pub mod Fresh
 pub mod Listing
 pub mod Mark
 pub mod Measure
+pub mod Page
 pub mod Pending
 pub mod Reading
 pub mod Saved

@@ -5,6 +5,7 @@ pub mod fresh;
 pub mod listing;
 pub mod mark;
 pub mod measure;
+pub mod page;
 pub mod pending;
 pub mod reading;
 pub mod saved;

@@ -1,0 +1,14 @@
+pub mod Joining
+pub mod LineTexts
+pub mod Overlays
+pub mod PageAnswers
+pub mod PageLines
+pub mod PageParts
+pub mod PageReading
+pub mod PlacesTests
+pub mod ReadAnswers
+pub mod RoundTrips
+pub mod Seeking
+pub mod Storing
+pub mod WholeNumbers
+pub mod WriteAnswers

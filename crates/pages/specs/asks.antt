@@ -1,0 +1,4 @@
+pub mod Line
+pub mod Page
+pub mod Reading
+pub mod Writing
