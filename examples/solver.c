@@ -1,8 +1,8 @@
 /*
  * How a tour solver uses Revosti: a board is measured, and read from TSPLIB texts, a strike sheet written from lists of standing pairs,
  * asked, withdrawn, asked again and confirmed, and a search looks at open edges only. Then it asks how much the rules save, its marks go to
- * a byte set and back, the slip of a sheet that stops is shown and released, and the sheet is marked for a board whose lengths are known
- * within limits only.
+ * a byte set and back, the slip of a sheet that stops is shown and released, the sheet is marked for a board whose lengths are known
+ * within limits only, and the wall list is printed and read again.
  *
  *   cc -Iinclude examples/solver.c target/staticlib/librevosti.a -o solver && ./solver
  *
@@ -309,6 +309,28 @@ static void limits(size_t lines)
     expect("  mark of 1-3", revosti_mark_of(N, between, 1, 3), REVOSTI_OPEN);
 }
 
+/* The wall list is one page of six lines: printed, read into another table and other marks, and then with a faulty word. */
+static void wall_list(void)
+{
+    enum { PAGE = REVOSTI_LINE_BYTES * EDGES };
+    uint8_t text[PAGE + 1], other_table[sizeof table] = {0}, other_marks[sizeof marks] = {0};
+    text[PAGE] = 77;
+    expect("pages", revosti_page_count(N), 1);
+    uint64_t answer = revosti_write_page(N, table, sizeof table, marks, sizeof marks, 1, text, sizeof text);
+    expect("writing page 1, its bytes", revosti_page_bytes(answer), PAGE);
+    expect("  the byte behind them", text[PAGE], 77);
+    printf("%.*s", (int)PAGE, (const char *)text);
+    expect("reading it", revosti_read_page(N, 1, text, PAGE, other_table, sizeof other_table, other_marks, sizeof other_marks), REVOSTI_ACCEPTED);
+    expect("  lengths differ", (uint64_t)(memcmp(other_table, table, sizeof table) != 0), 0);
+    expect("  marks differ", (uint64_t)(memcmp(other_marks, marks, sizeof marks) != 0), 0);
+    expect("writing page 1 into a byte too few", revosti_write_page(N, table, sizeof table, marks, sizeof marks, 1, text, PAGE - 1), REVOSTI_BUFFER);
+    expect("reading page 2", revosti_read_page(N, 2, text, PAGE, other_table, sizeof other_table, other_marks, sizeof other_marks), REVOSTI_PAGE);
+    text[REVOSTI_LINE_BYTES + 16] = 'S';
+    answer = revosti_read_page(N, 1, text, PAGE, other_table, sizeof other_table, other_marks, sizeof other_marks);
+    expect("reading Struck in line 2, refusal", revosti_refusal(answer), REVOSTI_PAGE_TEXT);
+    expect("  line", revosti_wrong_line(answer), 2);
+}
+
 /* Faulty input is refused, and changes nothing. `lines` is the length of the sheet that is marked already. */
 static void refusals(size_t lines)
 {
@@ -428,6 +450,7 @@ int main(void)
     convert();
     slips(lines);
     limits(lines);
+    wall_list();
     refusals(lines);
     return faults != 0;
 }

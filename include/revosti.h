@@ -1,7 +1,8 @@
 /*
  * Revosti for C: measure a board or read one from a TSPLIB text, make fresh marks, mark a strike sheet, ask one and confirm or withdraw it,
  * list standing pairs, check a tour; mark and list where lengths are known within limits only; tell how much an exchange, a move or a
- * crossing saves; convert sets of marks; show a marked sheet's slip to examiner and candidate.
+ * crossing saves; convert sets of marks; show a marked sheet's slip to examiner and candidate; write the wall list of edges page by page,
+ * and read it again.
  *
  * Link with librevosti.a (`rt staticlib revosti` writes target/staticlib/librevosti.a).
  *
@@ -19,12 +20,13 @@
  *   list         2 bytes a point: x then y of each pair. It takes any length: its places are its whole entries.
  *   view         REVOSTI_VIEW_BYTES bytes, what the examiner or the candidate sees of a slip. It may be longer: bytes past them stay.
  *   text         a TSPLIB text, lent whole. Any bytes of any length: no 0 need stand behind it, and one in it is a byte like others.
+ *                Or a page of the wall list, REVOSTI_LINE_BYTES bytes a line. One that is written may be lent more: bytes past it stay.
  *
  * All functions accept any buffers of any lengths and any numbers: faulty input gets a refusal number, the first that applies in the
- * order given at each function. A length that is no whole number of entries is a wrong size there, for all buffers but list and view. A
- * refused call changes nothing, but for a sheet that stops at a record. They touch no byte outside the lengths given, allocate nothing,
- * keep no state and always return. They use some 160 KB of stack, revosti_mark_between some 290 KB. A buffer that is written overlaps no
- * other while the call runs; buffers that are only read may overlap, and low and high may be the same.
+ * order given at each function. A length that is no whole number of entries is a wrong size there, for all buffers but list, view and
+ * text. A refused call changes nothing, but for a sheet that stops at a record. They touch no byte outside the lengths given, allocate
+ * nothing, keep no state and always return. They use some 160 KB of stack, revosti_mark_between some 290 KB. A buffer that is written
+ * overlaps no other while the call runs; buffers that are only read may overlap, and low and high may be the same.
  *
  * The life of a mark:
  *
@@ -70,6 +72,8 @@ enum {
     REVOSTI_MOST_RECORDS = 4000,
     REVOSTI_MOST_SPLITS = 6,
     REVOSTI_VIEW_BYTES = 6,
+    REVOSTI_PAGE_LINES = 60, /* lines on a page, but for the last, which has what is left */
+    REVOSTI_LINE_BYTES = 25, /* 24 columns and a newline */
     REVOSTI_STOPPED = 255, /* the first byte that the candidate sees of a sheet that stopped, until release */
 
     REVOSTI_EUC_2D = 1,   /* rule 1: the nearest whole number */
@@ -112,8 +116,10 @@ enum {
     REVOSTI_TEXT = 19,           /* not a TSPLIB text as they are read here; names the line */
     REVOSTI_SOMETHING_PENDING = 20, /* marking or asking while an edge is pending */
     REVOSTI_NOTHING_PENDING = 21,   /* confirming or withdrawing while none is */
-    REVOSTI_BUFFER = 22,            /* a view is lent fewer than six bytes */
-    REVOSTI_LIMITS = 25             /* a low length above its high one */
+    REVOSTI_BUFFER = 22,            /* a view is lent fewer than six bytes, a page fewer than its text has */
+    REVOSTI_LIMITS = 25,            /* a low length above its high one */
+    REVOSTI_PAGE = 26,              /* page number 0 or past the last */
+    REVOSTI_PAGE_TEXT = 27          /* a text that is not such a page; names its first wrong, missing or surplus line */
 };
 
 /*
@@ -299,9 +305,37 @@ uint64_t revosti_examiner_view(uint64_t slip, uint8_t *bytes, size_t bytes_len);
 uint64_t revosti_candidate_view(uint64_t slip, uint8_t *bytes, size_t bytes_len);
 
 /*
+ * The wall list: a line for each edge, in the order of edges, on pages of REVOSTI_PAGE_LINES lines, the last with what is left. Pages are
+ * numbered from 1; revosti_page_count gives how many there are, at most 269.
+ *
+ *   columns   1 to 3  5 to 7  9 to 15  17 to 24
+ *   hold      lower   higher  length   open, pending or struck
+ *
+ * Numbers are right-aligned without leading zeros, the word begins in column 17, blanks stand elsewhere, and a newline ends the line.
+ */
+
+/*
+ * Writes a page to the front of the text. Refusals in this order: 1, 2, 5, 6, 26; 22, the text is lent fewer bytes than the page has.
+ * Answer: the refusal number alone, or 65,536 * the page's length in bytes, which revosti_page_bytes takes out. It changes the text alone:
+ * bytes past the page stay, and a refused call changes nothing.
+ */
+uint64_t revosti_write_page(uint32_t n, const uint8_t *table, size_t table_len, const uint8_t *marks, size_t marks_len, uint32_t page,
+                            uint8_t *text, size_t text_len);
+
+/*
+ * Reads a page into a table and marks: sets the lengths and the marks of its edges, and no other. Refusals in this order: 1; 2, of the
+ * table; 6; 26; 27, if the text is not exactly a page as revosti_write_page writes it, with lengths up to REVOSTI_MOST_LENGTH and any
+ * marks. Other edges' lengths are not tested. Answer: 27 + 256 * line, another refusal number, or 0; revosti_wrong_line takes the line out.
+ * It is counted from 1: the first that is wrong or missing (cut, or without its newline), or one past the last where something follows
+ * it. A refused call changes nothing. Reading all pages of an instance, one after the other, yields its lengths and its marks.
+ */
+uint64_t revosti_read_page(uint32_t n, uint32_t page, const uint8_t *text, size_t text_len, uint8_t *table, size_t table_len,
+                           uint8_t *marks, size_t marks_len);
+
+/*
  * The parts of an answer, and of a slip. revosti_points is that of a TSPLIB text which is read, revosti_text_line the line of a refusal 19
- * (of any other refusal it is 0). revosti_refusal takes that of a saving, too: made a uint64_t it keeps its lowest byte, which is 0 where the
- * saving is below 0. revosti_saving is exact, since such an answer is a multiple of 65,536; of a refusal it is 0.
+ * (of any other refusal of such a text it is 0). revosti_refusal takes that of a saving, too: made a uint64_t it keeps its lowest byte,
+ * which is 0 where the saving is below 0. revosti_saving is exact, since such an answer is a multiple of 65,536; of a refusal it is 0.
  */
 static inline unsigned revosti_refusal(uint64_t answer) { return (unsigned)(answer & 0xff); }
 static inline unsigned revosti_record(uint64_t answer) { return (unsigned)(answer >> 8 & 0xffff); }
@@ -312,6 +346,8 @@ static inline uint64_t revosti_tour_length(uint64_t answer) { return answer >> 1
 static inline int revosti_tour_open(uint64_t answer) { return (int)(answer >> 8 & 1); }
 static inline uint32_t revosti_points(uint64_t answer) { return (uint32_t)(answer >> 16); }
 static inline uint64_t revosti_text_line(uint64_t answer) { return answer >> 8; }
+static inline size_t revosti_page_bytes(uint64_t answer) { return (size_t)(answer >> 16); }
+static inline unsigned revosti_wrong_line(uint64_t answer) { return (unsigned)(answer >> 8 & 0xff); }
 static inline int64_t revosti_saving(int64_t answer) { return answer / 65536; }
 
 /* How many edges n points have, and the place of the edge a-b (a and b different, in either order). */
@@ -320,6 +356,12 @@ static inline size_t revosti_place(uint32_t n, uint32_t a, uint32_t b)
 {
     uint32_t low = a < b ? a : b, high = a < b ? b : a;
     return (size_t)(low - 1) * (2 * n - low) / 2 + (high - low - 1);
+}
+
+/* How many pages the wall list of n points has. */
+static inline uint32_t revosti_page_count(uint32_t n)
+{
+    return (uint32_t)((revosti_edges(n) + REVOSTI_PAGE_LINES - 1) / REVOSTI_PAGE_LINES);
 }
 
 /* How many bytes the packed set of n points has, and the mark of the edge a-b in one (a and b different, from 1 to n, in either order). */
