@@ -26,6 +26,9 @@ unsigned refusal(int64_t answer);
 int released(uint64_t slip);
 uint32_t points(uint64_t answer);
 uint64_t line(uint64_t answer);
+uint32_t pages(uint32_t n);
+size_t page_bytes(uint64_t answer);
+unsigned wrong_line(uint64_t answer);
 size_t size(uint32_t n) { return revosti_marks_size(n); }
 unsigned mark(uint32_t n, const uint8_t *marks, uint32_t a, uint32_t b) { return revosti_mark_of(n, marks, a, b); }
 int64_t saving(int64_t answer) { return revosti_saving(answer); }
@@ -33,6 +36,9 @@ unsigned refusal(int64_t answer) { return revosti_refusal((uint64_t)answer); }
 int released(uint64_t slip) { return revosti_is_released(slip); }
 uint32_t points(uint64_t answer) { return revosti_points(answer); }
 uint64_t line(uint64_t answer) { return revosti_text_line(answer); }
+uint32_t pages(uint32_t n) { return revosti_page_count(n); }
+size_t page_bytes(uint64_t answer) { return revosti_page_bytes(answer); }
+unsigned wrong_line(uint64_t answer) { return revosti_wrong_line(answer); }
 #ifdef __cplusplus
 }
 #endif
@@ -46,10 +52,10 @@ def compiled(folder, *words):
     second.write_text('#include "revosti.h"\n')
     subprocess.run([*words, first, second, *STRICT, "-I", ROOT / "include", "-o", out], check=True)
     functions = ctypes.CDLL(str(out))
-    functions.size.restype = ctypes.c_size_t
+    functions.size.restype = functions.page_bytes.restype = ctypes.c_size_t
     functions.saving.restype = ctypes.c_int64
     functions.saving.argtypes = functions.refusal.argtypes = (ctypes.c_int64,)
-    functions.released.argtypes = (ctypes.c_uint64,)
+    functions.released.argtypes = functions.page_bytes.argtypes = functions.wrong_line.argtypes = (ctypes.c_uint64,)
     functions.points.restype, functions.line.restype = ctypes.c_uint32, ctypes.c_uint64
     functions.points.argtypes = functions.line.argtypes = (ctypes.c_uint64,)
     return functions
@@ -95,6 +101,15 @@ class Inline:
             self.assertEqual((self.functions.refusal(ctypes.c_int64(answer).value), self.functions.line(answer)), (19, line))
         for number in (1, 2, 4, 5):
             self.assertEqual((self.functions.refusal(number), self.functions.line(number)), (number, 0))
+
+    def test_pages(self):
+        for n in range(4, 181):
+            self.assertEqual(self.functions.pages(n), len(range(0, n * (n - 1) // 2, 60)))
+        for size in (0, 25, 1475, 1500):
+            self.assertEqual((self.functions.page_bytes(65536 * size), self.functions.refusal(65536 * size)), (size, 0))
+        for line in (1, 2, 60, 61):
+            answer = 27 + 256 * line
+            self.assertEqual((self.functions.refusal(answer), self.functions.wrong_line(answer)), (27, line))
 
     def test_refusal_of_other_answers(self):
         for answer, number in ((21, 21), (18, 18), (16 + 256 * 3, 16), (14 + 256 * 4000 + 16_777_216 * 7, 14), (65536 * 40 + 256, 0)):

@@ -20,7 +20,7 @@ KEYS = {1: "4 to 180", 2: "not 2n numbers", 3: "outside 1 to 5", 4: "above 1,000
         14: "next standing one", 15: "edge or centres break", 16: "No labelling",
         17: "each point from 1 to n exactly once", 18: "fewer than twice as many places",
         19: "no TSPLIB text", 20: "Something is pending", 21: "Nothing is pending", 22: "a view has six bytes",
-        25: "A low length is above its high one"}
+        25: "A low length is above its high one", 26: "page number is 0", 27: "not such a page"}
 
 
 def told(records, refusal, record, struck=(), **file):
@@ -70,7 +70,7 @@ class Numbers(unittest.TestCase):
 
     def test_unknown_number(self):
         for number in (23, 24, 40):
-            self.assertIn("not one of 1 to 22 and 25", told(SQUARE_RECORDS, number, 1))
+            self.assertIn("not one of 1 to 22 and 25 to 27", told(SQUARE_RECORDS, number, 1))
 
     def test_record_that_the_sheet_has_not(self):
         self.assertIn("Record 9 is at fault, but the sheet has 2 records.",

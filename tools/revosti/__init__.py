@@ -22,12 +22,14 @@ new_slip, new_slip_between
 release      the slip, released
 examiner_view, candidate_view
              the six bytes that each of them sees of a slip
+write_page   a page of the wall list, 60 edges a page, as text
+read_page    a page's lengths and marks again; `page_count` gives how many pages there are
 
 A board has n points, 4 to 180. A table is one length an edge, in the order 1-2, 1-3, .., 1-n, 2-3, ..; `place` gives the place of an edge.
 Marks are a packed set in a bytearray, two bits an edge in the same order, four edges a byte: `mark_of` reads the mark of an edge (OPEN,
 PENDING or STRUCK), `marks_size` gives the bytes of a set. A byte set has a byte an edge; only pack_marks and unpack_marks take and give it.
 A sheet is a list of records of eight numbers: kind, a, b, u, v, c, d, next. A slip is a number. A TSPLIB text is bytes
-(`Path("board.tsp").read_bytes()`). docs/RULES.md has the rules, docs/FORMATS.md the text.
+(`Path("board.tsp").read_bytes()`), and so is a page. docs/RULES.md has the rules, docs/FORMATS.md the texts.
 
 Faulty input raises a Refusal, and a refused call changes nothing, but for a sheet that stops at a record: the strikes of the lines accepted
 before stay. A number that does not fit its format (32 bits for n, rule, coordinates and lengths, 64 for a slip, 16 for all others) is an OverflowError,
@@ -40,10 +42,12 @@ from .library import NoLibrary
 from .operations import (LEAST_POINTS, MOST_POINTS, OPEN, PENDING, STRUCK, Instance, Tour, ask_sheet, check_tour, confirm, crossing_saving,
                          exchange_saving, fresh_marks, list_between, list_pairs, mark_between, mark_of, mark_sheet, marks_size, measure,
                          move_saving, pack_marks, place, read_tsplib, tsplib_points, unpack_marks, withdraw)
+from .pages import LINE_BYTES, PAGE_LINES, page_count, read_page, write_page
 from .refusal import Refusal, meaning
 from .slips import STOPPED, candidate_view, examiner_view, new_slip, new_slip_between, release
 
-__all__ = ["Instance", "LEAST_POINTS", "MOST_POINTS", "NoLibrary", "OPEN", "PENDING", "Refusal", "STOPPED", "STRUCK", "Tour", "ask_sheet",
-           "candidate_view", "check_tour", "confirm", "crossing_saving", "examiner_view", "exchange_saving", "fresh_marks",
-           "list_between", "list_pairs", "mark_between", "mark_of", "mark_sheet", "marks_size", "meaning", "measure", "move_saving",
-           "new_slip", "new_slip_between", "pack_marks", "place", "read_tsplib", "release", "tsplib_points", "unpack_marks", "withdraw"]
+__all__ = ["Instance", "LEAST_POINTS", "LINE_BYTES", "MOST_POINTS", "NoLibrary", "OPEN", "PAGE_LINES", "PENDING", "Refusal", "STOPPED", "STRUCK",
+           "Tour", "ask_sheet", "candidate_view", "check_tour", "confirm", "crossing_saving", "examiner_view", "exchange_saving",
+           "fresh_marks", "list_between", "list_pairs", "mark_between", "mark_of", "mark_sheet", "marks_size", "meaning", "measure",
+           "move_saving", "new_slip", "new_slip_between", "pack_marks", "page_count", "place", "read_page", "read_tsplib", "release",
+           "tsplib_points", "unpack_marks", "withdraw", "write_page"]

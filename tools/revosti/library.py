@@ -33,6 +33,8 @@ ARGUMENTS = {
     "revosti_release": (LONG,),
     "revosti_examiner_view": (LONG, *BUFFER),
     "revosti_candidate_view": (LONG, *BUFFER),
+    "revosti_write_page": (WORD, *BUFFER, *BUFFER, WORD, *BUFFER),
+    "revosti_read_page": (WORD, WORD, *BUFFER, *BUFFER, *BUFFER),
 }
 SAVINGS = {  # their answers have a sign
     "revosti_exchange_saving": (WORD, *BUFFER, *[HALF] * 4),

@@ -26,19 +26,21 @@ REFUSALS = {
     19: "The text is no TSPLIB text as they are read here (docs/FORMATS.md).",
     20: "Something is pending: confirm or withdraw it first.",
     21: "Nothing is pending: there is nothing to confirm or withdraw.",
-    22: "The buffer is too short: a view has six bytes.",
+    22: "The buffer is too short: a view has six bytes, a page 25 a line.",
     25: "A low length is above its high one.",
+    26: "The page number is 0 or past the last.",
+    27: "The text is not such a page.",
 }
 
 
 def meaning(number):
     """A refusal's meaning."""
-    return REFUSALS.get(number, "This number is not one of 1 to 22 and 25.")
+    return REFUSALS.get(number, "This number is not one of 1 to 22 and 25 to 27.")
 
 
 class Refusal(Exception):
-    """A call that is refused: the number, the record at fault (0 where none is), the lines of a sheet that are accepted before it, and of
-    a TSPLIB text the line at fault (0 but for 19)."""
+    """A call that is refused: the number, the record at fault (0 where none is), the lines of a sheet that are accepted before it, and the
+    line at fault of a TSPLIB text or a page (0 but for 19 and 27)."""
 
     def __init__(self, number, record=0, lines=0, text_line=0):
         super().__init__(number, record, lines, text_line)

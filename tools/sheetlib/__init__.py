@@ -12,6 +12,7 @@ archive  packed sets in files: handing in over one, settling, the two conversion
 board    lengths, K and standing pairs
 saving   what a rule takes out and puts in, in words
 between  lengths known within limits: marking over two boards, and standing pairs in words
+pages    the wall list of a board, and its marks again
 slip     what examiner and candidate see of a marked sheet, in words
 words    numbers in sentences
 fault    what a file itself shows about its refusal

@@ -4,7 +4,7 @@ import argparse
 import sys
 from pathlib import Path
 
-from revosti import NoLibrary, Refusal, ask_sheet, confirm, release, withdraw
+from revosti import LEAST_POINTS, MOST_POINTS, NoLibrary, Refusal, ask_sheet, confirm, release, withdraw
 
 from .answer import NoAnswer, ask
 from .archive import bytes_of, hand_in, packed_of, settle, start
@@ -12,6 +12,7 @@ from .between import BadHigh, marking, tell_pairs
 from .draw import BadTour, draw, read_tour
 from .explain import explain, kept
 from .marks import BadMarks, marks_left, packed_points, read_marks, show
+from .pages import BadPages, marks_of, wall_list
 from .parts import MAX_16, join, split
 from .read import Sheet, pack, pack_beside
 from .saving import SAVINGS, tell
@@ -40,6 +41,8 @@ def main(arguments=None):
         return complain(f"{'--marks' if options.marks else name_of(options.file)}: {error}", 2)
     except BadHigh as error:
         return complain(f"--high: {error}", 1)
+    except BadPages as error:
+        return complain(f"{name_of(options.file)}: {error}", 2)
     except Refusal as error:
         return complain(f"{error} {kept(error.lines)}" if error.record else str(error), 1)
     except (NoAnswer, NoLibrary) as error:
@@ -61,7 +64,7 @@ def parser():
     """All commands and their options."""
     top = argparse.ArgumentParser(
         prog="sheet", description="Write, read, explain, draw and hand in strike sheets; tell savings and standing pairs; show slips "
-                                  "and sets of marks, convert sets.")
+                                  "and sets of marks, convert sets; print the wall list of edges.")
     commands = top.add_subparsers(required=True, metavar="COMMAND")
     add_sheets(commands)
     add_saving(commands)
@@ -69,6 +72,7 @@ def parser():
     add_slip(commands)
     add_hand_in(commands)
     add_sets(commands)
+    add_pages(commands)
     return top
 
 
@@ -181,6 +185,23 @@ def add_sets(commands):
     add(commands, "show-marks", run_show, "a packed set as text, a line an edge")
     add(commands, "pack-marks", run_pack_marks, "a byte set to a packed set")
     add(commands, "unpack-marks", run_unpack_marks, "a packed set to a byte set")
+
+
+def add_pages(commands):
+    """The commands for the wall list."""
+    command = add(commands, "pages", run_pages, "the wall list of a board: a line an edge, 60 lines a page", files=False)
+    command.add_argument("file", metavar="BOARD", help="a sheet of either form, - for standard input; its records are not read")
+    command.add_argument("--marks", metavar="MARKS", help="the packed set in this file, not fresh marks")
+    command.add_argument("--form", choices=("text", "binary"), help="do not detect the form")
+    command = add(commands, "read-pages", run_read_pages, "a wall list to a packed set")
+    command.add_argument("--points", metavar="N", type=board_points, help="how many points the list is of; its size tells it otherwise")
+
+
+def board_points(text):
+    """How many points a board has, on the command line."""
+    if not (text.isascii() and text.isdigit() and len(text) <= 3 and LEAST_POINTS <= int(text) <= MOST_POINTS):
+        raise argparse.ArgumentTypeError(f'expected {LEAST_POINTS} to {MOST_POINTS} points, found "{text}"')
+    return int(text)
 
 
 def add(commands, name, run, text, files=True):
@@ -343,6 +364,16 @@ def run_show(options):
     data = read(options)
     n = packed_points(data)
     write(options, show(n, read_marks(data, n)).encode("ascii"))
+
+
+def run_pages(options):
+    """sheet pages"""
+    write(options, wall_list(load(options).parts, options.marks))
+
+
+def run_read_pages(options):
+    """sheet read-pages"""
+    write(options, marks_of(read(options), options.points))
 
 
 def run_pack_marks(options):

@@ -1,0 +1,58 @@
+"""The wall list of a board: all its edge pages one after the other, and read again (01, The wall list).
+
+Pages are what the module `revosti` writes and reads; how many points a list is of, its size tells.
+"""
+
+from pathlib import Path
+
+from revosti import LEAST_POINTS, LINE_BYTES, MOST_POINTS, PAGE_LINES, Refusal, fresh_marks, page_count, read_page, write_page
+
+from .archive import measured
+from .marks import edges, read_marks
+from .words import counted
+
+
+class BadPages(Exception):
+    """A text that is no wall list: its size, or a line of one of its pages."""
+
+
+def wall_list(parts, file=None):
+    """All pages of a sheet's board, with the marks of the packed set in a file, or fresh ones."""
+    table = measured(parts)
+    marks = fresh_marks(parts.n) if file is None else Path(file).read_bytes()
+    read_marks(marks, parts.n)
+    return b"".join(write_page(parts.n, table, marks, page) for page in range(1, page_count(parts.n) + 1))
+
+
+def marks_of(text, n=None):
+    """The packed set of a wall list, of n points where n is given."""
+    n = points_of(text) if n is None else n
+    every, marks, last = edges(n), fresh_marks(n), page_count(n)
+    table, size = [0] * len(every), PAGE_LINES * LINE_BYTES
+    for page in range(1, last + 1):
+        start = size * (page - 1)
+        part = text[start:start + size] if page < last else text[start:]
+        try:
+            read_page(n, page, part, table, marks)
+        except Refusal as error:
+            on_page = every[PAGE_LINES * (page - 1):PAGE_LINES * page]
+            raise BadPages(f"page {page}, line {error.text_line}: {fault(part, on_page, error.text_line)}") from error
+    return marks
+
+
+def fault(page, on_page, line):
+    """What is wrong with a line of a page that has these edges, in words."""
+    if line > len(on_page):
+        return f"expected the end after {counted(len(on_page), 'line')}, found {counted(len(page) - LINE_BYTES * len(on_page), 'byte')} more"
+    (a, b), found = on_page[line - 1], page[LINE_BYTES * (line - 1):LINE_BYTES * line]
+    shown = ascii(found.decode("latin-1")) if found else "the end"
+    return f"expected the line of {a}-{b} with a length up to 2,000,000, found {shown}"
+
+
+def points_of(text):
+    """How many points a wall list is of: no two numbers of points have as many edges."""
+    for n in range(LEAST_POINTS, MOST_POINTS + 1):
+        if len(edges(n)) * LINE_BYTES == len(text):
+            return n
+    raise BadPages(f"expected the wall list of {LEAST_POINTS} to {MOST_POINTS} points, {LINE_BYTES} bytes an edge, found {counted(len(text), 'byte')}, "
+                   f"the size of none; with --points the page and the line are told")
