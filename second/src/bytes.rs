@@ -4,7 +4,7 @@ use crate::marking::{self, Marked};
 use crate::refusal::Refusal;
 use crate::slip::{self, Slip, View};
 use crate::tsplib::{self, TextFault};
-use crate::{lengths, listing, marks, packed, saving, tour};
+use crate::{lengths, listing, marks, packed, page, saving, tour};
 
 /// 32-bit entries; a length that is no whole number of entries becomes a wrong size.
 pub fn entries(bytes: &[u8]) -> Vec<u32> {
@@ -154,6 +154,23 @@ pub fn move_saving(n: u32, table: &[u8], cxyuv: [u16; 5]) -> i64 {
 /// The saving of a crossing for C.
 pub fn crossing_saving(n: u32, table: &[u8], pqrsxyzw: [u16; 8]) -> i64 {
     saving_number(saving::crossing_saving(n, &entries(table), pqrsxyzw))
+}
+
+/// *Write a page* for C: the refusal number, or 65,536 × the text's length.
+pub fn write_page(n: u32, table: &[u8], marks: &[u8], page: u32, text: &mut [u8]) -> u64 {
+    number(page::write_page(n, &entries(table), marks, page, text).map(|size| 65_536 * size as u64))
+}
+
+/// *Read a page* for C: 27 + 256 × line, another refusal number, or 0. On a refusal the table keeps its bytes.
+pub fn read_page(n: u32, page: u32, text: &[u8], table: &mut [u8], marks: &mut [u8]) -> u64 {
+    let mut lengths = entries(table);
+    match page::read_page(n, page, text, &mut lengths, marks) {
+        Err((refusal, line)) => u64::from(refusal.number()) + 256 * line as u64,
+        Ok(()) => {
+            write_entries(&lengths, table);
+            0
+        }
+    }
 }
 
 /// Bit 40 of a slip.

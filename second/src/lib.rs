@@ -14,6 +14,7 @@ pub mod listing;
 pub mod marking;
 pub mod marks;
 pub mod packed;
+pub mod page;
 pub mod pairs;
 pub mod program;
 pub mod refusal;

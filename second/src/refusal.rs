@@ -27,6 +27,8 @@ pub enum Refusal {
     NothingPending = 21,
     Buffer = 22,
     LowAboveHigh = 25,
+    Page = 26,
+    PageText = 27,
 }
 
 impl Refusal {

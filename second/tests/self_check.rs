@@ -262,6 +262,34 @@ fn texts_are_demanded() {
     }
 }
 
+/// Before the first case no page has been met.
+#[test]
+fn pages_are_demanded() {
+    let missing = Coverage::default().missing();
+    let demanded = |unmet: String| assert!(missing.contains(&unmet), "{unmet}");
+    (4..=20).for_each(|n| demanded(format!("pages of {n} points")));
+    (1..=25).for_each(|column| demanded(format!("pages damaged in column {column}")));
+    [0, 1, 2, 5, 6, 22, 26].iter().for_each(|number| demanded(format!("write a page: {number}")));
+    [0, 1, 2, 6, 26, 27].iter().for_each(|number| demanded(format!("read a page: {number}")));
+    for unmet in [
+        "only pages",
+        "first pages of several",
+        "last pages of several",
+        "last pages of 60 lines",
+        "pages refused by 22 for one byte",
+        "page 0",
+        "the page past the last",
+        "the page past a last one of 60 lines",
+        "pages without their last line",
+        "pages that end within a line",
+        "pages without their last newline",
+        "pages with a line too many",
+        "pages with a byte too many",
+    ] {
+        demanded(unmet.to_string());
+    }
+}
+
 #[test]
 fn texts_alike_and_everything_met() {
     let naive = Naive::default();
@@ -442,4 +470,12 @@ fn slips_of_both_in_texts_are_found() {
         let laws = ["text as its numbers", "text by its completions", "text, refused", "text and its points"];
         assert!(laws.contains(&what), "{slip:?}: {what}");
     }
+}
+
+/// Paper 12's laws: what a page leaves, and that it is read again.
+#[test]
+fn slips_of_both_are_found_by_the_laws_of_pages() {
+    assert_eq!(found_in_both(Slip::ShortPageWritten), "write a page, refused");
+    assert_eq!(found_in_both(Slip::PastPageCleared), "write a page, bytes past it");
+    assert_eq!(found_in_both(Slip::NextEdgeChanged), "read a page, its own edges");
 }

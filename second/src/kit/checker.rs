@@ -43,6 +43,10 @@ pub trait Checker {
     fn read_tsplib(&self, text: &[u8], table: &mut [u8]) -> u64;
     /// 19 plus 256 × its line, or 65,536 × n.
     fn tsplib_points(&self, text: &[u8]) -> u64;
+    /// The refusal number, or 65,536 × the text's length.
+    fn write_page(&self, n: u32, table: &[u8], marks: &[u8], page: u32, text: &mut [u8]) -> u64;
+    /// 27 + 256 × line, another refusal number, or 0.
+    fn read_page(&self, n: u32, page: u32, text: &[u8], table: &mut [u8], marks: &mut [u8]) -> u64;
     /// What `mark` prints for a file.
     fn program(&self, file: &[u8]) -> Vec<u8>;
     /// Whether every program text is compared, or a sample only because each starts a process.
@@ -137,6 +141,14 @@ impl Checker for Second {
 
     fn tsplib_points(&self, text: &[u8]) -> u64 {
         crate::bytes::tsplib_points(text)
+    }
+
+    fn write_page(&self, n: u32, table: &[u8], marks: &[u8], page: u32, text: &mut [u8]) -> u64 {
+        crate::bytes::write_page(n, table, marks, page, text)
+    }
+
+    fn read_page(&self, n: u32, page: u32, text: &[u8], table: &mut [u8], marks: &mut [u8]) -> u64 {
+        crate::bytes::read_page(n, page, text, table, marks)
     }
 
     fn program(&self, file: &[u8]) -> Vec<u8> {

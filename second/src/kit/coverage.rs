@@ -4,6 +4,7 @@ use std::fmt;
 
 use super::limits_met::LimitsMet;
 use super::moves_met::MovesMet;
+use super::pages_met::PagesMet;
 use super::rules_met::RulesMet;
 use super::savings_met::SavingsMet;
 use super::sets_met::SetsMet;
@@ -32,6 +33,8 @@ pub enum Operation {
     ListBetween,
     ReadTsplib,
     TsplibPoints,
+    WritePage,
+    ReadPage,
     Program,
 }
 
@@ -58,18 +61,20 @@ const DEMANDS: [(Operation, &str, &[usize]); Operation::COUNT] = [
     (ListBetween, "list between", &[0, 1, 2, 5, 25, 6, 11, 12, 18]),
     (ReadTsplib, "read a text", &[0, 1, 2, 4, 5, 19]),
     (TsplibPoints, "points of a text", &[0, 19]),
+    (WritePage, "write a page", &[0, 1, 2, 5, 6, 26, 22]),
+    (ReadPage, "read a page", &[0, 1, 2, 6, 26, 27]),
     (Program, "program", &[0, 1, 3, 4, 7, 8, 9, 10, 11, 12, 13, 14, 15, 16]),
 ];
 
 impl Operation {
-    pub const COUNT: usize = 20;
+    pub const COUNT: usize = 22;
 
     pub fn name(self) -> &'static str {
         DEMANDS.iter().find(|demand| demand.0 == self).unwrap().1
     }
 }
 
-const NUMBERS: usize = 26;
+const NUMBERS: usize = 28;
 
 /// Outcomes that a refusal number does not tell apart.
 #[derive(Clone, Copy, Debug, PartialEq, Eq)]
@@ -216,6 +221,7 @@ pub struct Coverage {
     pub slips: SlipsMet,
     pub limits: LimitsMet,
     pub texts: TextsMet,
+    pub pages: PagesMet,
     /// Accepted lines by the number of splits one inside another, from 1.
     depths: [u64; Sheet::MOST_SPLITS + 1],
     /// Accepted lines by the size of the board.
@@ -239,6 +245,7 @@ impl Default for Coverage {
             slips: SlipsMet::default(),
             limits: LimitsMet::default(),
             texts: TextsMet::default(),
+            pages: PagesMet::default(),
             depths: [0; Sheet::MOST_SPLITS + 1],
             sizes: [0; SIZES.len()],
         }
@@ -282,6 +289,7 @@ impl Coverage {
         missing.extend(self.slips.missing());
         missing.extend(self.limits.missing());
         missing.extend(self.texts.missing());
+        missing.extend(self.pages.missing());
         let unmet = (1..=Sheet::MOST_SPLITS).filter(|&depth| self.depths[depth] == 0);
         missing.extend(unmet.map(|depth| format!("accepted line at depth {depth}")));
         let unmet = SIZES.iter().zip(self.sizes).filter(|&(_, lines)| lines == 0);
@@ -329,7 +337,7 @@ impl fmt::Display for Coverage {
         }
         writeln!(f, "measure: {}\nprogram: {}\n{}", self.measure_rules, self.program_rules, self.sets)?;
         write!(f, "{}{}\n{}{}", self.savings, self.moves, self.slips, self.limits)?;
-        writeln!(f, "{}", self.texts)?;
+        write!(f, "{}\n{}", self.texts, self.pages)?;
         write!(f, "accepted lines by depth:")?;
         for depth in 1..=Sheet::MOST_SPLITS {
             write!(f, " {depth}: {}", self.depths[depth])?;

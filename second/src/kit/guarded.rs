@@ -107,6 +107,14 @@ impl<C: Checker> Checker for Guarded<C> {
         self.0.tsplib_points(text)
     }
 
+    fn write_page(&self, n: u32, table: &[u8], marks: &[u8], page: u32, text: &mut [u8]) -> u64 {
+        lend(text, |text| self.0.write_page(n, table, marks, page, text))
+    }
+
+    fn read_page(&self, n: u32, page: u32, text: &[u8], table: &mut [u8], marks: &mut [u8]) -> u64 {
+        lend(table, |table| lend(marks, |marks| self.0.read_page(n, page, text, table, marks)))
+    }
+
     fn program(&self, file: &[u8]) -> Vec<u8> {
         self.0.program(file)
     }

@@ -17,6 +17,7 @@ pub mod limits_met;
 pub mod moved;
 pub mod moves_met;
 pub mod naive;
+pub mod pages_met;
 #[cfg(feature = "revosti")]
 pub mod revosti;
 pub mod rng;

@@ -104,6 +104,26 @@ extern "C" {
     fn revosti_candidate_view(slip: u64, bytes: *mut u8, bytes_len: usize) -> u64;
     fn revosti_read_tsplib(text: *const u8, text_len: usize, table: *mut u8, table_len: usize) -> u64;
     fn revosti_tsplib_points(text: *const u8, text_len: usize) -> u64;
+    fn revosti_write_page(
+        n: u32,
+        table: *const u8,
+        table_len: usize,
+        marks: *const u8,
+        marks_len: usize,
+        page: u32,
+        text: *mut u8,
+        text_len: usize,
+    ) -> u64;
+    fn revosti_read_page(
+        n: u32,
+        page: u32,
+        text: *const u8,
+        text_len: usize,
+        table: *mut u8,
+        table_len: usize,
+        marks: *mut u8,
+        marks_len: usize,
+    ) -> u64;
 }
 
 /// Revosti; `mark` is the program's path.
@@ -251,6 +271,36 @@ impl Checker for Revosti {
 
     fn tsplib_points(&self, text: &[u8]) -> u64 {
         unsafe { revosti_tsplib_points(text.as_ptr(), text.len()) }
+    }
+
+    fn write_page(&self, n: u32, table: &[u8], marks: &[u8], page: u32, text: &mut [u8]) -> u64 {
+        unsafe {
+            revosti_write_page(
+                n,
+                table.as_ptr(),
+                table.len(),
+                marks.as_ptr(),
+                marks.len(),
+                page,
+                text.as_mut_ptr(),
+                text.len(),
+            )
+        }
+    }
+
+    fn read_page(&self, n: u32, page: u32, text: &[u8], table: &mut [u8], marks: &mut [u8]) -> u64 {
+        unsafe {
+            revosti_read_page(
+                n,
+                page,
+                text.as_ptr(),
+                text.len(),
+                table.as_mut_ptr(),
+                table.len(),
+                marks.as_mut_ptr(),
+                marks.len(),
+            )
+        }
     }
 
     /// Runs the program. It may stop reading early, so a broken pipe is no failure.

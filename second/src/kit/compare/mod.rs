@@ -5,6 +5,7 @@ mod limits;
 mod looks;
 mod moves;
 mod packing;
+mod pages;
 mod readings;
 mod savings;
 mod slips;
@@ -35,7 +36,7 @@ type Checked = Result<(), Difference>;
 pub struct Comparison<'a> {
     one: &'a dyn Checker,
     other: &'a dyn Checker,
-    /// A third program, for savings, for slips, for texts and for packed sets, which it reads into byte sets.
+    /// A third program, for savings, for slips, for texts, for pages and for packed sets, which it reads into byte sets.
     naive: &'a dyn Checker,
     seed: u64,
     case: u64,
@@ -90,7 +91,7 @@ impl<'a> Comparison<'a> {
     }
 
     /// One instance with its sheets, listings, tours, files and savings; one whose lengths are known within limits; slips;
-    /// and texts.
+    /// texts; and the pages of a board.
     pub fn run_case(&mut self, case: u64) -> Checked {
         self.case = case;
         let mut rng = Rng::new(self.seed, case);
@@ -110,7 +111,8 @@ impl<'a> Comparison<'a> {
             self.limits(&mut rng)?;
         }
         self.slips()?;
-        self.texts(case)
+        self.texts(case)?;
+        self.pages()
     }
 
     /// Damaged sheets on copies of the marks; noise, lines for edges that are kept and the valid sheet on the marks

@@ -6,6 +6,7 @@
 
 pub mod language;
 mod limits;
+mod pages;
 mod reader;
 mod rules;
 mod savings;
@@ -387,6 +388,14 @@ impl Checker for Naive {
 
     fn tsplib_points(&self, text: &[u8]) -> u64 {
         number(self.points(text).map(|n| 65_536 * n))
+    }
+
+    fn write_page(&self, n: u32, table: &[u8], marks: &[u8], page: u32, text: &mut [u8]) -> u64 {
+        number(self.page_written(n, table, marks, page, text))
+    }
+
+    fn read_page(&self, n: u32, page: u32, text: &[u8], table: &mut [u8], marks: &mut [u8]) -> u64 {
+        number(self.page_read(n, page, text, table, marks))
     }
 
     fn program(&self, file: &[u8]) -> Vec<u8> {

@@ -224,10 +224,26 @@ pub enum Slip {
     NewlineMissing,
     /// Anything behind EOF.
     BehindEof,
+    /// Page 0 is taken for the first.
+    PageZeroFirst,
+    /// A page refused by 22 has written the bytes that fit.
+    ShortPageWritten,
+    /// A page clears the bytes past it.
+    PastPageCleared,
+    /// A length above the limit is read.
+    LongLengthRead,
+    /// A length with leading zeros is read.
+    LeadingZeroRead,
+    /// A line sets the edge behind its own.
+    NextEdgeChanged,
+    /// What follows the last line is not looked at.
+    SurplusPassed,
+    /// Surplus is told as the last line.
+    SurplusAsLast,
 }
 
 impl Slip {
-    pub const ALL: [Slip; 82] = [
+    pub const ALL: [Slip; 90] = [
         Slip::EqualShutsOut,
         Slip::EqualSaves,
         Slip::OneExchange,
@@ -310,6 +326,14 @@ impl Slip {
         Slip::LimitsAfterMarks,
         Slip::LowEntryUntested,
         Slip::HighEntryUntested,
+        Slip::PageZeroFirst,
+        Slip::ShortPageWritten,
+        Slip::PastPageCleared,
+        Slip::LongLengthRead,
+        Slip::LeadingZeroRead,
+        Slip::NextEdgeChanged,
+        Slip::SurplusPassed,
+        Slip::SurplusAsLast,
     ];
 
     /// Those of TSPLIB texts.
