@@ -1,6 +1,7 @@
 /*
  * The fuzzing target over the functions for C. An input is a file of the program `mark`: rule, n, coordinates, records. Its last
- * 16 bytes are read as the eight points of a saving, too, its last 8 as a slip, and all of it as a TSPLIB text.
+ * 16 bytes are read as the eight points of a saving, too, its last 8 as a slip, its last 4 as damage to a page, and all of it as a TSPLIB
+ * text.
  *
  * Every buffer ends at a page that must not be touched, so a read or write past its end is a crash. The archive carries no
  * instrumentation; instead what a call answers (refusal, record, lines, strikes) is written into AFL's map, so that inputs with a new
@@ -610,6 +611,44 @@ static void try_text(const uint8_t *file, size_t size)
     seen(16, revosti_refusal(points), line < 200 && revosti_refusal(points) ? (unsigned)line : 200);
 }
 
+/* The last bytes of the list read as a page into a table of other bytes and marks all struck: what it answers, and that only a page that
+ * is read changes them, at its own edges. */
+static uint64_t read_page(uint32_t n, uint32_t page, size_t size, size_t edges)
+{
+    size_t first = (size_t)REVOSTI_PAGE_LINES * (page - 1), lines = size / REVOSTI_LINE_BYTES, len = packed(edges);
+    uint8_t *table = measured_end - 4 * edges, *left = settled_end - len;
+    memset(table, 0xa5, 4 * edges);
+    memset(left, 0, len);
+    uint64_t answer = revosti_read_page(n, page, list_end - size, size, table, 4 * edges, left, len);
+    for (size_t i = 0; i < edges; i++) {
+        if (answer == 0 && first <= i && i < first + lines) continue;
+        promise(get32(table + 4 * i) == 0xa5a5a5a5 && mark_of(left, i) == REVOSTI_STRUCK, "a page changes its own edges only, and none where it is refused");
+    }
+    return answer;
+}
+
+/* A page written into as many bytes as it has, and one less; read again; and with a byte of it changed. */
+static void try_page(uint32_t n, const uint8_t *table, size_t table_len, const uint8_t *marks, size_t edges, uint32_t page, uint32_t damage)
+{
+    size_t first = (size_t)REVOSTI_PAGE_LINES * (page - 1), most = REVOSTI_PAGE_LINES * REVOSTI_LINE_BYTES;
+    uint64_t answer = revosti_write_page(n, table, table_len, marks, packed(edges), page, list_end - most, most);
+    unsigned refusal = revosti_refusal(answer);
+    seen(20, refusal, (unsigned)(revosti_page_bytes(answer) / 100));
+    if (refusal || table_len != 4 * edges) return;
+    size_t size = revosti_page_bytes(answer), lines = size / REVOSTI_LINE_BYTES;
+    promise(size == REVOSTI_LINE_BYTES * lines && lines == (edges - first < REVOSTI_PAGE_LINES ? edges - first : REVOSTI_PAGE_LINES), "60 lines, or what is left");
+    promise(revosti_write_page(n, table, table_len, marks, packed(edges), page, list_end - size + 1, size - 1) == REVOSTI_BUFFER, "22 for one byte");
+    promise(revosti_write_page(n, table, table_len, marks, packed(edges), page, list_end - size, size) == answer, "its own size is enough");
+    promise(read_page(n, page, size, edges) == 0, "what is written is read");
+    const uint8_t *lengths = measured_end - 4 * edges, *left = settled_end - packed(edges);
+    for (size_t i = first; i < first + lines; i++)
+        promise(memcmp(lengths + 4 * i, table + 4 * i, 4) == 0 && mark_of(left, i) == mark_of(marks, i), "its lengths and marks are those that were written");
+    list_end[-(ptrdiff_t)size + (ptrdiff_t)(damage % size)] = (uint8_t)(damage >> 24);
+    answer = read_page(n, page, size, edges);
+    promise(answer == 0 || answer == REVOSTI_PAGE_TEXT + 256 * (damage % size / REVOSTI_LINE_BYTES + 1), "27 with the line that was changed");
+    seen(21, revosti_refusal(answer), (unsigned)(damage % size % REVOSTI_LINE_BYTES));
+}
+
 static void run(const uint8_t *file, size_t size)
 {
     try_text(file, size);
@@ -666,6 +705,7 @@ static void run(const uint8_t *file, size_t size)
     if (size >= 16) try_savings(n, table + (4 * edges - table_len), table_len, file + size - 16);
     try_slip(answer, 6 + rule % 3);
     try_slip(get64(file + size - 8), size % 9);
+    try_page(n, table + (4 * edges - table_len), table_len, marks, edges, 1 + (rule >> 16) % 4, get32(file + size - 4));
     if (n == points && n >= 2) try_tour(n, table, 4 * edges, marks, edges);
 }
 
