@@ -68,7 +68,7 @@ class Read(unittest.TestCase):
             points = [(r.randint(0, 1_000_000), r.randint(0, 1_000_000)) for _ in range(n)]
             data = write_board(Parts(rule, n, points, [], b"")).encode()
             self.assertEqual(revosti.read_tsplib(data), (n, revosti.measure(n, rule, points)))
-            self.assertEqual(read_board(data), (rule, n, points))
+            self.assertEqual(read_board(data), (rule, n, points, [], b""))
 
     def test_weights(self):
         r = random.Random(2)
@@ -168,7 +168,7 @@ class Damaged(unittest.TestCase):
             self.assertRegex(caught.exception.message, "^expected ")
             return False
         try:
-            rule, count, points = read_board(data)
+            rule, count, points, _, _ = read_board(data)
         except BadBoard as found:
             self.assertIn("EXPLICIT", found.message)
             return True
@@ -235,7 +235,7 @@ class Command(unittest.TestCase):
     def test_examples(self):
         for name in ("square.tsp", "square_weights.tsp"):
             self.assertEqual(revosti.read_tsplib((ROOT / "examples" / name).read_bytes()), (N, TABLE))
-        self.assertEqual(read_board((ROOT / "examples/square.tsp").read_bytes()), (1, N, POINTS))
+        self.assertEqual(read_board((ROOT / "examples/square.tsp").read_bytes()), (1, N, POINTS, [], b""))
 
 
 if __name__ == "__main__":

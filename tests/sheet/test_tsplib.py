@@ -1,4 +1,5 @@
-"""Boards in TSPLIB texts: packed, explained and drawn from, written, refused in words. Stand-ins answer for the library."""
+"""Boards in TSPLIB texts: packed, explained and drawn from, handed to the library, written, refused in words. Stand-ins answer for the
+library."""
 
 import tempfile
 import unittest
@@ -8,6 +9,7 @@ from unittest import mock
 
 from support import NINE, SQUARE_HEAD, SQUARE_POINTS, SQUARE_RECORDS, STANDIN, TOOLS, Run, binary
 
+from packing import packed
 from revosti import NoLibrary, Refusal
 from sheetlib.board import RULES
 from sheetlib.parts import Parts, join, split
@@ -146,10 +148,105 @@ class Refused(Board):
     def test_bad_use(self):
         for words in (("explain", "--board", "x", "--form", "binary"), ("draw", "--form", "text", "--board", "x"), ("pack", "--board"),
                       ("unpack", "--board", "x"), ("unpack", "--tsplib", "--records"), ("unpack", "--tsplib", "-n"),
-                      ("mark", "--board", "x", "--marks", "x")):
+                      ("mark", "--board", "x", "--form", "text", "--marks", "x"), ("slip", "--board", "x", "--form", "binary"),
+                      ("fresh", "--board", "x", "--marks", "x"), ("pages", "x", "--board", "x"), ("pairs", "x", 1, 2, 3, "--board", "x"),
+                      ("saving", "x", "move", 3, 1, 4, 1, 2, "--board", "x"), ("fresh", "x.tsp", "--form", "tsplib", "--marks", "x")):
             run = Run(*words)
             self.assertEqual((run.status, run.out), (2, b""), words)
             self.assertIn("usage: sheet", run.err)
+
+
+class Handed(Board):
+    """The commands that call the library, on a board's file and on a sheet beside one. The library is asked whether the text is one, then
+    for its table."""
+
+    def setUp(self):
+        super().setUp()
+        self.marks, self.sheet = self.board.with_name("a.marks"), self.board.with_name("a.txt")
+        self.marks.write_bytes(packed([1] * 6))
+        self.sheet.write_text(SQUARE_HEAD)
+        self.of_board = [("fresh", self.board, "--marks", self.marks), ("saving", self.board, "exchange", 1, 3, 2, 4),
+                         ("pairs", self.board, 1, 3, 2), ("pages", self.board)]
+        self.beside = [(command, "--board", self.board, *more) for command, *more in
+                       (("mark", "--marks", self.marks), ("ask", "--marks", self.marks), ("slip",))]
+        self.high = [("pairs", self.sheet, 1, 3, 2, "--high", self.board), ("mark", self.sheet, "--high", self.board, "--marks", self.marks)]
+
+    def test_each_fault(self):
+        for board, line, words in FAULTS:
+            self.board.write_bytes(board)
+            for command in (*self.of_board, *self.beside, *self.high):
+                with answered(line=line):
+                    run = Run(*command, data=LINES)
+                self.assertEqual((run.status, run.out, run.err), (2, b"", f"sheet: {self.board}, line {line}: {words}\n"), command)
+
+    def test_the_text_is_read(self):
+        for board in (text(NODES), text(WEIGHTS)):
+            self.board.write_bytes(board)
+            for command in (*self.of_board, *self.beside):
+                with answered(), mock.patch("sheetlib.archive.read_tsplib", side_effect=Refusal(5)) as read:
+                    run = Run(*command, data=LINES)
+                read.assert_called_once_with(board)
+                self.assertEqual((run.status, run.out), (1, b""))
+                self.assertTrue(run.err.startswith("sheet: Refused, number 5: "), run.err)
+
+    def test_a_refused_high_board(self):
+        self.board.write_bytes(text(WEIGHTS))
+        for command in self.high:
+            with (answered(), mock.patch("sheetlib.archive.measure", return_value=[10] * 6),
+                  mock.patch("sheetlib.archive.read_tsplib", side_effect=Refusal(5))):
+                run = Run(*command)
+            self.assertEqual((run.status, run.out), (1, b""))
+            self.assertTrue(run.err.startswith("sheet: --high: Refused, number 5: "), run.err)
+
+    def test_the_faulty_one_of_two_texts(self):
+        other = self.board.with_name("b.tsp")
+        for first, second, wrong in ((b"what\n", text(WEIGHTS), self.board), (text(WEIGHTS), b"what\n", other)):
+            self.board.write_bytes(first)
+            other.write_bytes(second)
+            for command in (("pairs", self.board, 1, 3, 2), ("mark", "--board", self.board, "--marks", self.marks)):
+                faulty = Refusal(19, text_line=1)
+                with mock.patch("sheetlib.tsplib.tsplib_points", side_effect=[faulty] if wrong == self.board else [4, faulty]):
+                    run = Run(*command, "--high", other, data=LINES)
+                self.assertEqual((run.status, run.out), (2, b""))
+                self.assertTrue(run.err.startswith(f"sheet: {wrong}, line 1: expected NAME"), run.err)
+
+    def test_the_name_tells(self):
+        for name in ("a", "a.txt", "a.tsp.txt", "tsp", "atsp", "a.TSP"):
+            file = self.board.with_name(name)
+            file.write_bytes(text(NODES))
+            run = Run("pages", file)
+            self.assertEqual((run.status, run.err), (2, f'sheet: {file}, line 1, column 1: expected "rule" or "bytes", found "NAME"\n'))
+        run = Run("pages", "-", data=text(NODES))
+        self.assertIn("sheet: standard input, line 1, column 1: ", run.err)
+
+    def test_the_form_overrules_the_name(self):
+        self.board.write_text(SQUARE_HEAD + "stroke\n")
+        for command in (*self.of_board, *self.high):
+            run = Run(*command, "--form", "text")
+            self.assertEqual((run.status, run.out), (2, b""))
+            self.assertTrue(run.err.startswith(f"sheet: {self.board}, line 7, column 1: expected "), run.err)
+
+    def test_a_bad_sheet(self):
+        self.board.write_bytes(text(WEIGHTS))
+        for data, words in ((SQUARE_HEAD.encode(), 'line 1, column 1: expected "strike", found "rule"; the board is that of --board'),
+                            (b"\n  pair 1-2", 'line 2, column 3: expected "strike", found "pair"')):
+            for command in self.beside:
+                with answered():
+                    run = Run(*command, data=data)
+                self.assertEqual((run.status, run.out), (2, b""))
+                self.assertIn(f"sheet: standard input, {words}", run.err)
+
+    def test_no_library(self):
+        self.board.write_bytes(text(WEIGHTS))
+        for command in (*self.of_board, *self.beside, *self.high):
+            with mock.patch("sheetlib.tsplib.tsplib_points", side_effect=NoLibrary("gcc is missing")):
+                run = Run(*command, data=LINES)
+            self.assertEqual((run.status, run.out, run.err), (1, b"", "sheet: gcc is missing\n"))
+
+    def test_missing_file(self):
+        for command in (*self.of_board, *self.beside, *self.high):
+            run = Run(*command, data=LINES)
+            self.assertEqual((run.status, run.out, run.err), (1, b"", f"sheet: {self.board}: No such file or directory\n"))
 
 
 class Written(unittest.TestCase):

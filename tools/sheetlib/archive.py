@@ -5,9 +5,10 @@ The operations are those of the module `revosti`. A set is written where a call 
 
 from pathlib import Path
 
-from revosti import LEAST_POINTS, MOST_POINTS, Refusal, fresh_marks, measure, pack_marks, unpack_marks
+from revosti import LEAST_POINTS, MOST_POINTS, Refusal, fresh_marks, measure, pack_marks, read_tsplib, unpack_marks
 
 from .marks import NAMES, byte_points, known, packed_points, read_marks
+from .parts import Beside
 from .words import counted
 
 
@@ -48,7 +49,10 @@ def keep(file, marks, call):
 
 
 def measured(parts):
-    """The table of a sheet's board. A file that ends inside the board gets 7, as from `mark`, unless n is refused."""
+    """The table of a board: that of its TSPLIB text, or that of a sheet's coordinates. A file that ends inside the board gets 7, as from
+    `mark`, unless n is refused."""
+    if isinstance(parts, Beside):
+        return read_tsplib(parts.text).table
     if parts.n is None or parts.cut and LEAST_POINTS <= parts.n <= MOST_POINTS:
         raise Refusal(7)
     return measure(parts.n, parts.rule, parts.points)

@@ -18,11 +18,13 @@ from .read import Sheet, pack, pack_beside
 from .saving import SAVINGS, tell
 from .scan import BadText
 from .slip import slip_of, tell_slip
-from .tsplib import BadBoard, read_board, write_board
+from .tsplib import BadBoard, read_board, read_text, write_board
 from .write import unpack, unpack_beside
 
 MAX_64 = 2**64 - 1
 CONTROLS = frozenset(range(32)) - frozenset(b"\t\n\r")
+TSPLIB = ".tsp"  # ends the name of a board's file that is a TSPLIB text
+EITHER = "by coordinates or weights"
 
 
 def main(arguments=None):
@@ -87,43 +89,58 @@ def add_sheets(commands):
     for name, run, text in (("explain", run_explain, "the verdict of mark in words"),
                             ("draw", run_draw, "the board as SVG")):
         command = add(commands, name, run, text)
-        source = command.add_mutually_exclusive_group()
-        source.add_argument("--form", choices=("text", "binary"), help="do not detect the form")
-        add_board(source)
+        add_form_or_board(command)
     command.add_argument("--marks", metavar="MARKS", help="draw the packed set in this file, not the marks that mark leaves")
     command.add_argument("--tour", metavar="1,2,3,..", help="a tour to draw, all points in order")
 
 
-def add_board(command):
+def add_board(command, kind="by coordinates"):
     """The option for a board in a file of its own."""
-    command.add_argument("--board", metavar="FILE.tsp", help="a TSPLIB text with the board; the sheet is a text without one")
+    command.add_argument("--board", metavar=f"FILE{TSPLIB}", help=f"a TSPLIB text with the board, {kind}; the sheet is a text without one")
+
+
+def add_form(command):
+    """The option for a file's form."""
+    command.add_argument("--form", choices=("text", "binary"), help="do not detect the form")
+
+
+def add_form_or_board(command, **kind):
+    """The options for a sheet's form, and for its board in a file of its own."""
+    source = command.add_mutually_exclusive_group()
+    add_form(source)
+    add_board(source, **kind)
+
+
+def add_board_file(command, **nargs):
+    """The file of a command that asks for a board alone."""
+    command.add_argument("file", metavar="BOARD", help="a sheet of either form, whose records are not read, - for standard input; "
+                                                       f"or FILE{TSPLIB}, a TSPLIB text {EITHER}", **nargs)
+    add_form(command)
 
 
 def add_saving(commands):
     """The command for a saving."""
     command = add(commands, "saving", run_saving, "how much a rule saves on a board", files=False)
-    command.add_argument("file", metavar="BOARD", help="a sheet of either form, - for standard input; its records are not read")
+    add_board_file(command)
     command.add_argument("rule", choices=SAVINGS, help="exchange of two edges, move of a point, or crossing")
     command.add_argument("points", metavar="POINT", nargs="+", type=point, action=Named,
                          help="; ".join(f"{name}: {rule.points}" for name, rule in SAVINGS.items()))
-    command.add_argument("--form", choices=("text", "binary"), help="do not detect the form")
 
 
 def add_pairs(commands):
     """The command for the standing pairs of a split."""
     command = add(commands, "pairs", run_pairs, "the pairs that stand at C under the edge A-B", files=False)
-    command.add_argument("file", metavar="BOARD", help="a sheet of either form, - for standard input; its records are not read")
+    add_board_file(command)
     for name in "abc":
         command.add_argument(name, metavar=name.upper(), type=point)
     command.add_argument("--marks", metavar="MARKS", help="the packed set in this file, not fresh marks")
     add_high(command)
-    command.add_argument("--form", choices=("text", "binary"), help="do not detect the form")
 
 
 def add_high(command):
     """The option for a second board."""
-    command.add_argument("--high", metavar="BOARD", help="a sheet whose board has the high lengths, those of the first being the low ones; "
-                                                         "its records are not read")
+    command.add_argument("--high", metavar="BOARD", help="the board with the high lengths, those of the first being the low ones: "
+                                                         f"a sheet, whose records are not read, or FILE{TSPLIB}")
 
 
 class Named(argparse.Action):
@@ -152,7 +169,7 @@ def add_slip(commands):
     command = add(commands, "slip", run_slip, "what examiner and candidate see of a marked sheet, or of a slip")
     command.add_argument("--number", metavar="SLIP", type=number, help="the slip with this number; no file is read then")
     command.add_argument("--release", action="store_true", help="release it first")
-    command.add_argument("--form", choices=("text", "binary"), help="do not detect the form")
+    add_form_or_board(command, kind=EITHER)
 
 
 def number(text):
@@ -167,17 +184,19 @@ def number(text):
 
 def add_hand_in(commands):
     """The commands that write a packed set, or change the one in a file."""
-    for name, run, sheet, text in (("fresh", run_fresh, True, "fresh marks of the sheet's board, all open"),
+    for name, run, sheet, text in (("fresh", run_fresh, False, "fresh marks of a board, all open"),
                                    ("mark", run_mark, True, "mark the sheet over a set: its strikes count at once"),
                                    ("ask", run_ask, True, "ask the sheet over a set: its strikes are pending"),
                                    ("confirm", run_confirm, False, "strike what is pending in a set"),
                                    ("withdraw", run_withdraw, False, "open again what is pending in a set")):
         command = add(commands, name, run, text, files=sheet)
         command.add_argument("--marks", metavar="MARKS", required=True, help="the file of the packed set, which is written")
+        if name == "fresh":
+            add_board_file(command, nargs="?")
         if name == "mark":
             add_high(command)
         if sheet:
-            command.add_argument("--form", choices=("text", "binary"), help="do not detect the form")
+            add_form_or_board(command, kind=EITHER)
 
 
 def add_sets(commands):
@@ -190,9 +209,8 @@ def add_sets(commands):
 def add_pages(commands):
     """The commands for the wall list."""
     command = add(commands, "pages", run_pages, "the wall list of a board: a line an edge, 60 lines a page", files=False)
-    command.add_argument("file", metavar="BOARD", help="a sheet of either form, - for standard input; its records are not read")
+    add_board_file(command)
     command.add_argument("--marks", metavar="MARKS", help="the packed set in this file, not fresh marks")
-    command.add_argument("--form", choices=("text", "binary"), help="do not detect the form")
     command = add(commands, "read-pages", run_read_pages, "a wall list to a packed set")
     command.add_argument("--points", metavar="N", type=board_points, help="how many points the list is of; its size tells it otherwise")
 
@@ -253,29 +271,41 @@ def is_text(data):
     return True
 
 
-def load_text(options):
+def load_text(options, board_of=read_board):
     """The sheet in a text, with its board or beside one."""
     if options.board is None:
         return pack(decode(read(options)))
-    board = read_board(Path(options.board).read_bytes())
+    board = board_of(Path(options.board).read_bytes())
     return pack_beside(board, decode(read(options)))
 
 
-def load(options):
+def load(options, board_of=read_board):
     """The sheet in a file of either form. Beside a board it is a text."""
     if options.board is not None:
-        return load_text(options)
+        return load_text(options, board_of)
     data = read(options)
     as_text = options.form == "text" if options.form else is_text(data)
     return pack(decode(data)) if as_text else Sheet(split(data), [])
+
+
+def load_sheet(options):
+    """The pieces of a sheet for the library, which takes boards by weights, too."""
+    return load(options, read_text).parts
+
+
+def load_board(options):
+    """The pieces of a board's file: a TSPLIB text where its name says so and no form is asked for, else a sheet."""
+    if options.form is None and (options.file or "").endswith(TSPLIB):
+        return read_text(read(options))
+    return load(options).parts
 
 
 def load_high(options):
     """The pieces of the file with the high lengths, or None. It is then the file that is named where its text is bad."""
     if options.high is None:
         return None
-    options.file = options.high
-    return load(options).parts
+    options.file, options.board = options.high, None
+    return load_board(options)
 
 
 def run_pack(options):
@@ -313,35 +343,35 @@ def run_draw(options):
 
 def run_saving(options):
     """sheet saving"""
-    say(options, tell(load(options).parts, options.rule, options.points))
+    say(options, tell(load_board(options), options.rule, options.points))
 
 
 def run_pairs(options):
     """sheet pairs"""
-    parts = load(options).parts
+    parts = load_board(options)
     say(options, tell_pairs(parts, load_high(options), options.marks, options.a, options.b, options.c))
 
 
 def run_slip(options):
     """sheet slip"""
-    slip = slip_of(load(options).parts) if options.number is None else options.number
+    slip = slip_of(load_sheet(options)) if options.number is None else options.number
     say(options, tell_slip(release(slip) if options.release else slip))
 
 
 def run_fresh(options):
     """sheet fresh"""
-    say(options, start(load(options).parts, options.marks))
+    say(options, start(load_board(options), options.marks))
 
 
 def run_mark(options):
     """sheet mark"""
-    parts = load(options).parts
+    parts = load_sheet(options)
     say(options, hand_in(marking(load_high(options)), parts, options.marks))
 
 
 def run_ask(options):
     """sheet ask"""
-    say(options, hand_in(ask_sheet, load(options).parts, options.marks))
+    say(options, hand_in(ask_sheet, load_sheet(options), options.marks))
 
 
 def run_confirm(options):
@@ -368,7 +398,7 @@ def run_show(options):
 
 def run_pages(options):
     """sheet pages"""
-    write(options, wall_list(load(options).parts, options.marks))
+    write(options, wall_list(load_board(options), options.marks))
 
 
 def run_read_pages(options):

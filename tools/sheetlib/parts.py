@@ -51,6 +51,16 @@ class Parts(NamedTuple):
         return self.n is not None and len(self.points) < self.n
 
 
+class Beside(NamedTuple):
+    """A board in a TSPLIB text, by coordinates or weights, and the pieces of a
+    sheet beside it."""
+
+    n: int
+    text: bytes
+    records: list
+    tail: bytes
+
+
 def split(data):
     """The pieces of a byte string."""
     if len(data) < HEADER.size:

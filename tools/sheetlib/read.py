@@ -3,7 +3,7 @@
 from typing import NamedTuple
 
 from .board import RULES
-from .parts import CROSSING, LINE, MAX_16, MAX_32, POINT, SPLIT, Parts, Record
+from .parts import CROSSING, LINE, MAX_16, MAX_32, POINT, SPLIT, Beside, Parts, Record
 from .scan import scan
 
 NUMBERS = {name: rule for rule, name in RULES.items()}  # of the rules, by name
@@ -12,7 +12,7 @@ NUMBERS = {name: rule for rule, name in RULES.items()}  # of the rules, by name
 class Sheet(NamedTuple):
     """The pieces that a text gives, and the line of text of each record."""
 
-    parts: Parts
+    parts: Parts | Beside
     lines: list
 
 
@@ -27,7 +27,7 @@ def pack(text):
     n, cut = read_count(lines)
     if cut:
         return Sheet(read_cut(lines, rule, n), [])
-    return read_rest(lines, rule, n, [read_point(lines, i, n) for i in range(1, n + 1)])
+    return read_rest(lines, Parts(rule, n, [read_point(lines, i, n) for i in range(1, n + 1)], [], b""))
 
 
 def pack_beside(board, text):
@@ -35,15 +35,15 @@ def pack_beside(board, text):
     lines = scan(text)
     if lines[0].peek() in ("rule", "points"):
         lines[0].fail(f'expected "strike", found {lines[0].found()}; the board is that of --board')
-    return read_rest(lines, *board)
+    return read_rest(lines, board)
 
 
-def read_rest(lines, rule, n, points):
-    """The sheet of a board and the records behind it."""
+def read_rest(lines, board):
+    """The sheet of a board, which is pieces without records, and the records behind it."""
     chains = read_records(lines)
     tail = read_bytes(lines)
     close(lines, "the end of the text" if tail else after_records(chains))
-    return Sheet(Parts(rule, n, points, chains.finished(), tail), chains.lines)
+    return Sheet(board._replace(records=chains.finished(), tail=tail), chains.lines)
 
 
 def after_records(chains):

@@ -9,7 +9,7 @@ import re
 from revosti import Refusal, tsplib_points
 
 from .board import RULES
-from .parts import MAX_32
+from .parts import MAX_32, Beside, Parts
 from .words import counted
 
 NUMBERS = {name: rule for rule, name in RULES.items()}  # of the rules, by name
@@ -30,18 +30,25 @@ class BadBoard(Exception):
         self.line, self.message = line, message
 
 
-def read_board(data):
-    """The rule, n and the points of a TSPLIB text."""
-    lines = data.decode("latin-1").split("\n")
+def read_text(data):
+    """The board of a TSPLIB text, by coordinates or weights. Its lengths are for the library to read."""
     try:
-        n = tsplib_points(data)
+        return Beside(tsplib_points(data), data, [], b"")
     except Refusal as refusal:
-        raise BadBoard(complaint(lines, refusal.text_line), refusal.text_line) from refusal
-    seen = Seen(lines[:-1])
+        raise BadBoard(complaint(lines_of(data), refusal.text_line), refusal.text_line) from refusal
+
+
+def read_board(data):
+    """The board of a TSPLIB text by coordinates, as the input of `mark` has it."""
+    n, seen = read_text(data).n, Seen(lines_of(data)[:-1])
     if seen.explicit:
-        raise BadBoard(f"the board has weights ({EXPLICIT}), and the input of mark has coordinates; "
-                       "revosti_read_tsplib reads it, and read_tsplib of tools/revosti")
-    return NUMBERS[seen.values["EDGE_WEIGHT_TYPE"]], n, [tuple(map(number, words[1:])) for words in seen.data]
+        raise BadBoard(f"the board has weights ({EXPLICIT}), and the input of mark has coordinates; sheet mark, ask and slip take it")
+    return Parts(NUMBERS[seen.values["EDGE_WEIGHT_TYPE"]], n, [tuple(map(number, words[1:])) for words in seen.data], [], b"")
+
+
+def lines_of(data):
+    """The lines of a text, a character a byte; the last has no newline."""
+    return data.decode("latin-1").split("\n")
 
 
 def write_board(parts):
