@@ -328,6 +328,8 @@ uint64_t revosti_write_page(uint32_t n, const uint8_t *table, size_t table_len, 
  * marks. Other edges' lengths are not tested. Answer: 27 + 256 * line, another refusal number, or 0; revosti_wrong_line takes the line out.
  * It is counted from 1: the first that is wrong or missing (cut, or without its newline), or one past the last where something follows
  * it. A refused call changes nothing. Reading all pages of an instance, one after the other, yields its lengths and its marks.
+ * A page is taken at its word and may strike any edge: a set that is read from pages keeps shortest tours open if the set that they were
+ * written from does.
  */
 uint64_t revosti_read_page(uint32_t n, uint32_t page, const uint8_t *text, size_t text_len, uint8_t *table, size_t table_len,
                            uint8_t *marks, size_t marks_len);
