@@ -3,7 +3,7 @@
 use Prim.Native.Nat.{ℕ}
 use mathlib.Core.Path.{_≡_, refl, _∙_, ap}
 use mathlib.Core.Bool.{Bool, true, false, false≢true}
-use mathlib.Core.List.{List, [], _∷_}
+use mathlib.Core.List.{List, [], _∷_, map}
 use lib.Dec.{eqb}
 use lib.ListN.{length}
 use Rattle.endian.specs.Bytes.{whole16, whole32}
@@ -25,7 +25,7 @@ use Rattle.marking.specs.declared.tests.Tested.{Tested}
 use Rattle.marking.specs.declared.tests.Tested.the-variants.{Points, Refused}
 use Rattle.revosti.specs.Between.{markBetweenInC}
 use Rattle.revosti.specs.Mark.{markInC}
-use Rattle.demands.specs.Run.{Call, runOf, runBetween}
+use Rattle.demands.specs.Run.{Call, Step, marking, marking-between, oneTable, stepped, stepsOf}
 
 module _ (n : ℕ) (table marks : List ℕ) where
   -- the tests: 2 and 5 made a second time refuse nothing more, and 25 refuses nothing
@@ -70,8 +70,8 @@ pub mark-agrees-in-C : (n : ℕ) (table set s : List ℕ) → markBetweenInC n t
 mark-agrees-in-C n table set s = mark-packed-agrees n (whole32 table) set (whole16 s)
 
 -- RUNS, call by call
-pub run-agrees : (table : List ℕ) (calls : List Call) (m : List ℕ) → runBetween table table calls m ≡ runOf table calls m
+pub run-agrees : (table : List ℕ) (calls : List Call) (m : List ℕ) → stepsOf (oneTable table) (map marking-between calls) m ≡ stepsOf (oneTable table) (map marking calls) m
 unfolding run
 run-agrees table [] m = refl
 run-agrees table (call ∷ calls) m =
-    ap (λ r. runBetween table table calls (r .marks)) (mark-agrees (call .n) table m (call .sheet)) ∙ run-agrees table calls (markSheet (call .n) table m (call .sheet) .marks)
+    ap (λ r. stepsOf (oneTable table) (map marking-between calls) (r .marks)) (mark-agrees (call .n) table m (call .sheet)) ∙ run-agrees table calls _

@@ -1,118 +1,102 @@
--- DEMAND 3. No run of sheets strikes an edge of a shortest tour.
--- Below it the general form for 3-optimal tours (Paper 9). Both are about the marks of the edges; `PackedRuns` says them of packed sets. Assumes nothing.
-use Prim.Native.Nat.{ℕ, suc, _≤_, _<_}
-use mathlib.Core.Path.{_≡_, refl, sym, _∙_, ap}
+-- DEMAND 3: no run of sheets strikes an edge of a shortest tour. First what a program calls, the functions for C; then the same of the marks of the edges, as 01 has
+-- it. All are the one run (`Runs`, `PackedRuns`) with what it keeps (`OpenEdges`). Assumes nothing.
+use Prim.Native.Nat.{ℕ, _≤_, _<_}
+use mathlib.Core.Path.{_≡_, refl, ap, subst}
 use mathlib.Core.Bool.{true}
-use mathlib.Core.Logic.{⊎-elim}
-use mathlib.Core.List.{List, [], _∷_, map}
+use mathlib.Core.Logic.{inl, inr}
+use mathlib.Core.List.{List, [], map}
+use native.Mathlib.Decide.{decLe}
 use native.Mathlib.Omega.{arith}
-use lib.ListN.{length}
-use borrow.Author.Tests.{le-leb}
-use Rattle.lengths.specs.Edge.{edgeCount, place}
-use Rattle.lengths.specs.Instance.{leastPoints, mostPoints, inRange}
+use lib.ListN.{length, getD, List·getD-eq-default}
+use Rattle.endian.specs.Bytes.{numbers32, whole32}
+use Rattle.lengths.specs.Edge.{Point, edgeCount, place}
+use Rattle.lengths.specs.Instance.{leastPoints, mostPoints}
 use Rattle.lengths.specs.Table.{lengthOf}
-use Rattle.lengths.proofs.Edges.{edgeCount-tri, tri-suc, tri-mono, three-way}
-use Rattle.marks.specs.Mark.{markAt, struckMark, openMark, pendingMark, opens, openUpTo, openIn}
-use Rattle.marks.specs.Pending.{settledAnswer, settledLeft}
-use Rattle.marks.specs.declared.pending.Settled.{Settled}
-use Rattle.marks.specs.declared.pending.Settled.the-variants as settling
-use Rattle.marks.proofs.Marks.{open-mark}
-use Rattle.marks.proofs.PendingMarks.{settled-size, settled-open}
+use Rattle.lengths.proofs.Edges.{place-onto}
+use Rattle.lengths.proofs.Tables.{length-up}
+use Rattle.marks.specs.Degree.{openDegree}
+use Rattle.marks.specs.Mark.{markAt, openMark, opens, openUpTo, openIn, openCount}
+use Rattle.marks.specs.Packed.{packedSize, marksOf}
 use Rattle.tours.specs.Tour.{Uses, Shortest, ThreeOptimal}
-use Rattle.tours.proofs.ThreeOptimal.{shortest-optimal}
-use Rattle.argument.specs.Sheet.{run}
-use Rattle.argument.proofs.Safe.{run-keeps}
-use Rattle.marks.specs.Fresh.{freshAnswer, freshMarks, freshLeft}
-use Rattle.marks.proofs.FreshMarks.{fresh-left}
-use Rattle.marking.specs.Mark.{markBy}
-use Rattle.marking.specs.Tests.{ready}
-use Rattle.marking.proofs.Tested.{passed, ready-tested}
-use Rattle.marking.specs.declared.tests.Tested.the-variants.{Points}
-use Rattle.demands.specs.Run.{Step, marking, asking, confirming, withdrawing, stepped, stepsOf, Call, runOf}
-use Rattle.demands.proofs.Kept.{Kept, fresh-kept, tested-kept}
-use Rattle.demands.proofs.Monotone.{lengths-same}
+use Rattle.demands.specs.Between.{Between}
+use Rattle.demands.specs.Keeping.{Ordered, Serves, KeepsTours}
+use Rattle.demands.specs.Run.{Tables, oneTable, limitsAlone, Call, Step, marking, marking-between, stepsOf, stepsInC, lengthsIn, freshFrom, freshIn}
+use Rattle.demands.proofs.OpenEdges.{keeps-shortest, keeps-degree, keeps-count}
+use Rattle.demands.proofs.PackedRuns.{three-optimal-open-in-C}
+use Rattle.demands.proofs.Runs.{three-optimal-open}
 
--- n(n - 1)/2 tells n from 1 on
-edge-count-rises : (m n : ℕ) → 1 ≤ m → m < n → edgeCount m < edgeCount n
-edge-count-rises m n h l = omega (arith, edgeCount-tri m, edgeCount-tri n, tri-suc m, tri-mono (suc m) n l)
+-- a table serves itself: it lies between itself and itself
+same-between : (table : List ℕ) → Between table table table
+same-between table = record { from-low = λ i. omega arith; to-high = λ i. omega arith }
 
-pub edge-count-injective : (m n : ℕ) → 1 ≤ m → 1 ≤ n → edgeCount m ≡ edgeCount n → m ≡ n
-edge-count-injective m n h g e =
-    ⊎-elim
-    (λ l. absurd (omega (arith, edge-count-rises m n h l)))
-    (⊎-elim (λ l. absurd (omega (arith, edge-count-rises n m g l))) (λ q. q))
-    (three-way m n)
+pub one-serves : {n : ℕ} {table : List ℕ} → length table ≡ edgeCount n → Serves n (oneTable table) table
+one-serves {table = table} whole = record { whole = whole; between = λ ordered. same-between table; own = inl refl }
 
-module _ {n : ℕ} (table : List ℕ) {t : List ℕ} (some : leastPoints ≤ n) (whole : length table ≡ edgeCount n) (best : ThreeOptimal n (lengthOf n table) t) where
-  -- a call that passes states the n of the table
-  states : (m : ℕ) (marks : List ℕ) (p : ℕ) → ready m table marks ≡ Points p → p ≡ n
-  states m marks p e = let r = passed (ready-tested e .tests) in edge-count-injective p n (omega (arith, r .least)) (omega arith) (sym (r .lengths .whole) ∙ whole)
+-- limits serve every table between them, whichever board is cut
+pub limits-serve : {n : ℕ} {low high table : List ℕ} → length table ≡ edgeCount n → Between low high table → Serves n (limitsAlone low high) table
+limits-serve whole limits = record { whole = whole; between = λ ordered. limits; own = inr refl }
 
-  -- a sheet leaves the tour's edges open, marked or asked, whatever n and records it states
-  call-kept : (by m : ℕ) (s marks : List ℕ) → Kept n t marks → Kept n t (markBy by m table marks s .marks)
-  unfolding markBy
-  call-kept by m s marks kept = tested-kept some lengths-same best by s marks kept (ready m table marks) (states m marks)
+-- and always the low one: where a low length is above its high one, no call over the two is taken
+ordered-between : (n : ℕ) (low high : List ℕ) → length low ≡ edgeCount n → Ordered n low high → Between low high low
+ordered-between n low high whole ordered = record { from-low = λ i. omega arith; to-high = λ i. at i (decLe (edgeCount n) i) }
+  where
+    at : (i : ℕ) → Dec (edgeCount n ≤ i) → getD low i 0 ≤ getD high i 0
+    at i (yes past) = omega (arith, List·getD-eq-default low 0 {n = i} (omega (arith, whole)))
+    at i (no inside) =
+        let e = place-onto n i (omega arith) in
+        let up : e .a < e .b = e .is-edge .up in
+        subst (λ (j : ℕ). getD low j 0 ≤ getD high j 0) (e .at) (omega (arith, ordered (e .a) (e .b), length-up n low (e .a) (e .b) up, length-up n high (e .a) (e .b) up))
 
-  -- confirming and withdrawing change pending marks alone, and the tour's edges have mark 1
-  settle-kept : (mark : ℕ) (marks : List ℕ) → Kept n t marks → (r : Settled) → Kept n t (settledLeft r mark marks)
-  settle-kept mark marks kept (settling.Refused k rec) = kept
-  settle-kept mark marks kept settling.Done =
-      record { whole = settled-size mark marks ∙ kept .whole; all-open = λ a b u. settled-open mark n marks a b (kept .all-open a b u) }
+pub low-serves : {n : ℕ} {low high : List ℕ} → length low ≡ edgeCount n → Serves n (limitsAlone low high) low
+low-serves {n} {low} {high} whole = record { whole = whole; between = ordered-between n low high whole; own = inr refl }
 
-  pub step-kept : (step : Step) (marks : List ℕ) → Kept n t marks → Kept n t (stepped table step marks)
-  step-kept (marking m s) marks kept = call-kept struckMark m s marks kept
-  step-kept (asking m s) marks kept = call-kept pendingMark m s marks kept
-  step-kept (confirming m) marks kept = settle-kept struckMark marks kept (settledAnswer m marks)
-  step-kept (withdrawing m) marks kept = settle-kept openMark marks kept (settledAnswer m marks)
+module _ (n : ℕ) (some : leastPoints ≤ n) (most : n ≤ mostPoints) (before : List ℕ) (sized : length before ≡ packedSize n) where
+  module _ (T : Tables) (low-whole : length (whole32 (T .low)) ≡ edgeCount n) (steps : List Step) where
+    -- THE RUN in C, of shortest tours
+    pub shortest-open-in-C : KeepsTours Shortest n (lengthsIn T) (marksOf n (stepsInC T steps (freshIn n before)))
+    shortest-open-in-C = keeps-shortest n (lengthsIn T) _ (three-optimal-open-in-C n some most before sized T low-whole steps)
 
-  pub steps-kept : (steps : List Step) (marks : List ℕ) → Kept n t marks → Kept n t (stepsOf table steps marks)
-  steps-kept = run-keeps (Kept n t) (stepped table) step-kept
+    -- PAPER 9 in C, where the marks serve some table: the board's own (`one-serves`), one between low and high (`limits-serve`), or the low one (`low-serves`)
+    module _ {table : List ℕ} (served : Serves n (lengthsIn T) table) where
+      pub two-open-edges-in-C : (v : ℕ) → Point n v → 2 ≤ openDegree n (marksOf n (stepsInC T steps (freshIn n before))) v
+      two-open-edges-in-C = keeps-degree n (lengthsIn T) _ some served shortest-open-in-C
 
-pub in-limits : {n : ℕ} → leastPoints ≤ n → n ≤ mostPoints → inRange n ≡ true
-unfolding inRange
-in-limits {n} some most = rw (inRange, le-leb leastPoints n some, le-leb n mostPoints most)
+      pub n-open-edges-in-C : n ≤ openCount (marksOf n (stepsInC T steps (freshIn n before)))
+      n-open-edges-in-C = keeps-count n (lengthsIn T) _ some served shortest-open-in-C
 
--- THE RUN: for every n from 4 to 180, every table of n(n - 1)/2 lengths, every list of steps (marking, asking, confirming, withdrawing, each with
--- the n it states) and every 3-optimal tour, each edge of the tour has mark 1 after the run that starts from the marks that *fresh marks*
--- left in a buffer for this n: it is neither struck nor pending.
--- On fresh marks all edges of the tour are open. Suppose that they are open before a step. If the step is a sheet that is refused before its
--- first line, no mark changes. If not, it states the n of the table, since n(n - 1)/2 tells n, and its lines are judged one after the other. An
--- accepted line has a closed argument for its edge ab. If the tour used ab, its own two neighbours of each split point would be a feasible
--- pair, so the argument would have a case for them, and a further split or a 3-opt closing that settles it; going down, some 3-opt
--- closing would settle a set of edges that the tour uses, and one of its two moves would shorten the tour. So ab is no edge of the tour, and
--- another mark for ab leaves the tour's edges open. Confirming and withdrawing change pending marks alone, and no edge of the tour has one.
-pub three-optimal-open :
-    (n : ℕ) → leastPoints ≤ n → n ≤ mostPoints → (table : List ℕ) → length table ≡ edgeCount n → (before : List ℕ) → length before ≡ edgeCount n →
-    (steps : List Step) (t : List ℕ) → ThreeOptimal n (lengthOf n table) t → (a b : ℕ) → Uses t a b →
-    markAt (stepsOf table steps (freshLeft (freshAnswer n (length before)) n before)) (place n a b) ≡ openMark
-unfolding openUpTo
-three-optimal-open n some most table whole before sized steps t best a b u =
-    let kept = steps-kept table some whole best steps (freshMarks n) (fresh-kept some lengths-same best) in
-    rw (fresh-left n before (in-limits some most) sized) (open-mark _ (place n a b) (kept .all-open a b u))
+  -- THE RUN OVER TWO TABLES in C (02, Paper 11): "One set of marks must then serve whichever board is cut: for every table whose lengths lie between the two, ends
+  -- included, each of its shortest tours has all its edges open after any run of such sheets". The run stands before the table, so one set serves all; and it
+  -- holds of 3-optimal tours. It is the run whose board is not known.
+  module _ (low high : List ℕ) (low-whole : length (whole32 low) ≡ edgeCount n) (calls : List Call) where
+    pub three-optimal-open-between-in-C : (table : List ℕ) → length table ≡ edgeCount n → Between (whole32 low) (whole32 high) table →
+        (t : List ℕ) → ThreeOptimal n (lengthOf n table) t → (a b : ℕ) → Uses t a b →
+        markAt (marksOf n (stepsInC (limitsAlone low high) (map marking-between calls) (freshIn n before))) (place n a b) ≡ openMark
+    unfolding numbers32 whole32
+    three-optimal-open-between-in-C table whole limits =
+        three-optimal-open-in-C n some most before sized (limitsAlone low high) low-whole (map marking-between calls) table (limits-serve whole limits)
 
--- and so of every shortest tour
-pub shortest-open :
-    (n : ℕ) → leastPoints ≤ n → n ≤ mostPoints → (table : List ℕ) → length table ≡ edgeCount n → (before : List ℕ) → length before ≡ edgeCount n →
-    (steps : List Step) (t : List ℕ) → Shortest n (lengthOf n table) t → (a b : ℕ) → Uses t a b →
-    markAt (stepsOf table steps (freshLeft (freshAnswer n (length before)) n before)) (place n a b) ≡ openMark
-shortest-open n some most table whole before sized steps t best = three-optimal-open n some most table whole before sized steps t (shortest-optimal best)
+    pub shortest-open-between-in-C : (table : List ℕ) → length table ≡ edgeCount n → Between (whole32 low) (whole32 high) table →
+        (t : List ℕ) → Shortest n (lengthOf n table) t → (a b : ℕ) → Uses t a b →
+        markAt (marksOf n (stepsInC (limitsAlone low high) (map marking-between calls) (freshIn n before))) (place n a b) ≡ openMark
+    unfolding numbers32 whole32
+    shortest-open-between-in-C table whole limits =
+        shortest-open-in-C (limitsAlone low high) low-whole (map marking-between calls) table (limits-serve whole limits)
 
--- a run of *mark a sheet* alone is such a run
-abbrev pub marking-step : Call → Step
-marking-step call = marking (call .n) (call .sheet)
-
-run-steps : (table : List ℕ) (calls : List Call) (m : List ℕ) → runOf table calls m ≡ stepsOf table (map marking-step calls) m
-unfolding run
-run-steps table [] m = refl
-run-steps table (call ∷ calls) m = run-steps table calls _
+  -- DEMAND 3 in C: for every n from 4 to 180, every table of n(n - 1)/2 lengths, every list of calls of `revosti_mark_sheet` and every shortest tour, each
+  -- edge of the tour is open after the run that starts from the set that `revosti_fresh_marks` left in a buffer for this n. Table and sheets are bytes.
+  pub demand-3-in-C : (table : List ℕ) → length (whole32 table) ≡ edgeCount n → (calls : List Call) (t : List ℕ) → Shortest n (lengthOf n (whole32 table)) t →
+      (a b : ℕ) → Uses t a b → openIn n (marksOf n (stepsInC (oneTable table) (map marking calls) (freshIn n before))) a b ≡ true
+  unfolding openUpTo
+  demand-3-in-C table whole calls t best a b u =
+      ap (opens openMark) (shortest-open-in-C (oneTable table) whole (map marking calls) (whole32 table) (one-serves whole) t best a b u)
 
 -- DEMAND 3: for every n from 4 to 180, every table of n(n - 1)/2 lengths, every list of calls of *mark a sheet* and every shortest tour, each
 -- edge of the tour is open after the run that starts from the marks that *fresh marks* left in a buffer for this n.
 pub demand-3 :
     (n : ℕ) → leastPoints ≤ n → n ≤ mostPoints → (table : List ℕ) → length table ≡ edgeCount n → (before : List ℕ) → length before ≡ edgeCount n →
     (calls : List Call) (t : List ℕ) → Shortest n (lengthOf n table) t → (a b : ℕ) → Uses t a b →
-    openIn n (runOf table calls (freshLeft (freshAnswer n (length before)) n before)) a b ≡ true
+    openIn n (stepsOf (oneTable table) (map marking calls) (freshFrom n before)) a b ≡ true
 unfolding openUpTo
 demand-3 n some most table whole before sized calls t best a b u =
-    ap (λ (m : List ℕ). openIn n m a b) (run-steps table calls (freshLeft (freshAnswer n (length before)) n before))
-    ∙ ap (opens openMark) (shortest-open n some most table whole before sized (map marking-step calls) t best a b u)
+    ap (opens openMark)
+    (keeps-shortest n (oneTable table) _ (three-optimal-open n some most (oneTable table) whole before sized (map marking calls)) table (one-serves whole) t best a b u)

@@ -1,9 +1,7 @@
 pub mod Agreement
 pub mod Asked
 pub mod AskedPacked
-pub mod BetweenRuns
 pub mod Changed
-pub mod CutRuns
 pub mod Demand2
 pub mod Demand2Between
 pub mod Demand3
@@ -14,11 +12,12 @@ pub mod Listed
 pub mod Measured
 pub mod Monotone
 pub mod OnPacked
-pub mod OpenBetween
 pub mod OpenEdges
 pub mod Optimal
 pub mod PackedRuns
 pub mod Pages
+pub mod Runs
 pub mod SheetLines
+pub mod Sizes
 pub mod Slips
 pub mod Strikes

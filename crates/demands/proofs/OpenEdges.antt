@@ -1,5 +1,5 @@
--- After any run of steps every point has at least two open edges, and at least n edges are open: a shortest tour exists, its edges are
--- open after it, and a tour has two edges at each point and n different edges. Assumes nothing.
+-- What marks that keep tours keep besides (02, Paper 9): shortest tours, at least two open edges at every point, and at least n open edges. A shortest tour exists
+-- under every table, and a tour has two edges at each point and n different edges. Assumes nothing.
 use Prim.Native.Nat.{ℕ, _≤_}
 use mathlib.Core.Path.{_≡_, refl, _∙_, ap}
 use mathlib.Core.Bool.{true}
@@ -7,20 +7,20 @@ use mathlib.Core.Logic.{inl, inr}
 use mathlib.Core.List.{List, [], _∷_}
 use native.Mathlib.Omega.{arith}
 use lib.ListN.{length}
-use Rattle.lengths.specs.Edge.{Point, Edge, edge, IsEdge, edgeCount}
-use Rattle.lengths.specs.Instance.{leastPoints, mostPoints}
+use Rattle.lengths.specs.Edge.{Point, Edge, edge, IsEdge}
+use Rattle.lengths.specs.Instance.{leastPoints}
 use Rattle.lengths.specs.Table.{lengthOf}
 use Rattle.sets.specs.EdgeSet.{Joins, Has, closedEdges}
 use Rattle.marks.specs.Mark.{struckMark, openMark, opens, openUpTo, openIn, openCount, strikeIn}
 use Rattle.marks.specs.Degree.{openDegree}
-use Rattle.marks.specs.Fresh.{freshAnswer, freshLeft}
 use Rattle.marks.proofs.Degrees.{degree-two}
-use Rattle.tours.specs.Tour.{Tour, Uses, total, tourLength}
+use Rattle.tours.specs.Tour.{Tour, Uses, Shortest, ThreeOptimal, total, tourLength}
 use Rattle.tours.proofs.Count.{tour-once, tour-length}
 use Rattle.tours.proofs.Edges.{mark, mark-true, has-total, one, length-one}
 use Rattle.tours.proofs.TourNeighbours.{tour-edge, uses-once, TourNeighbours, tour-neighbours}
-use Rattle.demands.specs.Run.{Step, stepsOf}
-use Rattle.demands.proofs.Demand3.{shortest-open}
+use Rattle.tours.proofs.ThreeOptimal.{shortest-optimal}
+use Rattle.demands.specs.Keeping.{Serves, KeepsTours}
+use Rattle.demands.specs.Run.{Tables}
 use Rattle.demands.proofs.Exists.{shortest-exists}
 use Rattle.demands.proofs.Strikes.{struck-count, marked-other}
 
@@ -66,24 +66,25 @@ module _ {n : ℕ} (some : leastPoints ≤ n) {t : List ℕ} (T : Tour n t) (mar
         open-few (closedEdges t) marks (tour-edge T (omega arith)) (uses-once t (tour-once T) (omega (arith, tour-length T))) opens,
       )
 
--- PAPER 9: after any run of marking, asking, confirming and withdrawing every point has at least two open edges, and at least n edges are open.
--- Some tour is shortest under the table's lengths, and after the run all its edges are open (`shortest-open`). A point v stands in it once, and n is
--- at least 3, so the points before and after v are two, neither of them v: two open edges at v. The tour has n edges and none of them
--- twice: without v it is a path that does not come by v, so an edge at v is one of the two that join v to the path's ends, and these differ.
--- An edge has one mark, and different edges have different ones. Strike the n edges one after the other: each was open until then, so each takes
--- one open mark away. So at least n were open.
-pub two-open-edges :
-    (n : ℕ) → leastPoints ≤ n → n ≤ mostPoints → (table : List ℕ) → length table ≡ edgeCount n → (before : List ℕ) → length before ≡ edgeCount n →
-    (steps : List Step) (v : ℕ) → Point n v → 2 ≤ openDegree n (stepsOf table steps (freshLeft (freshAnswer n (length before)) n before)) v
-unfolding openUpTo
-two-open-edges n some most table whole before sized steps =
-    let s = shortest-exists n (lengthOf n table) in
-    tour-degree some (s .1 .tour) _ (λ a b u. ap (opens openMark) (shortest-open n some most table whole before sized steps (s .0) (s .1) a b u))
+module _ (n : ℕ) (T : Tables) (marks : List ℕ) where
+  -- a shortest tour is 3-optimal
+  pub keeps-shortest : KeepsTours ThreeOptimal n T marks → KeepsTours Shortest n T marks
+  keeps-shortest keeps table served t best = keeps table served t (shortest-optimal best)
 
-pub n-open-edges :
-    (n : ℕ) → leastPoints ≤ n → n ≤ mostPoints → (table : List ℕ) → length table ≡ edgeCount n → (before : List ℕ) → length before ≡ edgeCount n →
-    (steps : List Step) → n ≤ openCount (stepsOf table steps (freshLeft (freshAnswer n (length before)) n before))
-unfolding openUpTo
-n-open-edges n some most table whole before sized steps =
-    let s = shortest-exists n (lengthOf n table) in
-    tour-count some (s .1 .tour) _ (λ a b u. ap (opens openMark) (shortest-open n some most table whole before sized steps (s .0) (s .1) a b u))
+  module _ (some : leastPoints ≤ n) {table : List ℕ} (served : Serves n T table) (keeps : KeepsTours Shortest n T marks) where
+    -- the edges of a tour that is shortest under a table which the marks serve
+    all-open : (a b : ℕ) → Uses (shortest-exists n (lengthOf n table) .0) a b → openIn n marks a b ≡ true
+    unfolding openUpTo
+    all-open a b u = let s = shortest-exists n (lengthOf n table) in ap (opens openMark) (keeps table served (s .0) (s .1) a b u)
+
+    -- PAPER 9: where marks keep shortest tours, every point has at least two open edges, and at least n edges are open.
+    -- Some tour is shortest under a table that the marks serve, and all its edges are open. A point v stands in it once, and n is
+    -- at least 3, so the points before and after v are two, neither of them v: two open edges at v. The tour has n edges and none of them
+    -- twice: without v it is a path that does not come by v, so an edge at v is one of the two that join v to the path's ends, and these differ.
+    -- An edge has one mark, and different edges have different ones. Strike the n edges one after the other: each was open until then, so each takes
+    -- one open mark away. So at least n were open.
+    pub keeps-degree : (v : ℕ) → Point n v → 2 ≤ openDegree n marks v
+    keeps-degree = tour-degree some (shortest-exists n (lengthOf n table) .1 .tour) marks all-open
+
+    pub keeps-count : n ≤ openCount marks
+    keeps-count = tour-count some (shortest-exists n (lengthOf n table) .1 .tour) marks all-open

@@ -1,8 +1,11 @@
--- Runs (01, "What the contracts and the table of examples carry"; 02, Paper 3): each step gets the same table and the marks as the step before left them.
--- Steps may differ in their sheets and in the n they state.
+-- Runs (01, "What the contracts and the table of examples carry"; 02, Papers 3 and 11): a whole list of calls from the marks that *fresh marks* left, each handed the
+-- same tables and the marks as the call before left them. Calls may differ in their sheets and in the n they state.
 use Prim.Native.Nat.{ℕ}
-use mathlib.Core.List.{List}
+use mathlib.Core.List.{List, []}
+use lib.ListN.{length}
 use Rattle.argument.specs.Sheet.{run}
+use Rattle.endian.specs.Bytes.{whole16, whole32}
+use Rattle.marks.specs.Fresh.{freshAnswer, freshLeft, freshSetAnswer, freshSetLeft}
 use Rattle.marks.specs.Mark.{struckMark, openMark, pendingMark}
 use Rattle.marks.specs.Pending.{settledAnswer, settledLeft, settledSet}
 use Rattle.revosti.specs.Between.{markBetweenInC}
@@ -10,90 +13,74 @@ use Rattle.revosti.specs.Mark.{markInC}
 use Rattle.limits.specs.Mark.{markBetween, markBetweenPacked}
 use Rattle.marking.specs.Mark.{markSheet, askSheet, markPacked, askPacked}
 
--- "any run of asking, confirming, withdrawing and direct marking"
-pub data Step : Type 0 where
-  marking : (n : ℕ) (sheet : List ℕ) → Step
-  asking : (n : ℕ) (sheet : List ℕ) → Step
-  confirming : (n : ℕ) → Step
-  withdrawing : (n : ℕ) → Step
+-- the tables of a run, which stay: low and high lengths, and the lengths of the board itself. Where these are not known, the table of the board
+-- is [], which has no lengths, and every call over it is refused.
+pub record Tables : Type 0 where
+  pub low : List ℕ
+  pub high : List ℕ
+  pub own : List ℕ
 
--- the marks after a step, whether it took all its lines, stopped among them or was refused before the first
-abbrev pub stepped : List ℕ → Step → List ℕ → List ℕ
-stepped table (marking n sheet) m = markSheet n table m sheet .marks
-stepped table (asking n sheet) m = askSheet n table m sheet .marks
-stepped table (confirming n) m = settledLeft (settledAnswer n m) struckMark m
-stepped table (withdrawing n) m = settledLeft (settledAnswer n m) openMark m
+-- one table is all three; limits alone, for a board that is not cut yet
+abbrev pub oneTable : List ℕ → Tables
+oneTable table = record { low = table; high = table; own = table }
 
--- the marks after a list of steps
-abbrev pub stepsOf : List ℕ → List Step → List ℕ → List ℕ
-stepsOf table = run (stepped table)
+abbrev pub limitsAlone : (low high : List ℕ) → Tables
+limitsAlone low high = record { low = low; high = high; own = [] }
 
--- the same over packed sets: the set after a step, and after a list of steps
-abbrev pub steppedPacked : List ℕ → Step → List ℕ → List ℕ
-steppedPacked table (marking n sheet) set = markPacked n table set sheet .marks
-steppedPacked table (asking n sheet) set = askPacked n table set sheet .marks
-steppedPacked table (confirming n) set = settledSet struckMark n set
-steppedPacked table (withdrawing n) set = settledSet openMark n set
-
-abbrev pub stepsPacked : List ℕ → List Step → List ℕ → List ℕ
-stepsPacked table = run (steppedPacked table)
-
--- and with the table and the sheets in bytes, by the functions for C
-abbrev pub steppedInC : List ℕ → Step → List ℕ → List ℕ
-steppedInC table (marking n sheet) set = markInC struckMark n table set sheet .marks
-steppedInC table (asking n sheet) set = markInC pendingMark n table set sheet .marks
-steppedInC table (confirming n) set = settledSet struckMark n set
-steppedInC table (withdrawing n) set = settledSet openMark n set
-
-abbrev pub stepsInC : List ℕ → List Step → List ℕ → List ℕ
-stepsInC table = run (steppedInC table)
-
--- a run of *mark a sheet* alone
+-- a call with the n it states and its sheet
 pub record Call : Type 0 where
   pub n : ℕ
   pub sheet : List ℕ
 
-abbrev pub markedBy : List ℕ → Call → List ℕ → List ℕ
-markedBy table call m = markSheet (call .n) table m (call .sheet) .marks
+-- "any run of asking, confirming, withdrawing and direct marking", and of marking over low and high
+pub data Step : Type 0 where
+  marking : Call → Step
+  asking : Call → Step
+  confirming : (n : ℕ) → Step
+  withdrawing : (n : ℕ) → Step
+  marking-between : Call → Step
 
-abbrev pub runOf : List ℕ → List Call → List ℕ → List ℕ
-runOf table = run (markedBy table)
+-- the marks after a step, whether it took all its lines, stopped among them or was refused before the first
+abbrev pub stepped : Tables → Step → List ℕ → List ℕ
+stepped T (marking call) m = markSheet (call .n) (T .own) m (call .sheet) .marks
+stepped T (asking call) m = askSheet (call .n) (T .own) m (call .sheet) .marks
+stepped T (confirming n) m = settledLeft (settledAnswer n m) struckMark m
+stepped T (withdrawing n) m = settledLeft (settledAnswer n m) openMark m
+stepped T (marking-between call) m = markBetween (call .n) (T .low) (T .high) m (call .sheet) .marks
 
-abbrev pub runPacked : List ℕ → List Call → List ℕ → List ℕ
-runPacked table = run (λ call set. markPacked (call .n) table set (call .sheet) .marks)
+-- the marks after a list of steps
+abbrev pub stepsOf : Tables → List Step → List ℕ → List ℕ
+stepsOf T = run (stepped T)
 
-abbrev pub markedInC : List ℕ → Call → List ℕ → List ℕ
-markedInC table call set = markInC struckMark (call .n) table set (call .sheet) .marks
+-- the same over packed sets: the set after a step, and after a list of steps
+abbrev pub steppedPacked : Tables → Step → List ℕ → List ℕ
+steppedPacked T (marking call) set = markPacked (call .n) (T .own) set (call .sheet) .marks
+steppedPacked T (asking call) set = askPacked (call .n) (T .own) set (call .sheet) .marks
+steppedPacked T (confirming n) set = settledSet struckMark n set
+steppedPacked T (withdrawing n) set = settledSet openMark n set
+steppedPacked T (marking-between call) set = markBetweenPacked (call .n) (T .low) (T .high) set (call .sheet) .marks
 
-abbrev pub runInC : List ℕ → List Call → List ℕ → List ℕ
-runInC table = run (markedInC table)
+abbrev pub stepsPacked : Tables → List Step → List ℕ → List ℕ
+stepsPacked T = run (steppedPacked T)
 
--- a run of *mark a sheet* over two tables (02, Paper 11): each call gets the same two
-abbrev pub runBetween : (low high : List ℕ) → List Call → List ℕ → List ℕ
-runBetween low high = run (λ call m. markBetween (call .n) low high m (call .sheet) .marks)
+-- and by the functions for C, with the tables and the sheets in bytes
+abbrev pub steppedInC : Tables → Step → List ℕ → List ℕ
+steppedInC T (marking call) set = markInC struckMark (call .n) (T .own) set (call .sheet) .marks
+steppedInC T (asking call) set = markInC pendingMark (call .n) (T .own) set (call .sheet) .marks
+steppedInC T (confirming n) set = settledSet struckMark n set
+steppedInC T (withdrawing n) set = settledSet openMark n set
+steppedInC T (marking-between call) set = markBetweenInC (call .n) (T .low) (T .high) set (call .sheet) .marks
 
-abbrev pub runBetweenPacked : (low high : List ℕ) → List Call → List ℕ → List ℕ
-runBetweenPacked low high = run (λ call set. markBetweenPacked (call .n) low high set (call .sheet) .marks)
+abbrev pub stepsInC : Tables → List Step → List ℕ → List ℕ
+stepsInC T = run (steppedInC T)
 
-abbrev pub runBetweenInC : (low high : List ℕ) → List Call → List ℕ → List ℕ
-runBetweenInC low high = run (λ call set. markBetweenInC (call .n) low high set (call .sheet) .marks)
+-- the lengths that the tables' bytes are
+abbrev pub lengthsIn : Tables → Tables
+lengthsIn T = record { low = whole32 (T .low); high = whole32 (T .high); own = whole32 (T .own) }
 
--- a run over one set of marks that has both: sheets over the two tables, and steps over a table, that of the board which is cut
-pub data EitherStep : Type 0 where
-  over-limits : (call : Call) → EitherStep
-  over-table : (step : Step) → EitherStep
+-- where a run begins: the marks that *fresh marks* left in a buffer, and the packed set that it left
+abbrev pub freshFrom : ℕ → (before : List ℕ) → List ℕ
+freshFrom n before = freshLeft (freshAnswer n (length before)) n before
 
-abbrev pub eitherStepped : (low high table : List ℕ) → EitherStep → List ℕ → List ℕ
-eitherStepped low high table (over-limits call) m = markBetween (call .n) low high m (call .sheet) .marks
-eitherStepped low high table (over-table step) m = stepped table step m
-
-abbrev pub eitherSteps : (low high table : List ℕ) → List EitherStep → List ℕ → List ℕ
-eitherSteps low high table = run (eitherStepped low high table)
-
--- over packed sets, with tables and sheets in bytes, by the functions for C
-abbrev pub eitherSteppedInC : (low high table : List ℕ) → EitherStep → List ℕ → List ℕ
-eitherSteppedInC low high table (over-limits call) set = markBetweenInC (call .n) low high set (call .sheet) .marks
-eitherSteppedInC low high table (over-table step) set = steppedInC table step set
-
-abbrev pub eitherStepsInC : (low high table : List ℕ) → List EitherStep → List ℕ → List ℕ
-eitherStepsInC low high table = run (eitherSteppedInC low high table)
+abbrev pub freshIn : ℕ → (before : List ℕ) → List ℕ
+freshIn n before = freshSetLeft (freshSetAnswer n (length before)) n before

@@ -1,0 +1,112 @@
+-- THE RUN: no list of steps (marking, asking, confirming, withdrawing, marking over low and high) from fresh marks leaves an edge of a 3-optimal tour struck or
+-- pending, under any table that its marks serve. Here of the marks of the edges; `PackedRuns` says it of packed sets and of the functions for C. Assumes nothing.
+use Prim.Native.Nat.{ℕ, _≤_}
+use mathlib.Core.Path.{_≡_, refl, sym, _∙_, ap, subst}
+use mathlib.Core.Logic.{_⊎_, inl, inr}
+use mathlib.Core.List.{List, []}
+use native.Mathlib.Omega.{arith}
+use lib.ListN.{length}
+use Rattle.lengths.specs.Edge.{edgeCount, place}
+use Rattle.lengths.specs.Instance.{leastPoints, mostPoints}
+use Rattle.lengths.specs.Table.{lengthOf}
+use Rattle.marks.specs.Fresh.{freshMarks}
+use Rattle.marks.specs.Mark.{struckMark, openMark, pendingMark, openUpTo}
+use Rattle.marks.specs.Pending.{settledAnswer, settledLeft}
+use Rattle.marks.specs.declared.pending.Settled.{Settled}
+use Rattle.marks.specs.declared.pending.Settled.the-variants as settling
+use Rattle.marks.proofs.FreshMarks.{fresh-left}
+use Rattle.marks.proofs.Marks.{open-mark}
+use Rattle.marks.proofs.PackedSets.{some-edges}
+use Rattle.marks.proofs.PendingMarks.{settled-size, settled-open}
+use Rattle.tours.specs.Tour.{ThreeOptimal}
+use Rattle.argument.proofs.Safe.{run-keeps}
+use Rattle.limits.proofs.LimitWays.{passed-ready}
+use Rattle.limits.specs.Mark.{markBetween}
+use Rattle.limits.specs.Tests.{readyBetween}
+use Rattle.marking.proofs.Tested.{BetweenPassed, passed, ready-tested}
+use Rattle.marking.specs.Mark.{markTested, markBy}
+use Rattle.marking.specs.Tests.{ready}
+use Rattle.marking.specs.declared.tests.Tested.{Tested}
+use Rattle.marking.specs.declared.tests.Tested.the-variants.{Points, Refused}
+use Rattle.demands.specs.Keeping.{Ordered, Serves, KeepsTours}
+use Rattle.demands.specs.Run.{Tables, Call, Step, marking, asking, confirming, withdrawing, marking-between, stepped, stepsOf, freshFrom}
+use Rattle.demands.proofs.Kept.{Kept, fresh-kept, tested-kept}
+use Rattle.demands.proofs.Monotone.{LengthsBetween, lengths-between, lengths-same}
+use Rattle.demands.proofs.Sizes.{edge-count-injective, in-limits}
+
+module _ {n : ℕ} (T : Tables) (some : leastPoints ≤ n) (low-whole : length (T .low) ≡ edgeCount n) {table : List ℕ} (served : Serves n T table) {t : List ℕ}
+    (best : ThreeOptimal n (lengthOf n table) t) where
+  -- a sheet leaves the tour's edges open, marked or asked, whatever n and records it states: where its tests pass, they answer n, and the lengths by which the
+  -- tour is 3-optimal lie between those of what is taken out and of what is put in
+  call-kept : (by : ℕ) (out put s marks : List ℕ) → Kept n t marks → (r : Tested) → ((p : ℕ) → r ≡ Points p → (p ≡ n) × LengthsBetween n out put table) →
+      Kept n t (markTested by r out put marks s .marks)
+  call-kept by out put s marks kept (Refused k) told = kept
+  call-kept by out put s marks kept (Points p) told = tested-kept some (told p refl .1) best by s marks kept (Points p) (λ q e. told q e .0)
+
+  -- a call over the board's own table that passes states its n; over no table none passes
+  own-passed : (m : ℕ) (marks : List ℕ) (p : ℕ) → ready m (T .own) marks ≡ Points p → (p ≡ n) × LengthsBetween n (T .own) (T .own) table
+  own-passed m marks p e = on (served .own)
+    where
+      whole : length (T .own) ≡ edgeCount p
+      whole = passed (ready-tested e .tests) .lengths .whole
+
+      least : leastPoints ≤ p
+      least = passed (ready-tested e .tests) .least
+
+      on : (T .own ≡ table) ⊎ (T .own ≡ []) → (p ≡ n) × LengthsBetween n (T .own) (T .own) table
+      on (inl same) = (
+        edge-count-injective p n (omega (arith, least)) (omega arith) (sym whole ∙ ap length same ∙ served .whole),
+        subst (λ (l : List ℕ). LengthsBetween n l l table) (sym same) lengths-same,
+      )
+      on (inr none) = absurd (omega (arith, whole, ap length none, some-edges p least))
+
+  -- and so does a call over low and high
+  between-passed : (m : ℕ) (marks : List ℕ) (p : ℕ) → readyBetween m (T .low) (T .high) marks ≡ Points p → (p ≡ n) × LengthsBetween n (T .low) (T .high) table
+  between-passed m marks p e = (same, lengths-between n (served .between (subst (λ (q : ℕ). Ordered q (T .low) (T .high)) same (limited .listable .limits .order))))
+    where
+      limited : BetweenPassed m (T .low) (T .high) marks p
+      limited = passed-ready e
+
+      same : p ≡ n
+      same = edge-count-injective p n (omega (arith, limited .listable .least)) (omega arith) (sym (limited .listable .limits .out-lengths .whole) ∙ low-whole)
+
+  sheet-kept : (by : ℕ) (call : Call) (marks : List ℕ) → Kept n t marks → Kept n t (markBy by (call .n) (T .own) marks (call .sheet) .marks)
+  unfolding markBy
+  sheet-kept by call marks kept = call-kept by (T .own) (T .own) (call .sheet) marks kept (ready (call .n) (T .own) marks) (own-passed (call .n) marks)
+
+  -- confirming and withdrawing change pending marks alone, and the tour's edges have mark 1
+  settle-kept : (mark : ℕ) (marks : List ℕ) → Kept n t marks → (r : Settled) → Kept n t (settledLeft r mark marks)
+  settle-kept mark marks kept (settling.Refused k rec) = kept
+  settle-kept mark marks kept settling.Done =
+      record { whole = settled-size mark marks ∙ kept .whole; all-open = λ a b u. settled-open mark n marks a b (kept .all-open a b u) }
+
+  step-kept : (step : Step) (marks : List ℕ) → Kept n t marks → Kept n t (stepped T step marks)
+  unfolding markBetween
+  step-kept (marking call) marks kept = sheet-kept struckMark call marks kept
+  step-kept (asking call) marks kept = sheet-kept pendingMark call marks kept
+  step-kept (confirming m) marks kept = settle-kept struckMark marks kept (settledAnswer m marks)
+  step-kept (withdrawing m) marks kept = settle-kept openMark marks kept (settledAnswer m marks)
+  step-kept (marking-between call) marks kept =
+      call-kept struckMark (T .low) (T .high) (call .sheet) marks kept (readyBetween (call .n) (T .low) (T .high) marks) (between-passed (call .n) marks)
+
+  run-kept : (steps : List Step) → Kept n t (stepsOf T steps (freshMarks n))
+  run-kept steps = run-keeps (Kept n t) (stepped T) step-kept steps (freshMarks n) (fresh-kept some (lengths-same {table = table}) best)
+
+-- THE RUN: for every n from 4 to 180, all tables of a run whose low one has n(n - 1)/2 lengths, and every list of steps, each with the n it states, the marks that it
+-- leaves have mark 1 at each edge of every tour that is 3-optimal under a table which they serve.
+-- On fresh marks all edges of the tour are open. Suppose that they are open before a step. If the step is a sheet that is refused before its
+-- first line, no mark changes. If not, it states the n of the tables, since n(n - 1)/2 tells n, and its lines are judged one after the other. An
+-- accepted line has a closed argument for its edge ab. If the tour used ab, its own two neighbours of each split point would be a feasible pair under the table, and
+-- so over low and high (`feasible-over`): the argument would have a case for them, and a further split or a 3-opt closing that settles it; going down, some 3-opt
+-- closing would settle a set of edges that the tour uses, over low and high and so under the table (`closes-under`), and one of its two moves would shorten the
+-- tour. So ab is no edge of the tour, and another mark for ab leaves the tour's edges open. Confirming and withdrawing change pending marks alone, and no edge
+-- of the tour has one.
+pub run-open : (n : ℕ) → leastPoints ≤ n → (T : Tables) → length (T .low) ≡ edgeCount n → (steps : List Step) → KeepsTours ThreeOptimal n T (stepsOf T steps (freshMarks n))
+unfolding openUpTo
+run-open n some T low-whole steps table served t best a b u = open-mark _ (place n a b) (run-kept T some low-whole served best steps .all-open a b u)
+
+-- from the marks that *fresh marks* left in a buffer for this n
+pub three-optimal-open : (n : ℕ) → leastPoints ≤ n → n ≤ mostPoints → (T : Tables) → length (T .low) ≡ edgeCount n → (before : List ℕ) → length before ≡ edgeCount n →
+    (steps : List Step) → KeepsTours ThreeOptimal n T (stepsOf T steps (freshFrom n before))
+three-optimal-open n some most T low-whole before sized steps =
+    subst (λ (m : List ℕ). KeepsTours ThreeOptimal n T (stepsOf T steps m)) (sym (fresh-left n before (in-limits some most) sized)) (run-open n some T low-whole steps)
