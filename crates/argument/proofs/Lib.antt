@@ -11,3 +11,4 @@ pub mod SheetExact
 pub mod Safe
 pub mod Numbers
 pub mod Maps
+pub mod AnyList

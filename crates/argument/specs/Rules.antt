@@ -20,6 +20,10 @@ pub record Rules : Type 1 where
   -- and 0 if the 3-opt closing settles K, else the number of its refusal
   pub closing : (K : List Edge) (p q r s : ℕ) → ℕ
 
+-- the same rules, whose walk goes by another list
+abbrev pub listedBy : Rules → (list : List Edge → ℕ → List Edge) → Rules
+listedBy R list = record { n = R .n; Feasible = R .Feasible; Settles = R .Settles; pairs = list; closing = R .closing }
+
 -- "exactly the standing pairs, in rising order"
 pub record NamesFeasible (R : Rules) (K : List Edge) (c : ℕ) (named : List Edge) : Type 0 where
   pub rising : Rising named

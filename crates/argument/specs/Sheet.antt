@@ -7,7 +7,8 @@ use mathlib.Core.Path.{_≡_}
 use lib.Dec.{eqb}
 use Rattle.argument.specs.Verdict.{Verdict, accepted, refused, andThen}
 use Rattle.argument.specs.Record.{records, Readable}
-use Rattle.argument.specs.Rules.{Rules}
+use Rattle.lengths.specs.Edge.{Edge}
+use Rattle.argument.specs.Rules.{Rules, listedBy}
 use Rattle.argument.specs.Layout.{Enters}
 use Rattle.argument.specs.Walk.{entering}
 use Rattle.argument.specs.Line.{Struck, strikes, judge, CompleteAt}
@@ -17,6 +18,10 @@ pub record Marking (M : Type 0) : Type 1 where
   pub rules : M → Rules
   pub open? : M → ℕ → ℕ → Bool
   pub strike : M → ℕ → ℕ → M
+
+-- the same marking, whose lines go by other lists of pairs
+abbrev pub markingListed : {M : Type 0} → Marking M → (lists : M → List Edge → ℕ → List Edge) → Marking M
+markingListed 𝓜 lists = record { rules = λ m. listedBy (𝓜 .rules m) (lists m); open? = 𝓜 .open?; strike = 𝓜 .strike }
 
 -- where a sheet stands between two lines
 pub record Place (M : Type 0) : Type 0 where
@@ -84,7 +89,8 @@ CompleteLines 𝓜 s p (x ∷ xs) q =
     Enters s (p .high) (p .index) × CompleteAt (𝓜 .rules (p .marks)) (𝓜 .open? (p .marks)) s (p .index) x × CompleteLines 𝓜 s (struck 𝓜 p x) xs q
 
 -- why a sheet stops at the place q, and its verdict there: index 0; an index refused by 8 or 9; or a line, entered as a record, that is
--- not complete, with the refusal that judging it gives
+-- not complete. Number and record are then those that judging it tells: the first of 01's tests that fails on the way through the records (`judge`), in which the
+-- pairs due at a split may come from any list that names exactly the feasible ones, rising (`judge-any-list`, proofs/AnyList.antt)
 pub data Stops {M : Type 0} (𝓜 : Marking M) (s : List ℕ) (q : Place M) : Verdict (Unit {0}) → Type 0 where
   ended : q .index ≡ 0 → Stops 𝓜 s q (accepted tt)
   above : records s < q .index → Stops 𝓜 s q (refused 8 (q .last))
@@ -93,7 +99,7 @@ pub data Stops {M : Type 0} (𝓜 : Marking M) (s : List ℕ) (q : Place M) : Ve
       ((x : Struck) → CompleteAt (𝓜 .rules (q .marks)) (𝓜 .open? (q .marks)) s (q .index) x → ⊥) →
       judge (𝓜 .rules (q .marks)) (𝓜 .open? (q .marks)) s (q .index) ≡ refused number rec → Stops 𝓜 s q (refused number rec)
 
--- the answer r of a sheet from the place p on, without the marker's walk: a chain of complete lines leads to a place where it stops, and r has
+-- the answer r of a sheet from the place p on: a chain of complete lines, which is stated without the marker's walk, leads to a place where it stops, and r has
 -- the marks and the number of lines of that place
 pub record Answers {M : Type 0} (𝓜 : Marking M) (s : List ℕ) (p : Place M) (r : Result M) : Type 0 where
   pub lines : List Struck

@@ -1,9 +1,12 @@
 pub mod Agreement
+pub mod AnyLists
 pub mod Asked
 pub mod AskedPacked
 pub mod Changed
 pub mod Demand2
 pub mod Demand2Between
+pub mod Demand2InC
+pub mod Demand2Packed
 pub mod Demand3
 pub mod Exists
 pub mod Kept
@@ -21,3 +24,4 @@ pub mod SheetLines
 pub mod Sizes
 pub mod Slips
 pub mod Strikes
+pub mod Unchanged

@@ -27,12 +27,11 @@ use Rattle.marks.specs.Pending.{settledAnswer, settledLeft, settledSetAnswer, s
 use Rattle.marks.specs.declared.pending.Settled.{Settled}
 use Rattle.marks.specs.declared.pending.Settled.the-variants as settled
 use Rattle.marks.proofs.PackedSets.{packed-length, well-packed, marks-none, marks-size, marks-are, packed-marks, repacked-same, packed-is-well, marks-packed, some-edges}
-use Rattle.marking.proofs.MarkingSheets.{packedResult}
 use Rattle.limits.specs.Tests.{testedLimits, untilMarks, testedBetween, readyBetween}
 use Rattle.limits.specs.Mark.{markBetween, markBetweenPacked}
 use Rattle.limits.specs.Listing.{listedBetween}
 use Rattle.marking.specs.Listing.{listTested, listed, listLeft}
-use Rattle.marking.specs.Mark.{turnedDown, markTested, markBy, repack, markPackedBy}
+use Rattle.marking.specs.Mark.{turnedDown, markTested, markBy, packedResult, repack, markPackedBy}
 use Rattle.marking.specs.Tests.{tested, untilPending, ready}
 use Rattle.marking.specs.Tour.{checkTested, tourChecked}
 use Rattle.marking.specs.declared.tests.Tested.{Tested}

@@ -4,7 +4,7 @@ use Prim.Native.Nat.{ℕ}
 use mathlib.Core.Path.{_≡_, refl, sym, _∙_, ap, subst}
 use mathlib.Core.Bool.{Bool, true, false}
 use mathlib.Core.Logic.{_↔_}
-use mathlib.Core.List.{List, []}
+use mathlib.Core.List.{List, [], _∷_}
 use native.Mathlib.Omega.{arith}
 use lib.ListN.{length}
 use Rattle.lengths.specs.Edge.{Edge, edgeCount}
@@ -86,3 +86,21 @@ module _ (by n : ℕ) (out put marks s : List ℕ) where
       tests : (r : Tested) → ((p : ℕ) → r ≡ Points p → (p ≡ n) × (length marks ≡ edgeCount n)) → Found (markTested by r out put marks s)
       tests (Refused number) e = ([], no-changes by n marks)
       tests (Points m) e = let z = e m refl in subst (λ (k : ℕ). Found (markTested by (Points k) out put marks s)) (sym (z .0)) (whole (z .1) (wholeSheet (length s)))
+
+-- a call that accepts no line leaves the marks as they were, whatever its tests come to: a chain without a line has not left its beginning
+module _ (by : ℕ) (out put marks s : List ℕ) where
+  no-lines : (n : ℕ) (xs : List Struck) (q : Place (List ℕ)) → CompleteLines (markingBetween by n out put) s (start marks) xs q → q .lines ≡ 0 → q .marks ≡ marks
+  unfolding start CompleteLines
+  no-lines n [] q chain e = sym (ap (λ (p : Place (List ℕ)). p .marks) chain)
+  no-lines n (x ∷ xs) q chain e = let c = chain-length (markingBetween by n out put) s (x ∷ xs) (start marks) q chain in absurd (omega (arith, c, e))
+
+  pub tested-unmarked : (t : Tested) → markTested by t out put marks s .lines ≡ 0 → markTested by t out put marks s .marks ≡ marks
+  tested-unmarked (Refused number) e = refl
+  tested-unmarked (Points n) e = whole (wholeSheet (length s)) e
+    where
+      whole : (b : Bool) → unless b (turnedDown 7 marks) (sheet (markingBetween by n out put) s marks) .lines ≡ 0 →
+          unless b (turnedDown 7 marks) (sheet (markingBetween by n out put) s marks) .marks ≡ marks
+      whole false z = refl
+      whole true z =
+          let m = sheet-exact (markingBetween by n out put) (lawful-between n out put) s marks (sheet (markingBetween by n out put) s marks) .0 refl in
+          m .marks-left ∙ no-lines n (m .lines) (m .place) (m .chain) (sym (m .counted) ∙ z)

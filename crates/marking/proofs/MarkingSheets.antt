@@ -29,7 +29,7 @@ use Rattle.sheets.specs.declared.sheet.SheetAdmission.the-variants as admitting
 use Rattle.sheets.specs.declared.verdict.Verdict.{Verdict}
 use Rattle.sheets.specs.declared.verdict.Verdict.the-variants as verdict
 use Rattle.marking.proofs.Tested.{BetweenPassed, both-passed, listable-set, passed-some, passed-well, passed, ready-tested}
-use Rattle.marking.specs.Mark.{turnedDown, markTested, markBy, repack, markPackedBy}
+use Rattle.marking.specs.Mark.{turnedDown, markTested, markBy, packedResult, repack, markPackedBy}
 use Rattle.marking.specs.asks.Mark.{AdmittedBy, RowsAsked}
 use Rattle.marking.specs.Tests.{ready}
 use Rattle.marking.specs.declared.tests.Tested.{Tested}
@@ -62,10 +62,6 @@ marked-set by p {n} out put s {marks} l = sheet-keeps (markingBetween by p out p
   where
     struck : (m : List ℕ) (a b : ℕ) → ByteSet n m → ByteSet n (markIn by p m a b)
     struck m a b k = record { size = length-marked by p m a b ∙ k .size; are = marks-set m (place p a b) by l (k .are) }
-
--- a result whose marks are packed
-abbrev pub packedResult : Result (List ℕ) → Result (List ℕ)
-packedResult r = record { marks = packed (r .marks); lines = r .lines; verdict = r .verdict }
 
 packed-result : (v : Verdict) {left : List ℕ} (marks : List ℕ) → left ≡ packed marks → resultOf v left ≡ packedResult (resultOf v marks)
 packed-result (verdict.Accepted lines) marks e = ap (λ (m : List ℕ). resultOf (verdict.Accepted lines) m) e

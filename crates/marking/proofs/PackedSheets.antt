@@ -15,8 +15,8 @@ use Rattle.sheets.specs.Sheet.{wholeSheet}
 use Rattle.sheets.specs.Verdict.{resultOf}
 use Rattle.sheets.specs.declared.verdict.Verdict.{Verdict}
 use Rattle.sheets.specs.declared.verdict.Verdict.the-variants as verdict
-use Rattle.marking.proofs.MarkingSheets.{packedResult, marked-set}
-use Rattle.marking.specs.Mark.{turnedDown, markTested, markBy, repack, markPackedBy}
+use Rattle.marking.proofs.MarkingSheets.{marked-set}
+use Rattle.marking.specs.Mark.{turnedDown, markTested, markBy, packedResult, repack, markPackedBy}
 use Rattle.marking.specs.Tests.{ready}
 use Rattle.marking.specs.declared.tests.Tested.{Tested}
 use Rattle.marking.specs.declared.tests.Tested.the-variants.{Points, Refused}

@@ -8,7 +8,7 @@ use Rattle.argument.specs.Sheet.{Result, sheet}
 use Rattle.sheets.specs.Rules.{markingBetween}
 use Rattle.sheets.specs.Sheet.{wholeSheet}
 use Rattle.marks.specs.Mark.{struckMark, pendingMark}
-use Rattle.marks.specs.Packed.{marksOf, repacked}
+use Rattle.marks.specs.Packed.{packed, marksOf, repacked}
 use Rattle.marking.specs.Tests.{ready}
 use Rattle.marking.specs.declared.tests.Tested.{Tested}
 use Rattle.marking.specs.declared.tests.Tested.the-variants.{Points, Refused}
@@ -32,6 +32,10 @@ markSheet = markBy struckMark
 -- "ask a sheet" (02, Paper 3): "its strikes get mark 2, pending"
 abbrev pub askSheet : ℕ → List ℕ → List ℕ → List ℕ → Result (List ℕ)
 askSheet = markBy pendingMark
+
+-- a result whose marks are packed
+abbrev pub packedResult : Result (List ℕ) → Result (List ℕ)
+packedResult r = record { marks = packed (r .marks); lines = r .lines; verdict = r .verdict }
 
 -- over a packed set: the marks that it holds are marked, and it holds those that are left
 abbrev pub repack : ℕ → List ℕ → Result (List ℕ) → Result (List ℕ)
