@@ -11,10 +11,10 @@ use Rattle.argument.specs.Verdict.{accepted}
 use Rattle.argument.specs.Rules.{Rules, Lawful}
 use Rattle.argument.specs.Argument.{Cases, none, pair, Closing, split, threeOpt, names, Complete, AllComplete, CompleteArgument}
 use Rattle.argument.specs.Line.{Struck, strikes, judge}
-use Rattle.argument.specs.Sheet.{Marking, Place, onward, struck, turn, Result, answer, start, sheet, run}
+use Rattle.argument.specs.Sheet.{Marking, Place, onward, struck, lineStep, Result, answer, start, sheet, run}
 use Rattle.argument.specs.Safety.{Upheld, Guarded}
 use Rattle.argument.proofs.Exact.{line-sound}
-use Rattle.argument.proofs.Sheet.{TurnSays, turned, sheet-stop}
+use Rattle.argument.proofs.Sheet.{StepSays, step-says, sheet-stop}
 
 module _ (R : Rules) (Good : List Edge → Type 0) (up : Upheld R Good) where
   -- A complete closing rules out K. Take the case of the tour's own pair, which is feasible and so is named, and go down: the tour uses that
@@ -46,12 +46,12 @@ module _ (R : Rules) (Good : List Edge → Type 0) (up : Upheld R Good) where
   line-safe law open? s i a b next h g e = let l = line-sound R law s open? i a b next h e in argument-safe a b (l .c) (l .cases) (l .argument) g
 
 module _ {M : Type 0} (𝓜 : Marking M) (Good : List Edge → Type 0) (Kept : M → Type 0) (safe : Guarded 𝓜 Good Kept) where
-  pub turn-safe : (s : List ℕ) (p p′ : Place M) → Kept (p .marks) → turn 𝓜 s p ≡ accepted (onward p′) → Kept (p′ .marks)
+  pub step-safe : (s : List ℕ) (p p′ : Place M) → Kept (p .marks) → lineStep 𝓜 s p ≡ accepted (onward p′) → Kept (p′ .marks)
   unfolding struck
-  turn-safe s p p′ k e = by (t .x) (t .judged) (t .place)
+  step-safe s p p′ k e = by (t .x) (t .judged) (t .place)
     where
-      t : TurnSays 𝓜 s p (onward p′)
-      t = turned 𝓜 s p (onward p′) e
+      t : StepSays 𝓜 s p (onward p′)
+      t = step-says 𝓜 s p (onward p′) e
 
       by : (x : Struck) → judge (𝓜 .rules (p .marks)) (𝓜 .open? (p .marks)) s (p .index) ≡ accepted x → p′ ≡ struck 𝓜 p x → Kept (p′ .marks)
       by (strikes a b next high) j z =
@@ -65,24 +65,26 @@ module _ {M : Type 0} (𝓜 : Marking M) (Good : List Edge → Type 0) (Kept : M
   pub sheet-safe : (s : List ℕ) (m : M) → Kept m → Kept (sheet 𝓜 s m .marks)
   unfolding answer start
   sheet-safe s m k =
-      let r = sheet-stop 𝓜 s (λ (p : Place M). Kept (p .marks)) (turn-safe s) m k in
+      let r = sheet-stop 𝓜 s (λ (p : Place M). Kept (p .marks)) (step-safe s) m k in
       subst (λ (x : Result M). Kept (x .marks)) (sym (r .3)) (r .2)
 
--- what every strike keeps, a sheet keeps
-pub sheet-keeps : {M : Type 0} (𝓜 : Marking M) (Kept : M → Type 0) → ((m : M) (a b : ℕ) → Kept m → Kept (𝓜 .strike m a b)) → (s : List ℕ) (m : M) → Kept m → Kept (sheet 𝓜 s m .marks)
-unfolding answer start struck
-sheet-keeps {M} 𝓜 Kept strikes-keep s m k =
-    let r = sheet-stop 𝓜 s (λ (p : Place M). Kept (p .marks)) step m k in
-    subst (λ (x : Result M). Kept (x .marks)) (sym (r .3)) (r .2)
-  where
-    step : (p p′ : Place M) → Kept (p .marks) → turn 𝓜 s p ≡ accepted (onward p′) → Kept (p′ .marks)
-    step p p′ k e = by (t .x) (t .place)
-      where
-        t : TurnSays 𝓜 s p (onward p′)
-        t = turned 𝓜 s p (onward p′) e
+-- what every strike keeps, a line keeps, and so does a sheet
+module _ {M : Type 0} (𝓜 : Marking M) (Kept : M → Type 0) (strikes-keep : (m : M) (a b : ℕ) → Kept m → Kept (𝓜 .strike m a b)) (s : List ℕ) where
+  pub step-keeps : (p p′ : Place M) → Kept (p .marks) → lineStep 𝓜 s p ≡ accepted (onward p′) → Kept (p′ .marks)
+  unfolding struck
+  step-keeps p p′ k e = by (t .x) (t .place)
+    where
+      t : StepSays 𝓜 s p (onward p′)
+      t = step-says 𝓜 s p (onward p′) e
 
-        by : (x : Struck) → p′ ≡ struck 𝓜 p x → Kept (p′ .marks)
-        by (strikes a b next high) z = subst (λ (q : Place M). Kept (q .marks)) (sym z) (strikes-keep (p .marks) a b k)
+      by : (x : Struck) → p′ ≡ struck 𝓜 p x → Kept (p′ .marks)
+      by (strikes a b next high) z = subst (λ (q : Place M). Kept (q .marks)) (sym z) (strikes-keep (p .marks) a b k)
+
+  pub sheet-keeps : (m : M) → Kept m → Kept (sheet 𝓜 s m .marks)
+  unfolding answer start
+  sheet-keeps m k =
+      let r = sheet-stop 𝓜 s (λ (p : Place M). Kept (p .marks)) step-keeps m k in
+      subst (λ (x : Result M). Kept (x .marks)) (sym (r .3)) (r .2)
 
 -- what every call keeps, a run keeps
 pub run-keeps : {M C : Type 0} (Kept : M → Type 0) (call : C → M → M) → ((c : C) (m : M) → Kept m → Kept (call c m)) → (cs : List C) (m : M) → Kept m → Kept (run call cs m)

@@ -1,4 +1,4 @@
--- A sheet as the repetition of one line: what an accepted turn says, and that the fuel does not matter.
+-- A sheet as the repetition of one line: what an accepted step says, and that the fuel does not matter.
 use Prim.Native.Nat.{ℕ, zero, suc, _+_, _≤_, _<_}
 use mathlib.Core.Path.{_≡_, refl, sym, _∙_, ap, subst}
 use mathlib.Core.Bool.{Bool, true, false}
@@ -12,7 +12,7 @@ use Rattle.argument.specs.Rules.{Rules}
 use Rattle.argument.specs.Layout.{Enters}
 use Rattle.argument.specs.Walk.{entering, opening, walk}
 use Rattle.argument.specs.Line.{Struck, strikes, judge}
-use Rattle.argument.specs.Sheet.{Marking, Place, Turn, over, onward, struck, turn, Result, answer, proceed, linesBy, linesFrom, start, sheet}
+use Rattle.argument.specs.Sheet.{Marking, Place, LineStep, over, onward, struck, lineStep, Result, answer, proceed, linesBy, linesFrom, start, sheet}
 use Rattle.argument.proofs.Verdicts.{accepted-inj, pass-andThen, stop-andThen, andThen-passed}
 use Rattle.argument.proofs.Tests.{entering-passed, pass-entering, refuse-8, refuse-9}
 use Rattle.argument.proofs.Fuel.{walk-rises}
@@ -25,45 +25,45 @@ pub record LineMarked {M : Type 0} (𝓜 : Marking M) (s : List ℕ) (p p′ : P
   pub judged : judge (𝓜 .rules (p .marks)) (𝓜 .open? (p .marks)) s (p .index) ≡ accepted x
   pub place : p′ ≡ struck 𝓜 p x
 
-abbrev pub TurnSays : {M : Type 0} → Marking M → List ℕ → Place M → Turn M → Type 0
-TurnSays 𝓜 s p over = p .index ≡ 0
-TurnSays 𝓜 s p (onward p′) = LineMarked 𝓜 s p p′
+abbrev pub StepSays : {M : Type 0} → Marking M → List ℕ → Place M → LineStep M → Type 0
+StepSays 𝓜 s p over = p .index ≡ 0
+StepSays 𝓜 s p (onward p′) = LineMarked 𝓜 s p p′
 
 module _ {M : Type 0} (𝓜 : Marking M) (s : List ℕ) (p : Place M) where
-  pub turn-over : p .index ≡ 0 → turn 𝓜 s p ≡ accepted over
-  unfolding turn
-  turn-over e = rw (eq-eqb (p .index) 0 e, turn)
+  pub step-over : p .index ≡ 0 → lineStep 𝓜 s p ≡ accepted over
+  unfolding lineStep
+  step-over e = rw (eq-eqb (p .index) 0 e, lineStep)
 
-  pub turn-on : (p .index ≡ 0 → ⊥) → turn 𝓜 s p ≡ entering s (p .last) (p .high) (p .index) λ _. andThen (judge (𝓜 .rules (p .marks)) (𝓜 .open? (p .marks)) s (p .index)) λ r. accepted (onward (struck 𝓜 p r))
-  unfolding turn
-  turn-on h = rw (ne-eqb (p .index) 0 h, turn)
+  pub step-on : (p .index ≡ 0 → ⊥) → lineStep 𝓜 s p ≡ entering s (p .last) (p .high) (p .index) λ _. andThen (judge (𝓜 .rules (p .marks)) (𝓜 .open? (p .marks)) s (p .index)) λ r. accepted (onward (struck 𝓜 p r))
+  unfolding lineStep
+  step-on h = rw (ne-eqb (p .index) 0 h, lineStep)
 
-  pub turned : (t : Turn M) → turn 𝓜 s p ≡ accepted t → TurnSays 𝓜 s p t
-  turned t z = by (eqb (p .index) 0) refl
+  pub step-says : (t : LineStep M) → lineStep 𝓜 s p ≡ accepted t → StepSays 𝓜 s p t
+  step-says t z = by (eqb (p .index) 0) refl
     where
-      by : (b : Bool) → eqb (p .index) 0 ≡ b → TurnSays 𝓜 s p t
+      by : (b : Bool) → eqb (p .index) 0 ≡ b → StepSays 𝓜 s p t
       by true e =
           let i = eqb-true (p .index) 0 e in
-          let o : TurnSays 𝓜 s p over = i in
-          subst (TurnSays 𝓜 s p) (accepted-inj (sym (turn-over i) ∙ z)) o
+          let o : StepSays 𝓜 s p over = i in
+          subst (StepSays 𝓜 s p) (accepted-inj (sym (step-over i) ∙ z)) o
       by false e =
-          let g = entering-passed _ _ _ _ _ t (sym (turn-on (eqb-false (p .index) 0 e)) ∙ z) in
+          let g = entering-passed _ _ _ _ _ t (sym (step-on (eqb-false (p .index) 0 e)) ∙ z) in
           let v = andThen-passed _ _ t (g .1) in
-          let m : TurnSays 𝓜 s p (onward (struck 𝓜 p (v .0))) = record { x = v .0; entered = g .0; judged = v .1; place = refl } in
-          subst (TurnSays 𝓜 s p) (accepted-inj (v .2)) m
+          let m : StepSays 𝓜 s p (onward (struck 𝓜 p (v .0))) = record { x = v .0; entered = g .0; judged = v .1; place = refl } in
+          subst (StepSays 𝓜 s p) (accepted-inj (v .2)) m
 
-  -- the ways of a turn, for code: the index is refused, the line is refused, or its edge is struck
-  pub turn-8 : records s < p .index → turn 𝓜 s p ≡ refused 8 (p .last)
-  turn-8 h = turn-on (λ z. omega arith) ∙ refuse-8 _ _ _ _ _ h
+  -- the ways of a step, for code: the index is refused, the line is refused, or its edge is struck
+  pub step-8 : records s < p .index → lineStep 𝓜 s p ≡ refused 8 (p .last)
+  step-8 h = step-on (λ z. omega arith) ∙ refuse-8 _ _ _ _ _ h
 
-  pub turn-9 : (p .index ≡ 0 → ⊥) → p .index ≤ records s → p .index ≤ p .high → turn 𝓜 s p ≡ refused 9 (p .last)
-  turn-9 z h l = turn-on z ∙ refuse-9 _ _ _ _ _ h l
+  pub step-9 : (p .index ≡ 0 → ⊥) → p .index ≤ records s → p .index ≤ p .high → lineStep 𝓜 s p ≡ refused 9 (p .last)
+  step-9 z h l = step-on z ∙ refuse-9 _ _ _ _ _ h l
 
-  pub turn-stops : Enters s (p .high) (p .index) → (m r : ℕ) → judge (𝓜 .rules (p .marks)) (𝓜 .open? (p .marks)) s (p .index) ≡ refused m r → turn 𝓜 s p ≡ refused m r
-  turn-stops h m r e = turn-on (λ z. omega (arith, h)) ∙ pass-entering _ _ _ _ _ h ∙ stop-andThen _ _ m r e
+  pub step-stops : Enters s (p .high) (p .index) → (m r : ℕ) → judge (𝓜 .rules (p .marks)) (𝓜 .open? (p .marks)) s (p .index) ≡ refused m r → lineStep 𝓜 s p ≡ refused m r
+  step-stops h m r e = step-on (λ z. omega (arith, h)) ∙ pass-entering _ _ _ _ _ h ∙ stop-andThen _ _ m r e
 
-  pub turn-strikes : Enters s (p .high) (p .index) → (x : Struck) → judge (𝓜 .rules (p .marks)) (𝓜 .open? (p .marks)) s (p .index) ≡ accepted x → turn 𝓜 s p ≡ accepted (onward (struck 𝓜 p x))
-  turn-strikes h x e = turn-on (λ z. omega (arith, h)) ∙ pass-entering _ _ _ _ _ h ∙ pass-andThen _ _ x e
+  pub step-strikes : Enters s (p .high) (p .index) → (x : Struck) → judge (𝓜 .rules (p .marks)) (𝓜 .open? (p .marks)) s (p .index) ≡ accepted x → lineStep 𝓜 s p ≡ accepted (onward (struck 𝓜 p x))
+  step-strikes h x e = step-on (λ z. omega (arith, h)) ∙ pass-entering _ _ _ _ _ h ∙ pass-andThen _ _ x e
 
 abbrev high-of : Struck → ℕ
 high-of (strikes a b next high) = high
@@ -78,19 +78,19 @@ module _ {M : Type 0} (𝓜 : Marking M) (s : List ℕ) where
   struck-high p (strikes a b next high) = refl
 
   -- the place behind an accepted line is no lower than the line
-  pub turn-rises : (p p′ : Place M) → turn 𝓜 s p ≡ accepted (onward p′) → Enters s (p .high) (p .index) × (p .index ≤ p′ .high)
-  turn-rises p p′ e =
-      let m = turned 𝓜 s p (onward p′) e in
+  pub step-rises : (p p′ : Place M) → lineStep 𝓜 s p ≡ accepted (onward p′) → Enters s (p .high) (p .index) × (p .index ≤ p′ .high)
+  step-rises p p′ e =
+      let m = step-says 𝓜 s p (onward p′) e in
       let up = judge-rises _ _ s (p .index) (m .x) (m .judged) in
       (m .entered, subst (λ (k : ℕ). p .index ≤ k) (sym (ap (λ (q : Place M). q .high) (m .place) ∙ struck-high p (m .x))) up)
 
-  pub proceed-agree : (go go′ : Place M → Result M) (p : Place M) → ((p′ : Place M) → Enters s (p .high) (p .index) → p .index ≤ p′ .high → go p′ ≡ go′ p′) → proceed go p (turn 𝓜 s p) ≡ proceed go′ p (turn 𝓜 s p)
+  pub proceed-agree : (go go′ : Place M → Result M) (p : Place M) → ((p′ : Place M) → Enters s (p .high) (p .index) → p .index ≤ p′ .high → go p′ ≡ go′ p′) → proceed go p (lineStep 𝓜 s p) ≡ proceed go′ p (lineStep 𝓜 s p)
   unfolding proceed
-  proceed-agree go go′ p same = by (turn 𝓜 s p) refl
+  proceed-agree go go′ p same = by (lineStep 𝓜 s p) refl
     where
-      by : (v : Verdict (Turn M)) → turn 𝓜 s p ≡ v → proceed go p v ≡ proceed go′ p v
+      by : (v : Verdict (LineStep M)) → lineStep 𝓜 s p ≡ v → proceed go p v ≡ proceed go′ p v
       by (accepted over) e = refl
-      by (accepted (onward p′)) e = let r = turn-rises p p′ e in same p′ (r .0) (r .1)
+      by (accepted (onward p′)) e = let r = step-rises p p′ e in same p′ (r .0) (r .1)
       by (refused m r) e = refl
 
   pub lines-enough : (f g : ℕ) (p : Place M) → 1 ≤ f → 1 ≤ g → records s < f + p .high → records s < g + p .high → linesBy 𝓜 s f p ≡ linesBy 𝓜 s g p
@@ -101,35 +101,35 @@ module _ {M : Type 0} (𝓜 : Marking M) (s : List ℕ) where
       proceed-agree (linesBy 𝓜 s f) (linesBy 𝓜 s g) p (λ p′ h le. lines-enough f g p′ (omega arith) (omega arith) (omega arith) (omega arith))
 
   -- a sheet goes on as itself: the equation that code is held to
-  pub lines-proceed : (p : Place M) → linesFrom 𝓜 s p ≡ proceed (linesFrom 𝓜 s) p (turn 𝓜 s p)
+  pub lines-proceed : (p : Place M) → linesFrom 𝓜 s p ≡ proceed (linesFrom 𝓜 s) p (lineStep 𝓜 s p)
   unfolding linesFrom linesBy
   lines-proceed p =
       proceed-agree (linesBy 𝓜 s (records s)) (linesBy 𝓜 s (suc (records s))) p (λ p′ h le. lines-enough (records s) (suc (records s)) p′ (omega arith) (omega arith) (omega arith) (omega arith))
 
   module _ (p : Place M) where
-    pub lines-over : turn 𝓜 s p ≡ accepted over → linesFrom 𝓜 s p ≡ answer p (accepted tt)
+    pub lines-over : lineStep 𝓜 s p ≡ accepted over → linesFrom 𝓜 s p ≡ answer p (accepted tt)
     unfolding proceed
     lines-over e = lines-proceed p ∙ ap (proceed (linesFrom 𝓜 s) p) e
 
-    pub lines-stop : (m r : ℕ) → turn 𝓜 s p ≡ refused m r → linesFrom 𝓜 s p ≡ answer p (refused m r)
+    pub lines-stop : (m r : ℕ) → lineStep 𝓜 s p ≡ refused m r → linesFrom 𝓜 s p ≡ answer p (refused m r)
     unfolding proceed
     lines-stop m r e = lines-proceed p ∙ ap (proceed (linesFrom 𝓜 s) p) e
 
-    pub lines-go-on : (p′ : Place M) → turn 𝓜 s p ≡ accepted (onward p′) → linesFrom 𝓜 s p ≡ linesFrom 𝓜 s p′
+    pub lines-go-on : (p′ : Place M) → lineStep 𝓜 s p ≡ accepted (onward p′) → linesFrom 𝓜 s p ≡ linesFrom 𝓜 s p′
     unfolding proceed
     lines-go-on p′ e = lines-proceed p ∙ ap (proceed (linesFrom 𝓜 s) p) e
 
   -- What every accepted line keeps, holds of the place where the sheet stops: its marks and its lines are those of the answer.
-  stops-with : (P : Place M → Type 0) → ((p p′ : Place M) → P p → turn 𝓜 s p ≡ accepted (onward p′) → P p′) → (fuel : ℕ) (p : Place M) → P p → (q : Place M) × (v : Verdict (Unit {0})) × P q × (linesBy 𝓜 s fuel p ≡ answer q v)
+  stops-with : (P : Place M → Type 0) → ((p p′ : Place M) → P p → lineStep 𝓜 s p ≡ accepted (onward p′) → P p′) → (fuel : ℕ) (p : Place M) → P p → (q : Place M) × (v : Verdict (Unit {0})) × P q × (linesBy 𝓜 s fuel p ≡ answer q v)
   unfolding linesBy proceed
   stops-with P keeps zero p k = (p, refused 0 0, k, refl)
-  stops-with P keeps (suc fuel) p k = by (turn 𝓜 s p) refl (λ p′ e. stops-with P keeps fuel p′ (keeps p p′ k e))
+  stops-with P keeps (suc fuel) p k = by (lineStep 𝓜 s p) refl (λ p′ e. stops-with P keeps fuel p′ (keeps p p′ k e))
     where
-      by : (t : Verdict (Turn M)) → turn 𝓜 s p ≡ t → ((p′ : Place M) → turn 𝓜 s p ≡ accepted (onward p′) → (q : Place M) × (v : Verdict (Unit {0})) × P q × (linesBy 𝓜 s fuel p′ ≡ answer q v)) → (q : Place M) × (v : Verdict (Unit {0})) × P q × (proceed (linesBy 𝓜 s fuel) p t ≡ answer q v)
+      by : (t : Verdict (LineStep M)) → lineStep 𝓜 s p ≡ t → ((p′ : Place M) → lineStep 𝓜 s p ≡ accepted (onward p′) → (q : Place M) × (v : Verdict (Unit {0})) × P q × (linesBy 𝓜 s fuel p′ ≡ answer q v)) → (q : Place M) × (v : Verdict (Unit {0})) × P q × (proceed (linesBy 𝓜 s fuel) p t ≡ answer q v)
       by (accepted over) e ih = (p, accepted tt, k, refl)
       by (accepted (onward p′)) e ih = ih p′ e
       by (refused m r) e ih = (p, refused m r, k, refl)
 
-  pub sheet-stop : (P : Place M → Type 0) → ((p p′ : Place M) → P p → turn 𝓜 s p ≡ accepted (onward p′) → P p′) → (m : M) → P (start m) → (q : Place M) × (v : Verdict (Unit {0})) × P q × (sheet 𝓜 s m ≡ answer q v)
+  pub sheet-stop : (P : Place M → Type 0) → ((p p′ : Place M) → P p → lineStep 𝓜 s p ≡ accepted (onward p′) → P p′) → (m : M) → P (start m) → (q : Place M) × (v : Verdict (Unit {0})) × P q × (sheet 𝓜 s m ≡ answer q v)
   unfolding sheet linesFrom
   sheet-stop P keeps m k = stops-with P keeps (suc (records s)) (start m) k

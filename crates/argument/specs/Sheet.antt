@@ -33,17 +33,17 @@ pub record Place (M : Type 0) : Type 0 where
   pub index : ℕ
   pub high : ℕ
 
-pub data Turn (M : Type 0) : Type 0 where
-  over : Turn M
-  onward : Place M → Turn M
+pub data LineStep (M : Type 0) : Type 0 where
+  over : LineStep M
+  onward : Place M → LineStep M
 
 -- "An accepted line marks its edge struck before its next index is looked at, and later lines see that mark"
 unfoldable pub struck : {M : Type 0} → Marking M → Place M → Struck → Place M
 struck 𝓜 p (strikes a b next high) = record { marks = 𝓜 .strike (p .marks) a b; lines = suc (p .lines); last = p .index; index = next; high = high }
 
 -- one line from an index: the chain of lines ends, or the line is judged and marked
-unfoldable pub turn : {M : Type 0} → Marking M → List ℕ → Place M → Verdict (Turn M)
-turn 𝓜 s p =
+unfoldable pub lineStep : {M : Type 0} → Marking M → List ℕ → Place M → Verdict (LineStep M)
+lineStep 𝓜 s p =
     elim (eqb (p .index) 0) [
       | true ↦ accepted over
       | false ↦ entering s (p .last) (p .high) (p .index) λ _.
@@ -60,7 +60,7 @@ unfoldable pub answer : {M : Type 0} → Place M → Verdict (Unit {0}) → Resu
 answer p v = record { marks = p .marks; lines = p .lines; verdict = v }
 
 -- a sheet at its next index, whose further lines are left to `go`
-unfoldable pub proceed : {M : Type 0} → (go : Place M → Result M) → Place M → Verdict (Turn M) → Result M
+unfoldable pub proceed : {M : Type 0} → (go : Place M → Result M) → Place M → Verdict (LineStep M) → Result M
 proceed go p (accepted over) = answer p (accepted tt)
 proceed go p (accepted (onward p′)) = go p′
 proceed go p (refused number rec) = answer p (refused number rec)
@@ -68,7 +68,7 @@ proceed go p (refused number rec) = answer p (refused number rec)
 -- at most so many lines
 unfoldable pub linesBy : {M : Type 0} → Marking M → List ℕ → (fuel : ℕ) → Place M → Result M
 linesBy 𝓜 s zero p = answer p (refused 0 0)
-linesBy 𝓜 s (suc fuel) p = proceed (linesBy 𝓜 s fuel) p (turn 𝓜 s p)
+linesBy 𝓜 s (suc fuel) p = proceed (linesBy 𝓜 s fuel) p (lineStep 𝓜 s p)
 
 -- the lines from a place on
 unfoldable pub linesFrom : {M : Type 0} → Marking M → List ℕ → Place M → Result M

@@ -18,9 +18,9 @@ use Rattle.marks.specs.Mark.{struckMark, areMarks, nonePending}
 use Rattle.marks.specs.Packed.{marksOf}
 use Rattle.argument.specs.Verdict.{Verdict, accepted, refused}
 use Rattle.argument.specs.Record.{records}
-use Rattle.argument.specs.Sheet.{Marking, Place, Turn, over, onward, struck, turn, Result, answer, proceed, linesBy, linesFrom, start, sheet}
+use Rattle.argument.specs.Sheet.{Marking, Place, LineStep, over, onward, struck, lineStep, Result, answer, proceed, linesBy, linesFrom, start, sheet}
 use Rattle.argument.specs.Line.{Struck, strikes}
-use Rattle.argument.proofs.Sheet.{LineMarked, turned}
+use Rattle.argument.proofs.Sheet.{LineMarked, step-says}
 use Rattle.argument.proofs.Verdicts.{refused-accepted}
 use Rattle.sheets.specs.Rules.{markingBetween}
 use Rattle.sheets.specs.Sheet.{wholeSheet}
@@ -109,13 +109,13 @@ module _ {M : Type 0} (𝓜 : Marking M) (s : List ℕ) where
   lines-few : (fuel : ℕ) (p : Place M) → linesBy 𝓜 s fuel p .lines ≤ p .lines + fuel
   unfolding linesBy proceed answer
   lines-few zero p = omega arith
-  lines-few (suc fuel) p = by (turn 𝓜 s p) refl (lines-few fuel)
+  lines-few (suc fuel) p = by (lineStep 𝓜 s p) refl (lines-few fuel)
     where
-      by : (v : Verdict (Turn M)) → turn 𝓜 s p ≡ v → ((p′ : Place M) → linesBy 𝓜 s fuel p′ .lines ≤ p′ .lines + fuel)
+      by : (v : Verdict (LineStep M)) → lineStep 𝓜 s p ≡ v → ((p′ : Place M) → linesBy 𝓜 s fuel p′ .lines ≤ p′ .lines + fuel)
           → proceed (linesBy 𝓜 s fuel) p v .lines ≤ p .lines + suc fuel
       by (accepted over) e ih = omega arith
       by (accepted (onward p′)) e ih =
-          let m = turned 𝓜 s p (onward p′) e in
+          let m = step-says 𝓜 s p (onward p′) e in
           omega (arith, ih p′, ap (λ (q : Place M). q .lines) (m .place), line-counted p (m .x))
       by (refused number at) e ih = omega arith
 

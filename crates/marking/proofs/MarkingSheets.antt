@@ -55,13 +55,13 @@ pub sheet-admits : {by : ℕ} (n : ℕ) {table : List ℕ} (set : List ℕ) {s :
     → a ≡ sheetAdmission (length s) → a ≡ admitting.Admitted x → AdmittedBy by p table table (marksOf p set) s (x .records)
 sheet-admits n set l e g w z = admits-between set l (both-passed (passed (ready-tested (sym e ∙ g) .tests))) w z
 
--- marks of n points that a sheet has marked are marks of n points
-pub marked-set : (by p : ℕ) {n : ℕ} (out put s : List ℕ) {marks : List ℕ} → by ≤ pendingMark → ByteSet n marks → ByteSet n (sheet (markingBetween by p out put) s marks .marks)
+-- marks of n points, one of them or those of a sheet's lines marked anew, are marks of n points
+pub struck-set : (by p : ℕ) {n : ℕ} → by ≤ pendingMark → (m : List ℕ) (a b : ℕ) → ByteSet n m → ByteSet n (markIn by p m a b)
 unfolding markIn
-marked-set by p {n} out put s {marks} l = sheet-keeps (markingBetween by p out put) (ByteSet n) struck s marks
-  where
-    struck : (m : List ℕ) (a b : ℕ) → ByteSet n m → ByteSet n (markIn by p m a b)
-    struck m a b k = record { size = length-marked by p m a b ∙ k .size; are = marks-set m (place p a b) by l (k .are) }
+struck-set by p l m a b k = record { size = length-marked by p m a b ∙ k .size; are = marks-set m (place p a b) by l (k .are) }
+
+pub marked-set : (by p : ℕ) {n : ℕ} (out put s : List ℕ) {marks : List ℕ} → by ≤ pendingMark → ByteSet n marks → ByteSet n (sheet (markingBetween by p out put) s marks .marks)
+marked-set by p {n} out put s {marks} l = sheet-keeps (markingBetween by p out put) (ByteSet n) (struck-set by p l) s marks
 
 packed-result : (v : Verdict) {left : List ℕ} (marks : List ℕ) → left ≡ packed marks → resultOf v left ≡ packedResult (resultOf v marks)
 packed-result (verdict.Accepted lines) marks e = ap (λ (m : List ℕ). resultOf (verdict.Accepted lines) m) e

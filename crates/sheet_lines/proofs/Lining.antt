@@ -1,5 +1,5 @@
 -- One line in code, judged and then marked, and the lines of a sheet one after another: one lemma for each way out of `judgeRecord`,
--- `judge`, `turn` and `linesFrom`. Assumes nothing.
+-- `judge`, `lineStep` and `linesFrom`. Assumes nothing.
 use Prim.Native.Nat.{ℕ, suc, _+_, _-_, _≤_, _<_}
 use mathlib.Core.Path.{_≡_, refl, sym, _∙_, ap}
 use mathlib.Core.Bool.{Bool, true, false}
@@ -20,12 +20,12 @@ use Rattle.argument.specs.Layout.{Enters}
 use Rattle.argument.specs.Rules.{Rules}
 use Rattle.argument.specs.Walk.{opening, walk}
 use Rattle.argument.specs.Line.{Struck, strikes, judgeRecord, judge}
-use Rattle.argument.specs.Sheet.{Place, onward, struck, turn, answer, linesFrom, start, sheet}
+use Rattle.argument.specs.Sheet.{Place, onward, struck, lineStep, answer, linesFrom, start, sheet}
 use Rattle.argument.proofs.Verdicts.{pass-guard, fail-guard}
 use Rattle.argument.proofs.Tests.{fits-means}
 use Rattle.argument.proofs.Equations.{close-splits, judged}
-use Rattle.argument.proofs.Sheet.{turn-over, turn-8, turn-9, turn-stops, turn-strikes, turn-rises, lines-over, lines-stop, lines-go-on}
-use Rattle.sheet_lines.specs.asks.Line.{LineAsked, MarkingAsked, TurnedAs, judgedOf, placeOf, turnedOf, marksAfter}
+use Rattle.argument.proofs.Sheet.{step-over, step-8, step-9, step-stops, step-strikes, step-rises, lines-over, lines-stop, lines-go-on}
+use Rattle.sheet_lines.specs.asks.Line.{LineAsked, MarkingAsked, SteppedAs, judgedOf, placeOf, steppedOf, marksAfter}
 use Rattle.sheets.specs.Verdict.{resultOf}
 use Rattle.sheets.specs.Rules.{rulesBetween, markingBetween}
 use Rattle.sheets.specs.Sheet.{mostRecords}
@@ -33,8 +33,8 @@ use Rattle.sheets.specs.asks.Sheet.{recordOf}
 use Rattle.sheets.specs.asks.Walk.{walkedOf, Tried, ChainAsked}
 use Rattle.sheet_lines.specs.declared.line.Judged.{Judged}
 use Rattle.sheet_lines.specs.declared.line.Judged.the-variants as judging
-use Rattle.sheet_lines.specs.declared.line.Turned.{Turned}
-use Rattle.sheet_lines.specs.declared.line.Turned.the-variants as turned
+use Rattle.sheet_lines.specs.declared.line.Stepped.{Stepped}
+use Rattle.sheet_lines.specs.declared.line.Stepped.the-variants as stepped
 use Rattle.sheets.specs.declared.sheet.Case.{Case}
 use Rattle.sheets.specs.declared.sheet.Line.{Line}
 use Rattle.sheets.specs.declared.sheet.Record as declared
@@ -106,30 +106,30 @@ module _ (by n : ℕ) (out put marks s : List ℕ) (last index high : ℕ) where
   abbrev at : ℕ → Place (List ℕ)
   at lines = placeOf marks lines last index high
 
-  turned-as : (r : Turned) (left : List ℕ) → length left ≡ length marks → ((lines : ℕ) → turn (markingBetween by n out put) s (at lines) ≡ turnedOf (at lines) r left) → ((lines : ℕ) → left ≡ marksAfter (at lines) (turnedOf (at lines) r left)) → TurnedAs by n out put marks s last index high r left
-  turned-as r left k t m = record { answered = λ lines. sym (t lines); size = k; marks-left = λ lines. m lines ∙ ap (marksAfter (at lines)) (sym (t lines)) }
+  stepped-as : (r : Stepped) (left : List ℕ) → length left ≡ length marks → ((lines : ℕ) → lineStep (markingBetween by n out put) s (at lines) ≡ steppedOf (at lines) r left) → ((lines : ℕ) → left ≡ marksAfter (at lines) (steppedOf (at lines) r left)) → SteppedAs by n out put marks s last index high r left
+  stepped-as r left k t m = record { answered = λ lines. sym (t lines); size = k; marks-left = λ lines. m lines ∙ ap (marksAfter (at lines)) (sym (t lines)) }
 
-  pub mark-over : index ≡ 0 → TurnedAs by n out put marks s last index high turned.Over marks
-  mark-over e = turned-as turned.Over marks refl (λ lines. turn-over (markingBetween by n out put) s (at lines) e) (λ lines. refl)
+  pub mark-over : index ≡ 0 → SteppedAs by n out put marks s last index high stepped.Over marks
+  mark-over e = stepped-as stepped.Over marks refl (λ lines. step-over (markingBetween by n out put) s (at lines) e) (λ lines. refl)
 
-  pub mark-above : records s < index → TurnedAs by n out put marks s last index high (turned.Refused 8 last) marks
-  mark-above h = turned-as (turned.Refused 8 last) marks refl (λ lines. turn-8 (markingBetween by n out put) s (at lines) h) (λ lines. refl)
+  pub mark-above : records s < index → SteppedAs by n out put marks s last index high (stepped.Refused 8 last) marks
+  mark-above h = stepped-as (stepped.Refused 8 last) marks refl (λ lines. step-8 (markingBetween by n out put) s (at lines) h) (λ lines. refl)
 
-  pub mark-low : (index ≡ 0 → ⊥) → index ≤ records s → index ≤ high → TurnedAs by n out put marks s last index high (turned.Refused 9 last) marks
-  mark-low z h l = turned-as (turned.Refused 9 last) marks refl (λ lines. turn-9 (markingBetween by n out put) s (at lines) z h l) (λ lines. refl)
+  pub mark-low : (index ≡ 0 → ⊥) → index ≤ records s → index ≤ high → SteppedAs by n out put marks s last index high (stepped.Refused 9 last) marks
+  mark-low z h l = stepped-as (stepped.Refused 9 last) marks refl (λ lines. step-9 (markingBetween by n out put) s (at lines) z h l) (λ lines. refl)
 
   module _ (h : Enters s high index) {v : Judged} (z : judgedOf v ≡ judge (rulesBetween n out put marks) (openIn n marks) s index) where
     judges : {v′ : Judged} → v ≡ v′ → judge (rulesBetween n out put marks) (openIn n marks) s index ≡ judgedOf v′
     judges g = sym z ∙ ap judgedOf g
 
-    pub mark-stops : {m r : ℕ} → v ≡ judging.Refused m r → TurnedAs by n out put marks s last index high (turned.Refused m r) marks
-    mark-stops {m} {r} g = turned-as (turned.Refused m r) marks refl (λ lines. turn-stops (markingBetween by n out put) s (at lines) h m r (judges g)) (λ lines. refl)
+    pub mark-stops : {m r : ℕ} → v ≡ judging.Refused m r → SteppedAs by n out put marks s last index high (stepped.Refused m r) marks
+    mark-stops {m} {r} g = stepped-as (stepped.Refused m r) marks refl (λ lines. step-stops (markingBetween by n out put) s (at lines) h m r (judges g)) (λ lines. refl)
 
-    pub mark-strikes : {a b next reached : ℕ} {left : List ℕ} → v ≡ judging.Strikes a b next reached → left ≡ markIn by n marks a b → TurnedAs by n out put marks s last index high (turned.Struck next reached) left
+    pub mark-strikes : {a b next reached : ℕ} {left : List ℕ} → v ≡ judging.Strikes a b next reached → left ≡ markIn by n marks a b → SteppedAs by n out put marks s last index high (stepped.Struck next reached) left
     unfolding struck
     mark-strikes {a} {b} {next} {reached} {left} g e =
-        turned-as (turned.Struck next reached) left (ap length e ∙ length-marked by n marks a b) (λ lines.
-        turn-strikes (markingBetween by n out put) s (at lines) h (strikes a b next reached) (judges g) ∙ ap (λ (m : List ℕ). accepted (onward (placeOf m (suc lines) index next reached))) (sym e))
+        stepped-as (stepped.Struck next reached) left (ap length e ∙ length-marked by n marks a b) (λ lines.
+        step-strikes (markingBetween by n out put) s (at lines) h (strikes a b next reached) (judges g) ∙ ap (λ (m : List ℕ). accepted (onward (placeOf m (suc lines) index next reached))) (sym e))
         (λ lines. refl)
 
 -- an accepted line strikes an edge
@@ -150,33 +150,33 @@ pub lines-start : {by n : ℕ} {out put outs puts marks s : List ℕ} {count : �
 unfolding sheet start
 lines-start t = record { tried = t; counted = omega arith; goes = refl }
 
-module _ {by n : ℕ} {out put outs puts marks₀ s : List ℕ} {count : ℕ} {marks : List ℕ} {lines last index high : ℕ} (p : Proceeding by n out put outs puts marks₀ s count marks lines last index high) {r : Turned} {left : List ℕ} (t : TurnedAs by n out put marks s last index high r left) where
+module _ {by n : ℕ} {out put outs puts marks₀ s : List ℕ} {count : ℕ} {marks : List ℕ} {lines last index high : ℕ} (p : Proceeding by n out put outs puts marks₀ s count marks lines last index high) {r : Stepped} {left : List ℕ} (t : SteppedAs by n out put marks s last index high r left) where
   abbrev here : Place (List ℕ)
   here = placeOf marks lines last index high
 
-  turns : {r′ : Turned} → r ≡ r′ → turn (markingBetween by n out put) s here ≡ turnedOf here r′ left
-  turns g = sym (t .answered lines) ∙ ap (λ (x : Turned). turnedOf here x left) g
+  steps : {r′ : Stepped} → r ≡ r′ → lineStep (markingBetween by n out put) s here ≡ steppedOf here r′ left
+  steps g = sym (t .answered lines) ∙ ap (λ (x : Stepped). steppedOf here x left) g
 
-  leaves : {r′ : Turned} → r ≡ r′ → left ≡ marksAfter here (turnedOf here r′ left)
-  leaves g = t .marks-left lines ∙ ap (marksAfter here) (turns g)
+  leaves : {r′ : Stepped} → r ≡ r′ → left ≡ marksAfter here (steppedOf here r′ left)
+  leaves g = t .marks-left lines ∙ ap (marksAfter here) (steps g)
 
-  pub lines-accepted : r ≡ turned.Over → resultOf (verdict.Accepted lines) left ≡ sheet (markingBetween by n out put) s marks₀
+  pub lines-accepted : r ≡ stepped.Over → resultOf (verdict.Accepted lines) left ≡ sheet (markingBetween by n out put) s marks₀
   unfolding answer
   lines-accepted g =
       ap (λ (m : List ℕ). resultOf (verdict.Accepted lines) m) (leaves g)
-      ∙ sym (lines-over (markingBetween by n out put) s here (turns g))
+      ∙ sym (lines-over (markingBetween by n out put) s here (steps g))
       ∙ p .goes
 
-  pub lines-refused : {m i : ℕ} → r ≡ turned.Refused m i → resultOf (verdict.Refused m i lines) left ≡ sheet (markingBetween by n out put) s marks₀
+  pub lines-refused : {m i : ℕ} → r ≡ stepped.Refused m i → resultOf (verdict.Refused m i lines) left ≡ sheet (markingBetween by n out put) s marks₀
   unfolding answer
   lines-refused {m} {i} g =
       ap (λ (x : List ℕ). resultOf (verdict.Refused m i lines) x) (leaves g)
-      ∙ sym (lines-stop (markingBetween by n out put) s here m i (turns g))
+      ∙ sym (lines-stop (markingBetween by n out put) s here m i (steps g))
       ∙ p .goes
 
-  module _ {next reached : ℕ} (g : r ≡ turned.Struck next reached) where
+  module _ {next reached : ℕ} (g : r ≡ stepped.Struck next reached) where
     risen : Enters s high index × (index ≤ reached)
-    risen = turn-rises (markingBetween by n out put) s here (placeOf left (suc lines) index next reached) (turns g)
+    risen = step-rises (markingBetween by n out put) s here (placeOf left (suc lines) index next reached) (steps g)
 
     pub lines-few : lines + 1 ≤ mostRecords
     lines-few = omega (arith, risen .0, p .tried .admitted .few, p .counted)
@@ -189,5 +189,5 @@ module _ {by n : ℕ} {out put outs puts marks₀ s : List ℕ} {count : ℕ} {m
         record {
           tried = let a = p .tried .admitted in record { admitted = record { least = a .least; limits = a .limits; marked = t .size ∙ a .marked; whole = a .whole; few = a .few }; in-out = p .tried .in-out; in-put = p .tried .in-put };
           counted = omega (arith, risen .0, risen .1, p .counted);
-          goes = ap (λ (m : ℕ). linesFrom (markingBetween by n out put) s (placeOf left m index next reached)) (add-one lines) ∙ sym (lines-go-on (markingBetween by n out put) s here (placeOf left (suc lines) index next reached) (turns g)) ∙ p .goes;
+          goes = ap (λ (m : ℕ). linesFrom (markingBetween by n out put) s (placeOf left m index next reached)) (add-one lines) ∙ sym (lines-go-on (markingBetween by n out put) s here (placeOf left (suc lines) index next reached) (steps g)) ∙ p .goes;
         }

@@ -20,7 +20,7 @@ ghost use Rattle.marks.specs.Packed.{marksOf};
 ghost use Rattle.argument.specs.Line.{judgeRecord};
 ghost use Rattle.argument.specs.Line as judging;
 ghost use Rattle.argument.specs.Sheet as lines;
-ghost use Rattle.sheet_lines.specs.asks.Line.{MarkingAsked, LineAsked, TurnedAs, judgedOf};
+ghost use Rattle.sheet_lines.specs.asks.Line.{MarkingAsked, LineAsked, SteppedAs, judgedOf};
 ghost use Rattle.sheets.specs.Verdict.{resultOf};
 ghost use Rattle.sheets.specs.Rules.{rulesBetween, markingBetween};
 ghost use Rattle.sheets.specs.asks.Sheet.{recordOf};
@@ -37,7 +37,7 @@ pub enum Judged {
 }
 
 // What the lines come to at an index: they are over, the line there struck its edge, or it is refused.
-pub enum Turned {
+pub enum Stepped {
     Over,
     Struck { next: u16, high: u16 },
     Refused(u8, u16),
@@ -131,28 +131,28 @@ pub fn mark_line(
     last: u16,
     index: u16,
     high: u16,
-) -> Turned
+) -> Stepped
     requires { ⌜ MarkingAsked by n (whole32 (now out)) (whole32 (now put)) (now outs) (now puts) (marksOf n (now marks)) (whole16 (now sheet)) count ⌝ }
-    ensures { λ r. ⌜ TurnedAs by n (whole32 (now (out .entry))) (whole32 (now (put .entry))) (marksOf n (now (marks .entry))) (whole16 (now (sheet .entry))) last index high r (marksOf n (now (marks .exit))) ⌝ }
+    ensures { λ r. ⌜ SteppedAs by n (whole32 (now (out .entry))) (whole32 (now (put .entry))) (marksOf n (now (marks .entry))) (whole16 (now (sheet .entry))) last index high r (marksOf n (now (marks .exit))) ⌝ }
 {
     if index == 0 {
-        return Turned::Over;
+        return Stepped::Over;
     }
     if count < index {
-        return Turned::Refused(refusal::INDEX_ABOVE, last);
+        return Stepped::Refused(refusal::INDEX_ABOVE, last);
     }
     if index <= high {
-        return Turned::Refused(refusal::INDEX_NOT_ABOVE, last);
+        return Stepped::Refused(refusal::INDEX_NOT_ABOVE, last);
     }
     match judge(n, out, put, outs, puts, marks, sheet, count, index) {
         Judged::Strikes { a, b, next, high } => {
             set_mark(n, marks, a, b, by);
-            Turned::Struck {
+            Stepped::Struck {
                 next: next,
                 high: high,
             }
         }
-        Judged::Refused(number, at) => Turned::Refused(number, at),
+        Judged::Refused(number, at) => Stepped::Refused(number, at),
     }
 }
 
@@ -190,13 +190,13 @@ pub fn mark_lines(
             index,
             high,
         ) {
-            Turned::Over => return Verdict::Accepted { lines: lines },
-            Turned::Refused(number, at) => return Verdict::Refused {
+            Stepped::Over => return Verdict::Accepted { lines: lines },
+            Stepped::Refused(number, at) => return Verdict::Refused {
                 refusal: number,
                 record: at,
                 lines: lines,
             },
-            Turned::Struck {
+            Stepped::Struck {
                 next,
                 high: reached,
             } => {

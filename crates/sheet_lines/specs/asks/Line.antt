@@ -5,15 +5,15 @@ use mathlib.Core.List.{List}
 use lib.ListN.{length}
 use Rattle.argument.specs.Verdict.{Verdict, accepted, refused}
 use Rattle.argument.specs.Line.{Struck, strikes}
-use Rattle.argument.specs.Sheet.{Place, Turn, over, onward, turn}
+use Rattle.argument.specs.Sheet.{Place, LineStep, over, onward, lineStep}
 use Rattle.marks.specs.Mark.{pendingMark}
 use Rattle.sheets.specs.Rules.{markingBetween}
 use Rattle.sheets.specs.Sheet.{Readable}
 use Rattle.sheets.specs.asks.Walk.{Tried}
 use Rattle.sheet_lines.specs.declared.line.Judged.{Judged}
 use Rattle.sheet_lines.specs.declared.line.Judged.the-variants as judged
-use Rattle.sheet_lines.specs.declared.line.Turned.{Turned}
-use Rattle.sheet_lines.specs.declared.line.Turned.the-variants as turned
+use Rattle.sheet_lines.specs.declared.line.Stepped.{Stepped}
+use Rattle.sheet_lines.specs.declared.line.Stepped.the-variants as stepped
 
 abbrev pub judgedOf : Judged → Verdict Struck
 judgedOf (judged.Strikes a b next high) = accepted (strikes a b next high)
@@ -33,20 +33,20 @@ pub record MarkingAsked (by n : ℕ) (out put outs puts marks sheet : List ℕ) 
 abbrev pub placeOf : List ℕ → (lines last index high : ℕ) → Place (List ℕ)
 placeOf marks lines last index high = record { marks = marks; lines = lines; last = last; index = index; high = high }
 
--- the declared answer for a line, with the marks that are left, as what a turn from p comes to
-abbrev pub turnedOf : Place (List ℕ) → Turned → List ℕ → Verdict (Turn (List ℕ))
-turnedOf p turned.Over left = accepted over
-turnedOf p (turned.Struck next high) left = accepted (onward (placeOf left (suc (p .lines)) (p .index) next high))
-turnedOf p (turned.Refused number rec) left = refused number rec
+-- the declared answer for a line, with the marks that are left, as what a step from p comes to
+abbrev pub steppedOf : Place (List ℕ) → Stepped → List ℕ → Verdict (LineStep (List ℕ))
+steppedOf p stepped.Over left = accepted over
+steppedOf p (stepped.Struck next high) left = accepted (onward (placeOf left (suc (p .lines)) (p .index) next high))
+steppedOf p (stepped.Refused number rec) left = refused number rec
 
--- the marks after a turn from p: changed only where a line was accepted
-abbrev pub marksAfter : Place (List ℕ) → Verdict (Turn (List ℕ)) → List ℕ
+-- the marks after a step from p: changed only where a line was accepted
+abbrev pub marksAfter : Place (List ℕ) → Verdict (LineStep (List ℕ)) → List ℕ
 marksAfter p (accepted over) = p .marks
 marksAfter p (accepted (onward q)) = q .marks
 marksAfter p (refused number rec) = p .marks
 
 -- what `mark_line` ensures, which writes the mark `by`, however many lines were accepted before
-pub record TurnedAs (by n : ℕ) (out put marks sheet : List ℕ) (last index high : ℕ) (r : Turned) (left : List ℕ) : Type 0 where
-  pub answered : (lines : ℕ) → turnedOf (placeOf marks lines last index high) r left ≡ turn (markingBetween by n out put) sheet (placeOf marks lines last index high)
+pub record SteppedAs (by n : ℕ) (out put marks sheet : List ℕ) (last index high : ℕ) (r : Stepped) (left : List ℕ) : Type 0 where
+  pub answered : (lines : ℕ) → steppedOf (placeOf marks lines last index high) r left ≡ lineStep (markingBetween by n out put) sheet (placeOf marks lines last index high)
   pub size : length left ≡ length marks
-  pub marks-left : (lines : ℕ) → left ≡ marksAfter (placeOf marks lines last index high) (turn (markingBetween by n out put) sheet (placeOf marks lines last index high))
+  pub marks-left : (lines : ℕ) → left ≡ marksAfter (placeOf marks lines last index high) (lineStep (markingBetween by n out put) sheet (placeOf marks lines last index high))
