@@ -12,7 +12,7 @@ use Rattle.argument.specs.Rules.{Rules, listedBy, NamesFeasible, Reached
 use Rattle.argument.specs.Argument.{splitLimit}
 use Rattle.argument.specs.Walk.{Spot, Step, ends, takes, entering, readCase, look, opening, behind, close, act, follow, walkBy, walk}
 use Rattle.argument.specs.Line.{Struck, strikes, judgeRecord, judge}
-use Rattle.argument.specs.Sheet.{Marking, markingListed, Place, Turn, over, onward, struck, turn, Result, answer, proceed, linesBy, linesFrom, start, sheet}
+use Rattle.argument.specs.Sheet.{Marking, markingListed, Place, LineStep, over, onward, struck, lineStep, Result, answer, proceed, linesBy, linesFrom, start, sheet}
 use Rattle.argument.proofs.Verdicts.{andThen-agree}
 use Rattle.argument.proofs.Tests.{HowFits, Fits, fits-means}
 use Rattle.argument.proofs.Steps.{LookSays, looked}
@@ -97,27 +97,27 @@ module _ {M : Type 0} (𝓜 : Marking M) (law : (m : M) → Lawful (𝓜 .rules 
   unfolding struck
   struck-same p (strikes a b next high) = refl
 
-  turn-same : (p : Place M) → turn (markingListed 𝓜 lists) s p ≡ turn 𝓜 s p
-  unfolding turn
-  turn-same p = by (eqb (p .index) 0) refl
+  step-same : (p : Place M) → lineStep (markingListed 𝓜 lists) s p ≡ lineStep 𝓜 s p
+  unfolding lineStep
+  step-same p = by (eqb (p .index) 0) refl
     where
-      judging : Verdict Struck → Verdict (Turn M)
+      judging : Verdict Struck → Verdict (LineStep M)
       judging v = andThen v λ r. accepted (onward (struck 𝓜 p r))
 
-      by : (b : Bool) → eqb (p .index) 0 ≡ b → turn (markingListed 𝓜 lists) s p ≡ turn 𝓜 s p
-      by true e = rw (turn, e) refl
+      by : (b : Bool) → eqb (p .index) 0 ≡ b → lineStep (markingListed 𝓜 lists) s p ≡ lineStep 𝓜 s p
+      by true e = rw (lineStep, e) refl
       by false e =
-          rw (turn, e)
-          (ap (λ (v : Verdict (Turn M)). entering s (p .last) (p .high) (p .index) λ _. v)
+          rw (lineStep, e)
+          (ap (λ (v : Verdict (LineStep M)). entering s (p .last) (p .high) (p .index) λ _. v)
           (andThen-agree _ _ _ (λ r z. ap (λ (q : Place M). accepted (onward q)) (struck-same p r))
           ∙ ap judging (judge-any-list (𝓜 .rules (p .marks)) (law (p .marks)) (lists (p .marks)) (named (p .marks)) s (𝓜 .open? (p .marks)) (p .index))))
 
   lines-same : (fuel : ℕ) (p : Place M) → linesBy (markingListed 𝓜 lists) s fuel p ≡ linesBy 𝓜 s fuel p
   unfolding linesBy proceed
   lines-same zero p = refl
-  lines-same (suc fuel) p = ap (proceed (linesBy (markingListed 𝓜 lists) s fuel) p) (turn-same p) ∙ by (turn 𝓜 s p) (lines-same fuel)
+  lines-same (suc fuel) p = ap (proceed (linesBy (markingListed 𝓜 lists) s fuel) p) (step-same p) ∙ by (lineStep 𝓜 s p) (lines-same fuel)
     where
-      by : (v : Verdict (Turn M)) → ((q : Place M) → linesBy (markingListed 𝓜 lists) s fuel q ≡ linesBy 𝓜 s fuel q)
+      by : (v : Verdict (LineStep M)) → ((q : Place M) → linesBy (markingListed 𝓜 lists) s fuel q ≡ linesBy 𝓜 s fuel q)
           → proceed (linesBy (markingListed 𝓜 lists) s fuel) p v ≡ proceed (linesBy 𝓜 s fuel) p v
       by (accepted over) ih = refl
       by (accepted (onward q)) ih = ih q
