@@ -80,7 +80,7 @@ impl Sheet {
         ensures { λ r. ⌜ recordOf r ≡ recordAt (whole16 (now (sheet .entry))) i ⌝ }
     {
         let at = (i as usize - 1) * Sheet::RECORD_SIZE;
-        meaning(
+        Record::from_numbers(
             number16(sheet, at),
             number16(sheet, at + 1),
             number16(sheet, at + 2),
@@ -93,47 +93,49 @@ impl Sheet {
     }
 }
 
-// What the eight numbers of a record mean.
-fn meaning(kind: u16, a: u16, b: u16, u: u16, v: u16, c: u16, d: u16, next: u16) -> Record
-    ensures { λ r. ⌜ recordOf r ≡ content kind a b u v c d next ⌝ }
-{
-    if kind == 3 {
-        let closing = Closing::ThreeOpt {
-            p: u,
-            q: v,
-            r: c,
-            s: d,
-        };
-        return Record::Case(Case {
-            a: a,
-            b: b,
-            closing: closing,
-            next: next,
-        });
+impl Record {
+    // The record that eight numbers are, by its kind.
+    fn from_numbers(kind: u16, a: u16, b: u16, u: u16, v: u16, c: u16, d: u16, next: u16) -> Record
+        ensures { λ r. ⌜ recordOf r ≡ content kind a b u v c d next ⌝ }
+    {
+        if kind == 3 {
+            let closing = Closing::ThreeOpt {
+                p: u,
+                q: v,
+                r: c,
+                s: d,
+            };
+            return Record::Case(Case {
+                a: a,
+                b: b,
+                closing: closing,
+                next: next,
+            });
+        }
+        if u != 0 {
+            return Record::Other;
+        }
+        if v != 0 {
+            return Record::Other;
+        }
+        if kind == 1 {
+            return Record::Line(Line {
+                a: a,
+                b: b,
+                point: c,
+                first: d,
+                next: next,
+            });
+        }
+        if kind == 2 {
+            let closing = Closing::Split { point: c, first: d };
+            return Record::Case(Case {
+                a: a,
+                b: b,
+                closing: closing,
+                next: next,
+            });
+        }
+        Record::Other
     }
-    if u != 0 {
-        return Record::Other;
-    }
-    if v != 0 {
-        return Record::Other;
-    }
-    if kind == 1 {
-        return Record::Line(Line {
-            a: a,
-            b: b,
-            point: c,
-            first: d,
-            next: next,
-        });
-    }
-    if kind == 2 {
-        let closing = Closing::Split { point: c, first: d };
-        return Record::Case(Case {
-            a: a,
-            b: b,
-            closing: closing,
-            next: next,
-        });
-    }
-    Record::Other
 }

@@ -57,11 +57,11 @@ add-number16-7 c = search needs
 number16-requires-8 : tie.Need-number16-requires-8
 number16-requires-8 c κs = omega (arith, record-inside (c .before .before .before .before .before .before .before .before .pre))
 
-meaning-requires : tie.Need-meaning-requires
-meaning-requires c κs = search needs
+from-numbers-requires : tie.Need-from-numbers-requires
+from-numbers-requires c κs = search needs
 
 returns : tie.Need-returns
-returns c = c .meaning .ensures ∙ record-read _ _ (c .before .before .before .before .before .before .before .before .number16 .ensures) (c .before .before .before .before .before .before .before .number162 .ensures) (c .before .before .before .before .before .before .number163 .ensures) (c .before .before .before .before .before .number164 .ensures) (c .before .before .before .before .number165 .ensures) (c .before .before .before .number166 .ensures) (c .before .before .number167 .ensures) (c .before .number168 .ensures)
+returns c = c .from-numbers .ensures ∙ record-read _ _ (c .before .before .before .before .before .before .before .before .number16 .ensures) (c .before .before .before .before .before .before .before .number162 .ensures) (c .before .before .before .before .before .before .number163 .ensures) (c .before .before .before .before .before .number164 .ensures) (c .before .before .before .before .number165 .ensures) (c .before .before .before .number166 .ensures) (c .before .before .number167 .ensures) (c .before .number168 .ensures)
 
 pub record-spec : {M : Type 1} → statement M
 record-spec =
@@ -84,5 +84,5 @@ record-spec =
     number16-requires-7
     add-number16-7
     number16-requires-8
-    meaning-requires
+    from-numbers-requires
     returns)

@@ -1,7 +1,7 @@
--- `sheets::sheet::meaning` meets its contract: each way out is `content` at its kind, u and v. Assumes nothing.
+-- `sheets::sheet::Record::from_numbers` meets its contract: each way out is `content` at its kind, u and v. Assumes nothing.
 use Rattle.sheets.proofs.Records.{exchange-content, other-u, other-v, line-content, split-content, other-kind}
-use Rattle.sheets.proofs.sheet.meaning.Statement.{statement}
-use Rattle.sheets.proofs.sheet.meaning.Tie as tie
+use Rattle.sheets.proofs.sheet.Record.from_numbers.Statement.{statement}
+use Rattle.sheets.proofs.sheet.Record.from_numbers.Tie as tie
 
 returns : tie.Need-returns
 returns c = exchange-content _ _ _ _ _ _ _ _ (c .if1 .taken)
@@ -21,5 +21,5 @@ returns-5 c = split-content _ _ _ _ _ _ _ _ (c .before .before .before .if2 .lef
 returns-6 : tie.Need-returns-6
 returns-6 c = other-kind _ _ _ _ _ _ _ _ (c .before .if4 .left) (c .if5 .left) (c .before .before .before .before .if1 .left)
 
-pub meaning-spec : {M : Type 1} → statement M
-meaning-spec = tie.close (tie.spec returns returns-2 returns-3 returns-4 returns-5 returns-6)
+pub from-numbers-spec : {M : Type 1} → statement M
+from-numbers-spec = tie.close (tie.spec returns returns-2 returns-3 returns-4 returns-5 returns-6)
