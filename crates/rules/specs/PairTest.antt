@@ -53,7 +53,8 @@ endAt? out put K c x p q = not (eqb x p) || (eqb q c || every (stays? out put x 
 unfoldable pub endStays? : (out put : ℕ → ℕ → ℕ) → List Edge → (c x : ℕ) → Bool
 endStays? out put K c x = every (λ (p q : ℕ). endAt? out put K c x p q && endAt? out put K c x q p) K
 
--- the edge cx of a pair meets conditions 1 and 4, and what condition 5 asks of it alone
+-- the edge cx of a pair meets conditions 1 and 4, what condition 5 asks of it alone, and of condition 2 that x is no point
+-- where two edges of K meet off c
 unfoldable pub candidateLeg? : (out put : ℕ → ℕ → ℕ) → (ℕ → ℕ → Bool) → List Edge → (c x : ℕ) → Bool
 candidateLeg? out put open? K c x = leg? out put open? K c x && (settled? out put K c x && endStays? out put K c x)
 

@@ -28,8 +28,10 @@ ghost use Rattle.lengths.specs.Table.{lengthOf};
 ghost use Rattle.marks.specs.Mark.{openMark, pendingMark};
 ghost use Rattle.marks.specs.Packed.{marksOf};
 
-// legs[x] is the length from the split point c to x, as it is taken out, where cx is open and compatible with every edge of K, no point of degree two of K moves
-// between c and x, and x itself stays; else FAR. A pair x, y meets conditions 1, 4 and 5 exactly when legs[x] + legs[y] + MOST_LENGTH is at most put(xy) + bound.
+// legs[x] is the length from the split point c to x, as it is taken out, where cx is open and compatible with every edge of K,
+// no point of degree two of K moves between c and x, x itself stays, and no two edges of K meet in x off c; else FAR. A pair
+// x, y meets conditions 1, 4 and 5, and of 2 that neither is such a point, exactly when legs[x] + legs[y] + MOST_LENGTH is at
+// most put(xy) + bound.
 pub struct Split {
     pub legs: [u32; Instance::PLACES],
     pub bound: u32,
