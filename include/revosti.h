@@ -26,7 +26,8 @@
  * order given at each function. A length that is no whole number of entries is a wrong size there, for all buffers but list, view and
  * text. A refused call changes nothing, but for a sheet that stops at a record. They touch no byte outside the lengths given, allocate
  * nothing, keep no state and always return. They use some 160 KB of stack, revosti_mark_between some 290 KB. A buffer that is written
- * overlaps no other while the call runs; buffers that are only read may overlap, and low and high may be the same.
+ * overlaps no other while the call runs; buffers that are only read may overlap, and low and high may be the same. A buffer of length 0
+ * may be NULL: of it no byte is read or written.
  *
  * The life of a mark:
  *
