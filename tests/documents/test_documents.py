@@ -1,0 +1,137 @@
+"""Every name and path that the documents put between backquotes exists, and a name stands in the file that is given for it."""
+
+import unittest
+from pathlib import Path
+
+from reading import LINK, beside, blocks, defining, rows, spans, words
+from tree import OTHERS, Tree
+
+TOP = Path(__file__).resolve().parents[2]
+TREE = Tree(TOP)
+COMMANDS = TREE.declared[TOP / "tools/sheetlib/command.py"]
+WHOLE = ("README.md", "docs/STATEMENTS.md", "docs/DECISIONS.md", "docs/RULES.md", "docs/FORMATS.md")
+HISTORY = ("docs/CHANGES.md", "docs/FIGURES.md")  # of what has been, the names may be gone
+
+
+class Reader:
+    """What a document says that is not so."""
+
+    def __init__(self, text, folder):
+        self.text, self.folder, self.faults = text, folder, []
+        self.heading, self.folders = None, []
+
+    def fault(self, *words):
+        self.faults.append(" ".join(map(str, words)))
+
+    def places(self, path):
+        """Where a path leads. A bare file name is one in a folder that was named before under the same heading."""
+        places = TREE.places(path, self.folders)
+        if not places:
+            self.fault("no path", path)
+        folders = [p if p.is_dir() else p.parent for p in places]
+        self.folders = folders + [f for f in self.folders if f not in folders]
+        return places
+
+    def say(self, kind, word):
+        known = {"name": TREE.names, "option": TREE.names, "command": COMMANDS}
+        if kind == "path":
+            self.places(word)
+        elif word not in known[kind]:
+            self.fault("no", kind, word)
+
+    def pair(self, name, places):
+        if places and name not in OTHERS and not any(TREE.declares(place, name) for place in places):
+            self.fault("no name", name, "in", *(p.relative_to(TOP) for p in places))
+
+    def read(self):
+        """The faults of links, names, paths, and names beside their files."""
+        for link in LINK.findall(self.text):
+            if not (self.folder / link).exists():
+                self.fault("no path", link)
+        for heading, block in blocks(self.text):
+            if heading != self.heading:
+                self.heading, self.folders = heading, []
+            found = spans(block)
+            for i, span in enumerate(found):
+                if span.is_path:
+                    places = self.places(span.text)
+                    for name in beside(found, i):
+                        self.pair(name, places)
+                elif span.is_name:
+                    self.say("name", span.text)
+                else:
+                    for kind, word in words(span.text):
+                        self.say(kind, word)
+        for names, files in map(defining, rows(self.text)):
+            self.folders = []
+            places = [place for span in files if span.is_path for place in self.places(span.text)]
+            for span in names:
+                if span.is_name:
+                    self.pair(span.text, places)
+        return self.faults
+
+
+def faults(text, folder=TOP):
+    """What a text says that is not so, in a document of this folder."""
+    return Reader(text, folder).read()
+
+
+def faults_of(document):
+    """What a document says that is not so."""
+    path = TOP / document
+    return faults(path.read_text(encoding="utf-8"), path.parent)
+
+
+class Documents(unittest.TestCase):
+    """The documents as they are."""
+
+    def test_names_and_paths(self):
+        for document in WHOLE:
+            with self.subTest(document):
+                self.assertEqual(faults_of(document), [])
+
+    def test_paths_of_history(self):
+        for document in HISTORY:
+            with self.subTest(document):
+                self.assertEqual([fault for fault in faults_of(document) if fault.startswith("no path")], [])
+
+
+class Told(unittest.TestCase):
+    """Made-up texts: what is not so is told, and nothing else."""
+
+    def test_what_is_there(self):
+        for text in ("`demand-3`", "`place`", "`Sheet::MOST_RECORDS`", "`refusal::PAGE`", "`revosti_mark_of`", "`REVOSTI_OPEN`",
+                     "`mark_of`", "`marking`", "`says_18_unseen`", "`marking/says_18_unseen`", "`lengths/specs/Edge.antt`",
+                     "`specs/asks/`", "`bin/mark`", "`target/made.a`", "`tools/sheet mark FILE --high BOARD`", "`marksOf n set`",
+                     "`mark_sheet(n, table, marks, sheet)`", "`1 1 3 0 0 2 0 2`", "`points 4 edges 6`", "```\n`no-such`\n```",
+                     "`place` (`lengths/specs/Edge.antt`)", "`lengths/specs/Edge.antt`: `tri`, `place`"):
+            with self.subTest(text):
+                self.assertEqual(faults(text), [])
+
+    def test_what_is_not(self):
+        for text, fault in (("`demand-33`", "no name demand-33"), ("`Sheet::MOST_LINES`", "no name Sheet::MOST_LINES"),
+                            ("`revosti_mark_off`", "no name revosti_mark_off"), ("`says_19_unseen`", "no name says_19_unseen"),
+                            ("`-packed`", "no option -packed"), ("`tools/sheet unmark FILE`", "no command unmark"),
+                            ("`tools/sheet mark --low A`", "no option --low"), ("`mark_sheets(n)`", "no name mark_sheets"),
+                            ("`packedOf n set`", "no name packedOf"), ("`lengths/specs/Edges.antt`", "no path lengths/specs/Edges.antt"),
+                            ("`rules/says_18_unseen`", "no path rules/says_18_unseen"), ("`Edge.antt`", "no path Edge.antt"),
+                            ("`bin/mark examples/none.bin`", "no path examples/none.bin"), ("[rules](RULES.md)", "no path RULES.md")):
+            with self.subTest(text):
+                self.assertEqual(faults(text), [fault])
+
+    def test_a_name_in_another_file(self):
+        table = "no name place in crates/lengths/specs/Table.antt"
+        for text in ("`place` (`lengths/specs/Table.antt`)", "`lengthOf`, **`place`** (`lengths/specs/Table.antt`)",
+                     "`lengths/specs/Table.antt`: `place`", "`lengths/specs/Table.antt`, `lengthOf` and `place`",
+                     "`lengths/specs/` has it (`place`, `Table.antt`)",
+                     "| Definition | File |\n|---|---|\n| `place` | `lengths/specs/Table.antt` |"):
+            with self.subTest(text):
+                self.assertEqual(faults(text), [table])
+
+    def test_a_bare_file_is_of_a_folder_before(self):
+        self.assertEqual(faults("# A\n`lengths/specs/Edge.antt`, then `Table.antt`"), [])
+        self.assertEqual(faults("# A\n`lengths/specs/Edge.antt`\n# B\n`Table.antt`"), ["no path Table.antt"])
+
+
+if __name__ == "__main__":
+    unittest.main()
