@@ -22,6 +22,7 @@ BUILT = "target/"
 JOINS = re.compile(r"\**(?:,| and|, and) \**")  # `a`, `b` and `c`
 OPENS = re.compile(r"\**,? \(")                   # `name` (`file`)
 LEADS = re.compile(r"(?:,|:)? \(?\**")            # `file`, `name`; `file`: `name`; `file` (`name`)
+COLON = re.compile(r": \**")                      # `crate`: `name`
 ROW = re.compile(r"\|(.*)\|\s*")
 
 
@@ -74,11 +75,16 @@ def run(found, places, first):
     return [found[k].text for k in takewhile(fits, places)] if places else []
 
 
+def within(found, i):
+    """The names that a text puts behind the crate at place i, after a colon."""
+    return run(found, range(i + 1, len(found)), COLON)
+
+
 def beside(found, i):
     """The names that a text puts beside the file at place i: `a`, `b` (`file`); (`a`, `b`, `file`); `file`: `a`, `b`."""
     names = run(found, range(i + 1, len(found)), LEADS)
-    within = found[i].before == ", " and found[i].after.startswith(")")
-    if within or OPENS.fullmatch(found[i].before):
+    closing = found[i].before == ", " and found[i].after.startswith(")")
+    if closing or OPENS.fullmatch(found[i].before):
         for k in range(i - 1, -1, -1):
             if not found[k].is_name:
                 break

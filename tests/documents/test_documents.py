@@ -3,7 +3,7 @@
 import unittest
 from pathlib import Path
 
-from reading import LINK, beside, blocks, defining, rows, spans, words
+from reading import LINK, beside, blocks, defining, rows, spans, within, words
 from tree import OTHERS, Tree
 
 TOP = Path(__file__).resolve().parents[2]
@@ -52,23 +52,36 @@ class Reader:
             if heading != self.heading:
                 self.heading, self.folders = heading, []
             found = spans(block)
-            for i, span in enumerate(found):
-                if span.is_path:
-                    places = self.places(span.text)
-                    for name in beside(found, i):
-                        self.pair(name, places)
-                elif span.is_name:
-                    self.say("name", span.text)
-                else:
-                    for kind, word in words(span.text):
-                        self.say(kind, word)
-        for names, files in map(defining, rows(self.text)):
-            self.folders = []
-            places = [place for span in files if span.is_path for place in self.places(span.text)]
-            for span in names:
-                if span.is_name:
-                    self.pair(span.text, places)
+            for i in range(len(found)):
+                self.read_span(found, i)
+        for row in rows(self.text):
+            self.read_row(row)
         return self.faults
+
+    def read_span(self, found, i):
+        """The code text at place i of a block."""
+        span = found[i]
+        if span.is_path:
+            places = self.places(span.text)
+            for name in beside(found, i):
+                self.pair(name, places)
+        elif span.is_name:
+            self.say("name", span.text)
+            crate = TOP / "crates" / span.text
+            for name in within(found, i) if crate in TREE.crates else ():
+                self.pair(name, [crate])
+        else:
+            for kind, word in words(span.text):
+                self.say(kind, word)
+
+    def read_row(self, row):
+        """A row of a table: what its files are given for."""
+        names, files = defining(row)
+        self.folders = []
+        places = [place for span in files if span.is_path for place in self.places(span.text)]
+        for span in names:
+            if span.is_name:
+                self.pair(span.text, places)
 
 
 def faults(text, folder=TOP):
@@ -127,6 +140,10 @@ class Told(unittest.TestCase):
                      "| Definition | File |\n|---|---|\n| `place` | `lengths/specs/Table.antt` |"):
             with self.subTest(text):
                 self.assertEqual(faults(text), [table])
+
+    def test_a_name_in_another_crate(self):
+        self.assertEqual(faults("`rules`: `compatible_strictly`; `sets`: `cycle_of_n_edges`"), [])
+        self.assertEqual(faults("`rules`: `compatible_strictly`, `cycle_of_n_edges`"), ["no name cycle_of_n_edges in crates/rules"])
 
     def test_a_bare_file_is_of_a_folder_before(self):
         self.assertEqual(faults("# A\n`lengths/specs/Edge.antt`, then `Table.antt`"), [])
