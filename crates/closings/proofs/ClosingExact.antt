@@ -12,7 +12,7 @@ use Rattle.lists.specs.Saving.{gains?}
 use Rattle.lengths.specs.Edge.{Edge}
 use Rattle.sets.specs.EdgeSet.{DegreeTwo}
 use Rattle.closings.proofs.Savings.{label-test, crossing-test}
-use Rattle.closings.specs.Closing.{crossingSaving, Saves, ThreeOptMoves, Closes}
+use Rattle.closings.specs.Closing.{crossingSaving, Saves, ThreeOptMoves, Closes, Unsaved}
 use Rattle.sets.specs.Joined.{has?}
 use Rattle.sets.specs.Neighbours.{endsOf}
 use Rattle.closings.specs.ClosingTest.{saves?, labelling?, centresApart?, placed?, threeOptOutcome}
@@ -161,15 +161,6 @@ module _ (out put : ℕ → ℕ → ℕ) (p q r s : ℕ) where
                 };
             saves = saves-of x y z w e;
           }
-
--- a 3-opt closing that settles nothing
-pub record Unsaved (out put : ℕ → ℕ → ℕ) (K : List Edge) (p q r s : ℕ) : Type 0 where
-  pub x : ℕ
-  pub y : ℕ
-  pub z : ℕ
-  pub w : ℕ
-  pub moves : ThreeOptMoves K p q r s x y z w
-  pub unsettled : Closes out put K p q r s → ⊥
 
 -- What the test finds: no 3-opt closing, or a 3-opt closing with its ends, whose labellings decide.
 data TestFinds (out put : ℕ → ℕ → ℕ) (K : List Edge) (p q r s : ℕ) : Type 0 where

@@ -1,3 +1,4 @@
 pub mod ClosingExact
 pub mod ClosingTests
+pub mod SavingNames
 pub mod Savings

@@ -50,3 +50,12 @@ pub record Closes (out put : ℕ → ℕ → ℕ) (K : List Edge) (p q r s : ℕ
   pub w : ℕ
   pub moves : ThreeOptMoves K p q r s x y z w
   pub saves : Saves out put p q r s x y z w
+
+-- a 3-opt closing that settles nothing (refusal 16)
+pub record Unsaved (out put : ℕ → ℕ → ℕ) (K : List Edge) (p q r s : ℕ) : Type 0 where
+  pub x : ℕ
+  pub y : ℕ
+  pub z : ℕ
+  pub w : ℕ
+  pub moves : ThreeOptMoves K p q r s x y z w
+  pub unsettled : Closes out put K p q r s → ⊥

@@ -17,7 +17,7 @@ use Rattle.rules.proofs.Every.{every-has, has-every}
 use Rattle.rules.proofs.Savings.{compatible-sum}
 use Rattle.rules.proofs.Unmoving.{stays-iff, adding-pair, adding-turned, tests-unmovable, unmovable-centre, unmovable-leg, unmovable-end, single-settled, single-end}
 use Rattle.rules.specs.Pair.{exchangeSaving, moveSaving, Compatible, Unmovable, FeasiblePair}
-use Rattle.rules.specs.PairTest.{every, compatible?, leg?, stays?, unmoved?, settled?, endStays?, candidateLeg?, feasible?}
+use Rattle.rules.specs.PairTest.{every, compatible?, leg?, stays?, unmoved?, settled?, endStays?, candidateLeg?, feasible?, feasibleBy01?}
 use Rattle.rules.specs.Pairs.{keep, feasiblePairs}
 use Rattle.sets.specs.Rising.{Among}
 use Rattle.sets.specs.Shape.{shape?}
@@ -133,10 +133,6 @@ module _ (out put : ℕ → ℕ → ℕ) (out-turns : (a b : ℕ) → out a b �
       from f =
           let e : IsEdgeUp n x y = record { low = f .point-x .low; up = f .rising; high = f .point-y .high } in
           in-feasiblePairs n out put open? K c x y .1 (e, feasible-iff n open? K c x y e (λ nx ny. shape nx ny e) free .1 f)
-
--- 01's test of a pair, in which condition 5 moves the split point alone
-unfoldable pub feasibleBy01? : ℕ → (out put : ℕ → ℕ → ℕ) → (ℕ → ℕ → Bool) → List Edge → ℕ → ℕ → ℕ → Bool
-feasibleBy01? n out put open? K c x y = leg? out put open? K c x && (leg? out put open? K c y && (unmoved? out put K c x y && shape? n K c x y))
 
 -- THE PAIR LIST OF {ab} is the one that it was (02, Paper 7): no point of {ab} has degree two, and an end that gets a second edge has no edge of K without it to move to
 pub single-as-01 : (n : ℕ) (out put : ℕ → ℕ → ℕ) (open? : ℕ → ℕ → Bool) (a b c : ℕ)

@@ -61,3 +61,7 @@ candidateLeg? out put open? K c x = leg? out put open? K c x && (settled? out pu
 -- the pair x < y is feasible, where K is {ab} or a set that a pair was added to; 2 and 3 are last, since they are the dearest
 unfoldable pub feasible? : ℕ → (out put : ℕ → ℕ → ℕ) → (ℕ → ℕ → Bool) → List Edge → ℕ → ℕ → ℕ → Bool
 feasible? n out put open? K c x y = candidateLeg? out put open? K c x && (candidateLeg? out put open? K c y && (unmoved? out put K c x y && shape? n K c x y))
+
+-- 01's test of a pair, in which condition 5 moves the split point alone
+unfoldable pub feasibleBy01? : ℕ → (out put : ℕ → ℕ → ℕ) → (ℕ → ℕ → Bool) → List Edge → ℕ → ℕ → ℕ → Bool
+feasibleBy01? n out put open? K c x y = leg? out put open? K c x && (leg? out put open? K c y && (unmoved? out put K c x y && shape? n K c x y))
