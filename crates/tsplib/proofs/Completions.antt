@@ -7,7 +7,10 @@ use mathlib.Core.List.{List, [], _∷_, _++_, append-nil}
 use native.Mathlib.Omega.{arith}
 use lib.ListN.{length, getD}
 use borrow.Author.Tests.{ne-eqb}
+use Rattle.lists.specs.Test.{allAtMost}
+use Rattle.lists.proofs.Bools.{and-both}
 use Rattle.lengths.specs.Edge.{edgeCount}
+use Rattle.lengths.proofs.Limits.{each-limit}
 use Rattle.text.specs.Decimal.{decimal, valueFrom}
 use Rattle.text.proofs.Decimals.{decimal-is}
 use Rattle.text.specs.Words.{blank}
@@ -31,6 +34,7 @@ use Rattle.tsplib.specs.declared.state.State.{State}
 use Rattle.tsplib.specs.declared.state.State.the-variants.{Header, Nodes, Weights, Ended}
 use Rattle.tsplib.specs.declared.state.Stepped.the-variants.{To}
 use Rattle.tsplib.proofs.Exact.{ran, ran-step}
+use Rattle.tsplib.proofs.Verdicts.{at-most-both}
 use Rattle.tsplib.proofs.Steps.{Step, name, comment, type-tsp, dimension, weight-type, format, nodes, weights, node, some-weights, last-node, last-weight}
 
 -- the numbers that a state holds fit 32 bits
@@ -80,6 +84,7 @@ good-step r last-weight g = tt
 pub record Completion (s : State) : Type 0 where
   pub lines : List Line
   pub text : List ℕ
+  pub are-bytes : allAtMost 255 text ≡ true
   pub written : Text lines text
   pub n : ℕ
   pub weighs : Weighing
@@ -88,13 +93,19 @@ pub record Completion (s : State) : Type 0 where
 -- the bytes of a line
 record Writes (l : Line) : Type 0 where
   pub bytes : List ℕ
+  pub are-bytes : allAtMost 255 bytes ≡ true
   pub no-newline : free newline bytes ≡ true
   pub reads : Reads bytes l
 
+both-bytes : (s t : List ℕ) → allAtMost 255 s ≡ true → allAtMost 255 t ≡ true → allAtMost 255 (s ++ t) ≡ true
+both-bytes s t h g = at-most-both 255 s t ∙ and-both (allAtMost 255 s) (allAtMost 255 t) h g
+
 prepend : {s t : State} {l : Line} → Writes l → Step s l t → Completion t → Completion s
+unfolding allAtMost
 prepend {l = l} w h c = record {
   lines = l ∷ c .lines;
   text = w .bytes ++ newline ∷ c .text;
+  are-bytes = both-bytes (w .bytes) (newline ∷ c .text) (w .are-bytes) (c .are-bytes);
   written = language.line (w .no-newline) (w .reads) (c .written);
   n = c .n;
   weighs = c .weighs;
@@ -109,36 +120,36 @@ unfolding valueFrom
 zero-number = record { some = omega arith; digits = number.digit {d = 0} (omega arith) number.end; value = refl; fits = omega arith }
 
 write-dimension : Writes (dimension-line 0)
-unfolding free
-write-dimension = record { bytes = dimensionWord ++ 58 ∷ 48 ∷ []; no-newline = refl; reads = reads.dimension (sole dimensionWord) (number.last zero-number 0) }
+unfolding free allAtMost
+write-dimension = record { bytes = dimensionWord ++ 58 ∷ 48 ∷ []; are-bytes = refl; no-newline = refl; reads = reads.dimension (sole dimensionWord) (number.last zero-number 0) }
 
 write-explicit : Writes (weighing-line weighing.Explicit)
-unfolding free
-write-explicit = record { bytes = weightTypeWord ++ 58 ∷ explicitWord; no-newline = refl; reads = reads.weight-type (sole weightTypeWord) reads.explicit (sole explicitWord) }
+unfolding free allAtMost
+write-explicit = record { bytes = weightTypeWord ++ 58 ∷ explicitWord; are-bytes = refl; no-newline = refl; reads = reads.weight-type (sole weightTypeWord) reads.explicit (sole explicitWord) }
 
 write-euc2d : Writes (weighing-line (weighing.Rule 1))
-unfolding free
-write-euc2d = record { bytes = weightTypeWord ++ 58 ∷ euc2dWord; no-newline = refl; reads = reads.weight-type (sole weightTypeWord) reads.euc2d (sole euc2dWord) }
+unfolding free allAtMost
+write-euc2d = record { bytes = weightTypeWord ++ 58 ∷ euc2dWord; are-bytes = refl; no-newline = refl; reads = reads.weight-type (sole weightTypeWord) reads.euc2d (sole euc2dWord) }
 
 write-format : Writes format-line
-unfolding free
-write-format = record { bytes = formatWord ++ 58 ∷ upperRowWord; no-newline = refl; reads = reads.format (sole formatWord) (sole upperRowWord) }
+unfolding free allAtMost
+write-format = record { bytes = formatWord ++ 58 ∷ upperRowWord; are-bytes = refl; no-newline = refl; reads = reads.format (sole formatWord) (sole upperRowWord) }
 
 write-nodes : Writes node-section
-unfolding free
-write-nodes = record { bytes = nodeSectionWord; no-newline = refl; reads = reads.nodes (sole nodeSectionWord) }
+unfolding free allAtMost
+write-nodes = record { bytes = nodeSectionWord; are-bytes = refl; no-newline = refl; reads = reads.nodes (sole nodeSectionWord) }
 
 write-weights : Writes weight-section
-unfolding free
-write-weights = record { bytes = weightSectionWord; no-newline = refl; reads = reads.weights (sole weightSectionWord) }
+unfolding free allAtMost
+write-weights = record { bytes = weightSectionWord; are-bytes = refl; no-newline = refl; reads = reads.weights (sole weightSectionWord) }
 
 write-eof : Writes eof-line
-unfolding free
-write-eof = record { bytes = eofWord; no-newline = refl; reads = reads.eof (sole eofWord) }
+unfolding free allAtMost
+write-eof = record { bytes = eofWord; are-bytes = refl; no-newline = refl; reads = reads.eof (sole eofWord) }
 
 write-weight : Writes (number-line (0 ∷ []))
-unfolding free
-write-weight = record { bytes = 48 ∷ []; no-newline = refl; reads = reads.numbers (number.last zero-number 0) }
+unfolding free allAtMost
+write-weight = record { bytes = 48 ∷ []; are-bytes = refl; no-newline = refl; reads = reads.numbers (number.last zero-number 0) }
 
 -- a number in decimal is a number of the language
 digits-of : (t : List ℕ) → ((i : ℕ) → i < length t → (48 ≤ getD t i 0) × (getD t i 0 < 58)) → Digits t
@@ -161,17 +172,18 @@ decimal-number n h =
     record { some = d .some; digits = digits-of (decimal n) (d .digit); value = d .value; fits = h }
 
 write-node : (k : ℕ) → k < numberLimit → Writes (number-line (k ∷ 0 ∷ 0 ∷ []))
-unfolding free
+unfolding free allAtMost
 write-node k h = record {
   bytes = decimal k ++ blank ∷ (48 ∷ blank ∷ 48 ∷ []);
+  are-bytes = both-bytes (decimal k) (blank ∷ 48 ∷ blank ∷ 48 ∷ []) (each-limit 255 (decimal k) (λ i g. omega (arith, decimal-is k .digit i g .1))) refl;
   no-newline = free-both newline (decimal k) (blank ∷ 48 ∷ blank ∷ 48 ∷ []) (digits-free (decimal k) (decimal-is k .digit)) refl;
   reads = reads.numbers (number.more (decimal-number k h) (number.more zero-number (number.last zero-number 0)));
 }
 
 -- the completion of each state
 ended-completes : (n : ℕ) (v : Weighing) → Completion (Ended n v)
-unfolding ran
-ended-completes n v = record { lines = []; text = []; written = language.none; n = n; weighs = v; ends = refl }
+unfolding ran allAtMost
+ended-completes n v = record { lines = []; text = []; are-bytes = refl; written = language.none; n = n; weighs = v; ends = refl }
 
 weights-complete : (n left : ℕ) → Completion (Weights n left)
 weights-complete n zero = prepend write-eof last-weight (ended-completes n weighing.Explicit)

@@ -133,6 +133,7 @@ begins ls t f e =
     let c = completes t (good-ran ls noLines t tt e) in
     record {
       rest = c .text;
+      are-bytes = c .are-bytes;
       n = c .n;
       weighs = c .weighs;
       numbers = gathered (skipFor (c .weighs)) (map lineOf ls ++ c .lines);
@@ -183,30 +184,37 @@ told-first text line e = go (fault-at (linesOf text) noLines 0 0 (unfinished tex
           stops = stop (f .passed) (f .told) (f .stops);
         }
 
--- some lines begin with fewer
-fewer-lines : (j k : ℕ) (ls : List (List ℕ)) → j ≤ k → (rest : List ℕ) × (joined (take k ls) [] ≡ joined (take j ls) [] ++ rest)
-unfolding joined
-fewer-lines zero k ls h = (joined (take k ls) [], refl)
-fewer-lines (suc j) zero ls h = absurd (omega arith)
-fewer-lines (suc j) (suc k) [] h = ([], refl)
-fewer-lines (suc j) (suc k) (l ∷ ls) h =
-    let r = fewer-lines j k ls (omega arith) in
-    (r .0, ap (λ (t : List ℕ). l ++ newline ∷ t) (r .1) ∙ sym (append-assoc l (newline ∷ joined (take j ls) []) (r .0)))
+-- lines that begin a text lead to a state, and so do the first of them, which completes them anew
+begins-ran : (ls : List (List ℕ)) → AllFree ls → Begins (joined ls []) → (t : State) × (ran noLines (map lineOf ls) ≡ stepped.To t)
+begins-ran ls f b = go (ran noLines (map lineOf ls)) refl
+  where
+    go : (x : Stepped) → ran noLines (map lineOf ls) ≡ x → (t : State) × (ran noLines (map lineOf ls) ≡ stepped.To t)
+    go (stepped.To t) e = (t, e)
+    go stepped.Fault e = absurd (begins-not ls f e b)
+
+take-more : {A : Type 0} (j k : ℕ) (ls : List A) → j ≤ k → (rest : List A) × (take k ls ≡ take j ls ++ rest)
+take-more zero k ls h = (take k ls, refl)
+take-more (suc j) zero ls h = absurd (omega arith)
+take-more (suc j) (suc k) [] h = ([], refl)
+take-more {A} (suc j) (suc k) (l ∷ ls) h = let r = take-more j k ls (omega arith) in (r .0, ap (λ (ms : List A). l ∷ ms) (r .1))
 
 begins-fewer : (j k : ℕ) (text : List ℕ) → j ≤ k → Begins (firstLines k text) → Begins (firstLines j text)
-unfolding firstLines
-begins-fewer j k text h b =
-    let c = fewer-lines j k (wholeLines text) h in
-    record {
-      rest = c .0 ++ b .rest;
-      n = b .n;
-      weighs = b .weighs;
-      numbers = b .numbers;
-      text =
-          subst (λ (t : List ℕ). Tsplib t (b .n) (b .weighs) (b .numbers))
-          (ap (λ (t : List ℕ). t ++ b .rest) (c .1) ∙ append-assoc (joined (take j (wholeLines text)) []) (c .0) (b .rest))
-          (b .text);
-    }
+unfolding firstLines linesOf
+begins-fewer j k text h b = go (ran noLines (map lineOf (take j (wholeLines text)))) refl
+  where
+    free : (i : ℕ) → AllFree (take i (wholeLines text))
+    free i = take-free i (wholeLines text) (whole-free text)
+
+    go : (x : Stepped) → ran noLines (map lineOf (take j (wholeLines text))) ≡ x → Begins (joined (take j (wholeLines text)) [])
+    go (stepped.To t) e = begins (take j (wholeLines text)) t (free j) e
+    go stepped.Fault e =
+        let c = take-more j k (linesOf text) h in
+        let r = begins-ran (take k (wholeLines text)) (free k) b in
+        faulty
+        (sym (ap (λ (x : Stepped). onTo x (λ (u : State). ran u (c .0))) (ap (ran noLines) (sym (map-take j (wholeLines text))) ∙ e))
+        ∙ sym (ran-both (take j (linesOf text)) (c .0) noLines)
+        ∙ ap (ran noLines) (sym (c .1) ∙ sym (map-take k (wholeLines text)))
+        ∙ r .1)
 
 none-before : {text : List ℕ} {i j : ℕ} → ToldFirst text i → ToldFirst text j → i < j → ⊥
 none-before {text} {i} {j} a b h = go (a .stops)

@@ -21,7 +21,7 @@ use Rattle.tsplib_lines.specs.declared.line.Weighing.the-variants.{Explicit, Ru
 use Rattle.tsplib.specs.Language.{Tsplib}
 use Rattle.tsplib.specs.Told.{ToldFirst}
 use Rattle.tsplib.specs.Judging.{judged, linesOf}
-use Rattle.tsplib.specs.Reading.{coordinatesOf, weightsOf, ofMeasured, ofWeights, filledWith, readAs, leftAs, ReadAs, answerFor, leftFor, pointsOf}
+use Rattle.tsplib.specs.Reading.{coordinatesOf, weightsOf, ofMeasured, ofWeights, filledWith, readAs, leftAs, ReadAs, refusalOf, answerFor, leftFor, pointsOf}
 use Rattle.tsplib.specs.declared.judging.Judged.{Judged}
 use Rattle.tsplib.specs.declared.judging.Judged.the-variants.{Instance, Fault}
 use Rattle.tsplib.specs.declared.reading.Read.{Read}
@@ -89,17 +89,13 @@ module _ (text : List ℕ) (o : Outside text) where
   points-outside = let f = outside-fault (judged text) refl in (f .0, ap pointsOf (f .1), told-first text (f .0) (f .1))
 
 -- 19 is no answer to a text of the language
-number-of : Read → ℕ
-number-of (Points n) = 0
-number-of (Refused number line) = number
-
-measured-number : (n rule : ℕ) (cs : List ℕ) (size : ℕ) → number-of (ofMeasured n (measured n rule cs size)) ≤ 5
-unfolding measured ofMeasured number-of
+measured-number : (n rule : ℕ) (cs : List ℕ) (size : ℕ) → refusalOf (ofMeasured n (measured n rule cs size)) ≤ 5
+unfolding measured ofMeasured refusalOf
 measured-number n rule cs size =
     go (inRange n) (eqb (length cs) (2 * n)) (eqb size (edgeCount n)) (known (ruleOf rule)) (allAtMost mostCoordinate cs)
   where
     go : (a b c d e : Bool)
-        → number-of
+        → refusalOf
         (ofMeasured n
         (unless a (measure.Refused 1 0)
         (unless b (measure.Refused 2 0) (unless c (measure.Refused 2 0) (unless d (measure.Refused 3 0) (unless e (measure.Refused 4 0) measure.Done))))))
@@ -111,25 +107,25 @@ measured-number n rule cs size =
     go true true true true false = omega arith
     go true true true true true = omega arith
 
-weights-number : (n : ℕ) (ws : List ℕ) (size : ℕ) → number-of (ofWeights n ws size) ≤ 5
-unfolding ofWeights number-of
+weights-number : (n : ℕ) (ws : List ℕ) (size : ℕ) → refusalOf (ofWeights n ws size) ≤ 5
+unfolding ofWeights refusalOf
 weights-number n ws size = go (inRange n) (eqb size (edgeCount n)) (allAtMost mostLength ws)
   where
-    go : (a b c : Bool) → number-of (unless a (Refused 1 0) (unless b (Refused 2 0) (unless c (Refused 5 0) (Points n)))) ≤ 5
+    go : (a b c : Bool) → refusalOf (unless a (Refused 1 0) (unless b (Refused 2 0) (unless c (Refused 5 0) (Points n)))) ≤ 5
     go false b c = omega arith
     go true false c = omega arith
     go true true false = omega arith
     go true true true = omega arith
 
-inside-number : (w : Weighing) (n : ℕ) (xs : List ℕ) (size : ℕ) → number-of (answerFor w n xs size) ≤ 5
+pub inside-number : (w : Weighing) (n : ℕ) (xs : List ℕ) (size : ℕ) → refusalOf (answerFor w n xs size) ≤ 5
 unfolding answerFor
 inside-number (Rule r) n xs size = measured-number n r xs size
 inside-number Explicit n xs size = weights-number n xs size
 
 pub refused-outside : {text table left : List ℕ} {line : ℕ} → ReadAs text table (Refused 19 line) left → Outside text
-unfolding number-of
+unfolding refusalOf
 refused-outside {table = table} r n w xs t =
-    let e : 19 ≡ number-of (answerFor w n xs (length (whole32 table))) = ap number-of (read-inside t r .answered) in
+    let e : 19 ≡ refusalOf (answerFor w n xs (length (whole32 table))) = ap refusalOf (read-inside t r .answered) in
     omega (arith, inside-number w n xs (length (whole32 table)))
 
 -- a refused call leaves the table, whatever its number

@@ -1,8 +1,11 @@
 -- The line told: "The line told is the first that, after the lines before it, no such text could hold, or one past the last whole line."
 use Prim.Native.Nat.{ℕ, _+_, _-_, _≤_, _<_}
+use mathlib.Core.Path.{_≡_}
+use mathlib.Core.Bool.{true}
 use mathlib.Core.Logic.{_⊎_}
 use mathlib.Core.List.{List, [], _∷_, _++_}
 use lib.ListN.{length, take}
+use Rattle.lists.specs.Test.{allAtMost}
 use Rattle.tsplib_lines.specs.Words.{newline}
 use Rattle.tsplib_lines.specs.declared.line.Weighing.{Weighing}
 use Rattle.tsplib.specs.Language.{Tsplib}
@@ -17,9 +20,10 @@ joined (l ∷ ls) rest = l ++ newline ∷ joined ls rest
 unfoldable pub firstLines : ℕ → List ℕ → List ℕ
 firstLines k text = joined (take k (wholeLines text)) []
 
--- some text of the language begins with these bytes
+-- some text of the language begins with these bytes: behind them come bytes, numbers to 255, that complete it
 pub record Begins (bytes : List ℕ) : Type 0 where
   pub rest : List ℕ
+  pub are-bytes : allAtMost 255 rest ≡ true
   pub n : ℕ
   pub weighs : Weighing
   pub numbers : List ℕ
