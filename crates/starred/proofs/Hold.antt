@@ -27,7 +27,7 @@ use Rattle.closings.specs.Closing.{firstSaving, secondSaving, labelSaving, cros
 use Rattle.closings.proofs.Savings.{saves-sums}
 use Rattle.rules.proofs.Savings.{compatible-sum, move-sum}
 use Rattle.rules.specs.Pair.{moveSaving, FeasiblePair}
-use Rattle.rules.specs.PairTest.{every, compatible?, leg?, stays?, unmoved?, joint?, meeting?, apart?, settled?, endAt?, endStays?, candidateLeg?, feasible?}
+use Rattle.rules.specs.PairTest.{every, compatible?, leg?, stays?, unmoved?, joint?, meeting?, apart?, settled?, endAt?, endStays?, candidateLeg?, feasible?, feasibleBy01?}
 use Rattle.rules.specs.Pairs.{keep, feasiblePairs}
 use Rattle.sets.specs.Shape.{shape?, shuts?, reaches?, goesOn}
 use Rattle.closings.specs.declared.closing.ThreeOptOutcome.the-variants.{NoSaving}
@@ -35,7 +35,7 @@ use Rattle.closings.proofs.ClosingExact.{no-saving-exact}
 use Rattle.sets.proofs.Exact.{has-exact, ends-sound, shape-exact, single-shape}
 use Rattle.rules.proofs.PairTests.{compatible-iff, feasible-iff, feasiblePairs-iff}
 use Rattle.rules.proofs.Unmoving.{single-unmovable}
-use Rattle.starred.specs.Table.{Example, distances, incompatible, feasible, compares, saves, unsaved, starred, square, allOpen, eight, centres, Eight, Claim, moved, five, fiveOpen, second, by01?}
+use Rattle.starred.specs.Table.{Example, distances, incompatible, feasible, compares, saves, unsaved, starred, square, allOpen, eight, centres, Eight, Claim, moved, five, fiveOpen, second}
 
 distances-hold : (dx dy S euc2d ceil2d att man2d max2d : ℕ) → S ≤ mostSquares → squares dx dy ≡ S → distanceBy Euc2d S ≡ euc2d → distanceBy Ceil2d S ≡ ceil2d
     → distanceBy Att S ≡ att → gapDistance Man2d dx dy ≡ man2d → gapDistance Max2d dx dy ≡ max2d → Claim (distances dx dy S euc2d ceil2d att man2d max2d)
@@ -126,7 +126,7 @@ unsaved-hold rs h e =
     )
 
 -- the first pair is feasible by its test; the second is not, since 1 lies between 2 and 3 and would lie better between 4 and 5
-moved-hold : (saved : ℕ) → 1 ≤ saved → feasible? 5 five five fiveOpen (edge 1 2 ∷ []) 1 2 3 ≡ true → by01? second 4 3 5 ≡ true → moveSaving five five 1 2 3 4 5 ≡ pos saved → Claim (moved saved)
+moved-hold : (saved : ℕ) → 1 ≤ saved → feasible? 5 five five fiveOpen (edge 1 2 ∷ []) 1 2 3 ≡ true → feasibleBy01? 5 five five fiveOpen second 4 3 5 ≡ true → moveSaving five five 1 2 3 4 5 ≡ pos saved → Claim (moved saved)
 unfolding five second withPair gains?
 moved-hold (suc d) h first old gain = (
   feasible-iff five five (length-symmetric 5 _) (length-symmetric 5 _) 5 fiveOpen (edge 1 2 ∷ []) 1 2 3 (record { low = omega arith; up = omega arith; high = omega arith })
@@ -171,7 +171,7 @@ each (d ∷ es) (h & hs) e m = ⊎-elim (λ q. subst (λ (x : Example). Claim x)
 
 -- the square's numbers, the standing pairs and the 3-opt closing's answer are computed
 proved : Proved starred
-unfolding starred distanceBy bisect passes square allOpen five fiveOpen second by01? withPair moveSaving eight centres lengthOf measuredTable edgeDistance gapDistance squares xOf yOf xGap yGap gapOf
+unfolding starred distanceBy bisect passes square allOpen five fiveOpen second feasibleBy01? withPair moveSaving eight centres lengthOf measuredTable edgeDistance gapDistance squares xOf yOf xGap yGap gapOf
     edgeCount place placeUp tri edges rows row openUpTo markAt feasiblePairs keep feasible? candidateLeg? leg? settled? apart? meeting? joint? unmoved? endStays? endAt? stays? every compatible? shape? shuts? reaches? goesOn
     neighboursOf seen withPoint within? either? beyond threeOptOutcome placed? has? joins? centresApart? endsOf bothOf settledBy labelling? saves? crossingSaving labelSaving firstSaving secondSaving smaller larger
 proved =

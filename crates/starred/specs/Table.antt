@@ -2,7 +2,7 @@
 -- order, and `Claim` says what an entry claims, of the definitions that 01's sentences are stated by.
 use Prim.Native.Nat.{ℕ, _+_, max}
 use mathlib.Core.Path.{_≡_}
-use mathlib.Core.Bool.{Bool, true, _&&_}
+use mathlib.Core.Bool.{Bool, true}
 use mathlib.Core.Logic.{_↔_}
 use mathlib.Core.List.{List, [], _∷_}
 use lib.ListN.{replicate}
@@ -16,9 +16,8 @@ use Rattle.closings.specs.Closing.{crossingSaving, Saves, ThreeOptMoves, Closes
 use Rattle.marks.specs.Mark.{openIn}
 use lib.IntN.{pos}
 use Rattle.rules.specs.Pair.{moveSaving, Compatible, MoveSaves, FeasiblePair}
-use Rattle.rules.specs.PairTest.{leg?, unmoved?}
+use Rattle.rules.specs.PairTest.{feasibleBy01?}
 use Rattle.sets.specs.EdgeSet.{withPair}
-use Rattle.sets.specs.Shape.{shape?}
 use Rattle.sets.specs.Rising.{Among}
 
 pub data Example : Type 0 where
@@ -82,10 +81,6 @@ fiveOpen = openIn 5 (replicate (edgeCount 5) 1)
 -- K after the pair 2, 3 at 1 under {12}
 unfoldable pub second : List Edge
 second = withPair (edge 1 2 ∷ []) 1 2 3
-
--- the pair x, y meets conditions 1 to 4 at c under K, and 01's condition 5, which moves the split point alone
-unfoldable pub by01? : List Edge → (c x y : ℕ) → Bool
-by01? K c x y = leg? five five fiveOpen K c x && (leg? five five fiveOpen K c y && (unmoved? five five K c x y && shape? 5 K c x y))
 
 -- the lengths among the 3-opt closing's points p, q, r, s, x, y, z, w, which are 1 to 8: `Eight` says which they are
 unfoldable pub eight : ℕ → ℕ → ℕ → ℕ
@@ -159,6 +154,6 @@ Claim (saves rs taken put difference) =
 Claim (unsaved rs) = Given rs × NoneSaves (eight rs) 1 2 3 4 5 6 7 8 × (Closes (eight rs) (eight rs) centres 1 2 3 4 → ⊥)
 Claim (moved saved) =
     FeasiblePair 5 five five fiveOpen (edge 1 2 ∷ []) 1 2 3
-    × (by01? second 4 3 5 ≡ true)
+    × (feasibleBy01? 5 five five fiveOpen second 4 3 5 ≡ true)
     × (moveSaving five five 1 2 3 4 5 ≡ pos saved)
     × (FeasiblePair 5 five five fiveOpen second 4 3 5 → ⊥)
