@@ -1,7 +1,7 @@
 -- The operations against the language: a text of it gets the answer of its n, weighing and data; any other gets 19 with the line that is told first; and
 -- 19 is no answer to a text of the language; and a refused call leaves the table. Assumes nothing.
 use Prim.Native.Nat.{ℕ, _*_, _≤_}
-use mathlib.Core.Path.{_≡_, refl, sym, _∙_, ap}
+use mathlib.Core.Path.{_≡_, refl, sym, _∙_, ap, subst}
 use mathlib.Core.Bool.{Bool, true, false}
 use mathlib.Core.List.{List}
 use native.Mathlib.Omega.{arith}
@@ -16,12 +16,13 @@ use Rattle.lengths.specs.Measure.{measured, tableAfter, leftBy, known}
 use Rattle.lengths.specs.declared.distance.NamedRule.{NamedRule}
 use Rattle.lengths.specs.declared.measure.Measured.{Measured}
 use Rattle.lengths.specs.declared.measure.Measured.the-variants as measure
+use Rattle.tsplib_lines.specs.Line.{Line}
 use Rattle.tsplib_lines.specs.declared.line.Weighing.{Weighing}
 use Rattle.tsplib_lines.specs.declared.line.Weighing.the-variants.{Explicit, Rule}
 use Rattle.tsplib.specs.Language.{Tsplib}
 use Rattle.tsplib.specs.Told.{ToldFirst}
 use Rattle.tsplib.specs.Judging.{judged, linesOf}
-use Rattle.tsplib.specs.Reading.{coordinatesOf, weightsOf, ofMeasured, ofWeights, filledWith, readAs, leftAs, ReadAs, refusalOf, answerFor, leftFor, pointsOf}
+use Rattle.tsplib.specs.Reading.{coordinatesOf, weightsOf, ofMeasured, ofWeights, filledWith, readAs, leftAs, ReadAs, answerFor, leftFor, pointsOf}
 use Rattle.tsplib.specs.declared.judging.Judged.{Judged}
 use Rattle.tsplib.specs.declared.judging.Judged.the-variants.{Instance, Fault}
 use Rattle.tsplib.specs.declared.reading.Read.{Read}
@@ -88,45 +89,55 @@ module _ (text : List ℕ) (o : Outside text) where
   unfolding pointsOf
   points-outside = let f = outside-fault (judged text) refl in (f .0, ap pointsOf (f .1), told-first text (f .0) (f .1))
 
--- 19 is no answer to a text of the language
-measured-number : (n rule : ℕ) (cs : List ℕ) (size : ℕ) → refusalOf (ofMeasured n (measured n rule cs size)) ≤ 5
-unfolding measured ofMeasured refusalOf
-measured-number n rule cs size =
+-- a refusal's number is from 1 to `most`
+abbrev pub RefusedTo : ℕ → Read → Type 0
+RefusedTo most (Points n) = Unit {0}
+RefusedTo most (Refused number line) = (1 ≤ number) × (number ≤ most)
+
+measured-number : (most n rule : ℕ) (cs : List ℕ) (size : ℕ) → 5 ≤ most → RefusedTo most (ofMeasured n (measured n rule cs size))
+unfolding measured ofMeasured
+measured-number most n rule cs size h =
     go (inRange n) (eqb (length cs) (2 * n)) (eqb size (edgeCount n)) (known (ruleOf rule)) (allAtMost mostCoordinate cs)
   where
     go : (a b c d e : Bool)
-        → refusalOf
+        → RefusedTo most
         (ofMeasured n
         (unless a (measure.Refused 1 0)
         (unless b (measure.Refused 2 0) (unless c (measure.Refused 2 0) (unless d (measure.Refused 3 0) (unless e (measure.Refused 4 0) measure.Done))))))
-        ≤ 5
-    go false b c d e = omega arith
-    go true false c d e = omega arith
-    go true true false d e = omega arith
-    go true true true false e = omega arith
-    go true true true true false = omega arith
-    go true true true true true = omega arith
+    go false b c d e = (omega arith, omega arith)
+    go true false c d e = (omega arith, omega arith)
+    go true true false d e = (omega arith, omega arith)
+    go true true true false e = (omega arith, omega arith)
+    go true true true true false = (omega arith, omega arith)
+    go true true true true true = tt
 
-weights-number : (n : ℕ) (ws : List ℕ) (size : ℕ) → refusalOf (ofWeights n ws size) ≤ 5
-unfolding ofWeights refusalOf
-weights-number n ws size = go (inRange n) (eqb size (edgeCount n)) (allAtMost mostLength ws)
+weights-number : (most n : ℕ) (ws : List ℕ) (size : ℕ) → 5 ≤ most → RefusedTo most (ofWeights n ws size)
+unfolding ofWeights
+weights-number most n ws size h = go (inRange n) (eqb size (edgeCount n)) (allAtMost mostLength ws)
   where
-    go : (a b c : Bool) → refusalOf (unless a (Refused 1 0) (unless b (Refused 2 0) (unless c (Refused 5 0) (Points n)))) ≤ 5
-    go false b c = omega arith
-    go true false c = omega arith
-    go true true false = omega arith
-    go true true true = omega arith
+    go : (a b c : Bool) → RefusedTo most (unless a (Refused 1 0) (unless b (Refused 2 0) (unless c (Refused 5 0) (Points n))))
+    go false b c = (omega arith, omega arith)
+    go true false c = (omega arith, omega arith)
+    go true true false = (omega arith, omega arith)
+    go true true true = tt
 
-pub inside-number : (w : Weighing) (n : ℕ) (xs : List ℕ) (size : ℕ) → refusalOf (answerFor w n xs size) ≤ 5
+inside-number : (w : Weighing) (n : ℕ) (xs : List ℕ) (size : ℕ) → RefusedTo 5 (answerFor w n xs size)
 unfolding answerFor
-inside-number (Rule r) n xs size = measured-number n r xs size
-inside-number Explicit n xs size = weights-number n xs size
+inside-number (Rule r) n xs size = measured-number 5 n r xs size (omega arith)
+inside-number Explicit n xs size = weights-number 5 n xs size (omega arith)
 
+-- 19 is the largest
+pub answer-number : (j : Judged) (ls : List Line) (size : ℕ) → RefusedTo 19 (readAs j ls size)
+unfolding readAs
+answer-number (Fault line) ls size = (omega arith, omega arith)
+answer-number (Instance n (Rule r) m) ls size = measured-number 19 n r (coordinatesOf ls) size (omega arith)
+answer-number (Instance n Explicit m) ls size = weights-number 19 n (weightsOf ls) size (omega arith)
+
+-- 19 is no answer to a text of the language
 pub refused-outside : {text table left : List ℕ} {line : ℕ} → ReadAs text table (Refused 19 line) left → Outside text
-unfolding refusalOf
-refused-outside {table = table} r n w xs t =
-    let e : 19 ≡ refusalOf (answerFor w n xs (length (whole32 table))) = ap refusalOf (read-inside t r .answered) in
-    omega (arith, inside-number w n xs (length (whole32 table)))
+refused-outside {table = table} {line = line} r n w xs t =
+    let h : RefusedTo 5 (Refused 19 line) = subst (RefusedTo 5) (sym (read-inside t r .answered)) (inside-number w n xs (length (whole32 table))) in
+    omega (arith, h .1)
 
 -- a refused call leaves the table, whatever its number
 pub refused-left : {text table left : List ℕ} {number line : ℕ} → ReadAs text table (Refused number line) left → left ≡ table

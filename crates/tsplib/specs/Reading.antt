@@ -61,11 +61,6 @@ pub record ReadAs (text table : List ℕ) (answer : Read) (left : List ℕ) : Ty
   pub answered : answer ≡ readAs (judged text) (linesOf text) (length (whole32 table))
   pub table-left : left ≡ leftAs (judged text) (linesOf text) table
 
--- the number of a refusal, or 0
-unfoldable pub refusalOf : Read → ℕ
-refusalOf (Points n) = 0
-refusalOf (Refused number line) = number
-
 -- what `tsplib_points` answers: n, or the line at fault
 unfoldable pub pointsOf : Judged → Read
 pointsOf (Fault line) = Refused 19 line
