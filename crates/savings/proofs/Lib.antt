@@ -1,3 +1,4 @@
 pub mod Decides
 pub mod EdgeSpans
 pub mod SavedAnswers
+pub mod SavedNames
