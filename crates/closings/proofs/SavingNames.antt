@@ -1,5 +1,6 @@
--- The saving of a crossing is the best of its four labellings, and does not depend on the names of its points, where lengths do not depend on the order of an
--- edge's points: p and q, x and y, z and w may be swapped, and the centres with their ends. Assumes nothing.
+-- The saving of a crossing is the best of its four labellings, and does not depend on the names of its points, where
+-- lengths do not depend on the order of an edge's points: p and q, x and y, z and w may be swapped, and the
+-- centres with their ends. Assumes nothing.
 use Prim.Native.Nat.{ℕ, _+_}
 use mathlib.Core.Path.{_≡_, _∙_, ap, ap₂}
 use mathlib.Core.Logic.{_⊎_, inl, inr, ⊎-elim}
@@ -15,7 +16,8 @@ module _ (a b c d : ℤ) where
   abbrev largest : ℤ
   largest = larger a (larger b (larger c d))
 
-  largest-is : (a ≤ℤ largest) × (b ≤ℤ largest) × (c ≤ℤ largest) × (d ≤ℤ largest) × ((largest ≡ a) ⊎ ((largest ≡ b) ⊎ ((largest ≡ c) ⊎ (largest ≡ d))))
+  largest-is : (a ≤ℤ largest) × (b ≤ℤ largest) × (c ≤ℤ largest) × (d ≤ℤ largest)
+      × ((largest ≡ a) ⊎ ((largest ≡ b) ⊎ ((largest ≡ c) ⊎ (largest ≡ d))))
   largest-is =
       let o = larger-is a (larger b (larger c d)) in
       let m = larger-is b (larger c d) in
@@ -24,7 +26,9 @@ module _ (a b c d : ℤ) where
         at-most-trans (m .0) (o .1),
         at-most-trans (i .0) (at-most-trans (m .1) (o .1)),
         at-most-trans (i .1) (at-most-trans (m .1) (o .1)),
-        ⊎-elim inl (λ e. inr (⊎-elim (λ f. inl (e ∙ f)) (λ f. inr (⊎-elim (λ g. inl (e ∙ f ∙ g)) (λ g. inr (e ∙ f ∙ g)) (i .2))) (m .2))) (o .2),
+        ⊎-elim inl
+            (λ e. inr (⊎-elim (λ f. inl (e ∙ f)) (λ f. inr (⊎-elim (λ g. inl (e ∙ f ∙ g)) (λ g. inr (e ∙ f ∙ g)) (i .2))) (m .2)))
+            (o .2),
       )
 
   -- in other orders
@@ -55,7 +59,8 @@ pub crossing-best : (out put : ℕ → ℕ → ℕ) (p q r s x y z w : ℕ)
     ⊎ (crossingSaving out put p q r s x y z w ≡ labelSaving out put p q r s y x w z))))
 unfolding crossingSaving
 crossing-best out put p q r s x y z w =
-    largest-is (labelSaving out put p q r s x y z w) (labelSaving out put p q r s x y w z) (labelSaving out put p q r s y x z w) (labelSaving out put p q r s y x w z)
+    largest-is (labelSaving out put p q r s x y z w) (labelSaving out put p q r s x y w z)
+    (labelSaving out put p q r s y x z w) (labelSaving out put p q r s y x w z)
 
 -- savings of equal sums
 same-saving : (a b c d : ℕ) → a ≡ b → c ≡ d → saving a c ≡ saving b d
@@ -66,12 +71,14 @@ module _ (out put : ℕ → ℕ → ℕ) (p q r s : ℕ) where
   pub crossing-ends-r : (x y z w : ℕ) → crossingSaving out put p q r s y x z w ≡ crossingSaving out put p q r s x y z w
   unfolding crossingSaving
   crossing-ends-r x y z w =
-      halves-turned (labelSaving out put p q r s x y z w) (labelSaving out put p q r s x y w z) (labelSaving out put p q r s y x z w) (labelSaving out put p q r s y x w z)
+      halves-turned (labelSaving out put p q r s x y z w) (labelSaving out put p q r s x y w z)
+      (labelSaving out put p q r s y x z w) (labelSaving out put p q r s y x w z)
 
   pub crossing-ends-s : (x y z w : ℕ) → crossingSaving out put p q r s x y w z ≡ crossingSaving out put p q r s x y z w
   unfolding crossingSaving
   crossing-ends-s x y z w =
-      pairs-turned (labelSaving out put p q r s x y z w) (labelSaving out put p q r s x y w z) (labelSaving out put p q r s y x z w) (labelSaving out put p q r s y x w z)
+      pairs-turned (labelSaving out put p q r s x y z w) (labelSaving out put p q r s x y w z)
+      (labelSaving out put p q r s y x z w) (labelSaving out put p q r s y x w z)
 
   module _ (out-turned : (a b : ℕ) → out a b ≡ out b a) (put-turned : (a b : ℕ) → put a b ≡ put b a) where
     -- p and q: the first move by one naming is the second by the other
@@ -89,13 +96,16 @@ module _ (out put : ℕ → ℕ → ℕ) (p q r s : ℕ) where
 
     label-edge : (x y z w : ℕ) → labelSaving out put q p r s x y z w ≡ labelSaving out put p q r s y x w z
     unfolding labelSaving
-    label-edge x y z w = ap₂ smaller (first-edge x w) (second-edge y z) ∙ smaller-turned (secondSaving out put p q r s x w) (firstSaving out put p q r s y z)
+    label-edge x y z w =
+        ap₂ smaller (first-edge x w) (second-edge y z)
+        ∙ smaller-turned (secondSaving out put p q r s x w) (firstSaving out put p q r s y z)
 
     pub crossing-edge : (x y z w : ℕ) → crossingSaving out put q p r s x y z w ≡ crossingSaving out put p q r s x y z w
     unfolding crossingSaving
     crossing-edge x y z w =
         ap₂ larger (label-edge x y z w) (ap₂ larger (label-edge x y w z) (ap₂ larger (label-edge y x z w) (label-edge y x w z)))
-        ∙ all-turned (labelSaving out put p q r s x y z w) (labelSaving out put p q r s x y w z) (labelSaving out put p q r s y x z w) (labelSaving out put p q r s y x w z)
+        ∙ all-turned (labelSaving out put p q r s x y z w) (labelSaving out put p q r s x y w z)
+        (labelSaving out put p q r s y x z w) (labelSaving out put p q r s y x w z)
 
     -- the centres with their ends: again the first move is the second
     first-centres : (z y : ℕ) → firstSaving out put p q s r z y ≡ secondSaving out put p q r s y z
@@ -112,10 +122,13 @@ module _ (out put : ℕ → ℕ → ℕ) (p q r s : ℕ) where
 
     label-centres : (x y z w : ℕ) → labelSaving out put p q s r z w x y ≡ labelSaving out put p q r s x y z w
     unfolding labelSaving
-    label-centres x y z w = ap₂ smaller (first-centres z y) (second-centres w x) ∙ smaller-turned (secondSaving out put p q r s y z) (firstSaving out put p q r s x w)
+    label-centres x y z w =
+        ap₂ smaller (first-centres z y) (second-centres w x)
+        ∙ smaller-turned (secondSaving out put p q r s y z) (firstSaving out put p q r s x w)
 
     pub crossing-centres : (x y z w : ℕ) → crossingSaving out put p q s r z w x y ≡ crossingSaving out put p q r s x y z w
     unfolding crossingSaving
     crossing-centres x y z w =
         ap₂ larger (label-centres x y z w) (ap₂ larger (label-centres y x z w) (ap₂ larger (label-centres x y w z) (label-centres y x w z)))
-        ∙ middle-turned (labelSaving out put p q r s x y z w) (labelSaving out put p q r s x y w z) (labelSaving out put p q r s y x z w) (labelSaving out put p q r s y x w z)
+        ∙ middle-turned (labelSaving out put p q r s x y z w) (labelSaving out put p q r s x y w z)
+        (labelSaving out put p q r s y x z w) (labelSaving out put p q r s y x w z)

@@ -1,4 +1,5 @@
--- The savings of the rules do not depend on the names of points and edges, where lengths do not depend on the order of an edge's points. Assumes nothing.
+-- The savings of the rules do not depend on the names of points and edges, where lengths do not depend on the order
+-- of an edge's points. Assumes nothing.
 use Prim.Native.Nat.{ℕ, _+_, max}
 use mathlib.Core.Path.{_≡_, ap₂}
 use native.Mathlib.Omega.{arith}
@@ -14,19 +15,22 @@ module _ (out put : ℕ → ℕ → ℕ) (out-turned : (a b : ℕ) → out a b �
   pub exchange-first : (p q x y : ℕ) → exchangeSaving out put q p x y ≡ exchangeSaving out put p q x y
   unfolding exchangeSaving
   exchange-first p q x y =
-      same-saving (out q p + out x y) (out p q + out x y) (max (put q x + put p y) (put q y + put p x)) (max (put p x + put q y) (put p y + put q x))
+      same-saving (out q p + out x y) (out p q + out x y) (max (put q x + put p y) (put q y + put p x))
+      (max (put p x + put q y) (put p y + put q x))
       (omega (arith, out-turned q p)) (omega arith)
 
   pub exchange-second : (p q x y : ℕ) → exchangeSaving out put p q y x ≡ exchangeSaving out put p q x y
   unfolding exchangeSaving
   exchange-second p q x y =
-      same-saving (out p q + out y x) (out p q + out x y) (max (put p y + put q x) (put p x + put q y)) (max (put p x + put q y) (put p y + put q x))
+      same-saving (out p q + out y x) (out p q + out x y) (max (put p y + put q x) (put p x + put q y))
+      (max (put p x + put q y) (put p y + put q x))
       (omega (arith, out-turned y x)) (omega arith)
 
   pub exchange-edges : (p q x y : ℕ) → exchangeSaving out put x y p q ≡ exchangeSaving out put p q x y
   unfolding exchangeSaving
   exchange-edges p q x y =
-      same-saving (out x y + out p q) (out p q + out x y) (max (put x p + put y q) (put x q + put y p)) (max (put p x + put q y) (put p y + put q x))
+      same-saving (out x y + out p q) (out p q + out x y) (max (put x p + put y q) (put x q + put y p))
+      (max (put p x + put q y) (put p y + put q x))
       (omega arith) (omega (arith, put-turned x p, put-turned y q, put-turned x q, put-turned y p))
 
   -- moving c from between x and y to between u and v: x and y, u and v

@@ -121,19 +121,39 @@ zero-number = record { some = omega arith; digits = number.digit {d = 0} (omega 
 
 write-dimension : Writes (dimension-line 0)
 unfolding free allAtMost
-write-dimension = record { bytes = dimensionWord ++ 58 ∷ 48 ∷ []; are-bytes = refl; no-newline = refl; reads = reads.dimension (sole dimensionWord) (number.last zero-number 0) }
+write-dimension = record {
+  bytes = dimensionWord ++ 58 ∷ 48 ∷ [];
+  are-bytes = refl;
+  no-newline = refl;
+  reads = reads.dimension (sole dimensionWord) (number.last zero-number 0);
+}
 
 write-explicit : Writes (weighing-line weighing.Explicit)
 unfolding free allAtMost
-write-explicit = record { bytes = weightTypeWord ++ 58 ∷ explicitWord; are-bytes = refl; no-newline = refl; reads = reads.weight-type (sole weightTypeWord) reads.explicit (sole explicitWord) }
+write-explicit = record {
+  bytes = weightTypeWord ++ 58 ∷ explicitWord;
+  are-bytes = refl;
+  no-newline = refl;
+  reads = reads.weight-type (sole weightTypeWord) reads.explicit (sole explicitWord);
+}
 
 write-euc2d : Writes (weighing-line (weighing.Rule 1))
 unfolding free allAtMost
-write-euc2d = record { bytes = weightTypeWord ++ 58 ∷ euc2dWord; are-bytes = refl; no-newline = refl; reads = reads.weight-type (sole weightTypeWord) reads.euc2d (sole euc2dWord) }
+write-euc2d = record {
+  bytes = weightTypeWord ++ 58 ∷ euc2dWord;
+  are-bytes = refl;
+  no-newline = refl;
+  reads = reads.weight-type (sole weightTypeWord) reads.euc2d (sole euc2dWord);
+}
 
 write-format : Writes format-line
 unfolding free allAtMost
-write-format = record { bytes = formatWord ++ 58 ∷ upperRowWord; are-bytes = refl; no-newline = refl; reads = reads.format (sole formatWord) (sole upperRowWord) }
+write-format = record {
+  bytes = formatWord ++ 58 ∷ upperRowWord;
+  are-bytes = refl;
+  no-newline = refl;
+  reads = reads.format (sole formatWord) (sole upperRowWord);
+}
 
 write-nodes : Writes node-section
 unfolding free allAtMost
@@ -175,7 +195,9 @@ write-node : (k : ℕ) → k < numberLimit → Writes (number-line (k ∷ 0 ∷ 
 unfolding free allAtMost
 write-node k h = record {
   bytes = decimal k ++ blank ∷ (48 ∷ blank ∷ 48 ∷ []);
-  are-bytes = both-bytes (decimal k) (blank ∷ 48 ∷ blank ∷ 48 ∷ []) (each-limit 255 (decimal k) (λ i g. omega (arith, decimal-is k .digit i g .1))) refl;
+  are-bytes =
+      both-bytes (decimal k) (blank ∷ 48 ∷ blank ∷ 48 ∷ [])
+      (each-limit 255 (decimal k) (λ i g. omega (arith, decimal-is k .digit i g .1))) refl;
   no-newline = free-both newline (decimal k) (blank ∷ 48 ∷ blank ∷ 48 ∷ []) (digits-free (decimal k) (decimal-is k .digit)) refl;
   reads = reads.numbers (number.more (decimal-number k h) (number.more zero-number (number.last zero-number 0)));
 }

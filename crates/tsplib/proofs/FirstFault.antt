@@ -7,7 +7,8 @@ use mathlib.Core.Logic.{_⊎_, inl, inr}
 use mathlib.Core.List.{List, [], _∷_, _++_, map, append-assoc}
 use native.Mathlib.Decide.{decLt}
 use native.Mathlib.Omega.{arith}
-use lib.ListN.{length, take, length-map}
+use lib.ListN.{length, take, drop, length-map}
+use lib.Seq.{take-add}
 use Rattle.tsplib_lines.specs.Words.{newline}
 use Rattle.tsplib_lines.specs.Line.{Line, lineOf, toldOf}
 use Rattle.tsplib_lines.proofs.LinesExact.{line-read}
@@ -184,20 +185,7 @@ told-first text line e = go (fault-at (linesOf text) noLines 0 0 (unfinished tex
           stops = stop (f .passed) (f .told) (f .stops);
         }
 
--- lines that begin a text lead to a state, and so do the first of them, which completes them anew
-begins-ran : (ls : List (List ℕ)) → AllFree ls → Begins (joined ls []) → (t : State) × (ran noLines (map lineOf ls) ≡ stepped.To t)
-begins-ran ls f b = go (ran noLines (map lineOf ls)) refl
-  where
-    go : (x : Stepped) → ran noLines (map lineOf ls) ≡ x → (t : State) × (ran noLines (map lineOf ls) ≡ stepped.To t)
-    go (stepped.To t) e = (t, e)
-    go stepped.Fault e = absurd (begins-not ls f e b)
-
-take-more : {A : Type 0} (j k : ℕ) (ls : List A) → j ≤ k → (rest : List A) × (take k ls ≡ take j ls ++ rest)
-take-more zero k ls h = (take k ls, refl)
-take-more (suc j) zero ls h = absurd (omega arith)
-take-more (suc j) (suc k) [] h = ([], refl)
-take-more {A} (suc j) (suc k) (l ∷ ls) h = let r = take-more j k ls (omega arith) in (r .0, ap (λ (ms : List A). l ∷ ms) (r .1))
-
+-- where some lines begin a text, so do fewer: a fault among them would stay one
 begins-fewer : (j k : ℕ) (text : List ℕ) → j ≤ k → Begins (firstLines k text) → Begins (firstLines j text)
 unfolding firstLines linesOf
 begins-fewer j k text h b = go (ran noLines (map lineOf (take j (wholeLines text)))) refl
@@ -205,16 +193,21 @@ begins-fewer j k text h b = go (ran noLines (map lineOf (take j (wholeLines text
     free : (i : ℕ) → AllFree (take i (wholeLines text))
     free i = take-free i (wholeLines text) (whole-free text)
 
+    parted : take k (linesOf text) ≡ take j (linesOf text) ++ take (k - j) (drop j (linesOf text))
+    parted =
+        let e : k ≡ j + (k - j) = omega arith in
+        ap (λ (i : ℕ). take i (linesOf text)) e ∙ take-add j (k - j) (linesOf text)
+
     go : (x : Stepped) → ran noLines (map lineOf (take j (wholeLines text))) ≡ x → Begins (joined (take j (wholeLines text)) [])
     go (stepped.To t) e = begins (take j (wholeLines text)) t (free j) e
     go stepped.Fault e =
-        let c = take-more j k (linesOf text) h in
-        let r = begins-ran (take k (wholeLines text)) (free k) b in
-        faulty
-        (sym (ap (λ (x : Stepped). onTo x (λ (u : State). ran u (c .0))) (ap (ran noLines) (sym (map-take j (wholeLines text))) ∙ e))
-        ∙ sym (ran-both (take j (linesOf text)) (c .0) noLines)
-        ∙ ap (ran noLines) (sym (c .1) ∙ sym (map-take k (wholeLines text)))
-        ∙ r .1)
+        let later : Stepped → Stepped = λ (x : Stepped). onTo x (λ (u : State). ran u (take (k - j) (drop j (linesOf text)))) in
+        absurd
+        (begins-not (take k (wholeLines text)) (free k)
+        (ap (ran noLines) (map-take k (wholeLines text) ∙ parted)
+        ∙ ran-both (take j (linesOf text)) (take (k - j) (drop j (linesOf text))) noLines
+        ∙ ap later (ap (ran noLines) (sym (map-take j (wholeLines text))) ∙ e))
+        b)
 
 none-before : {text : List ℕ} {i j : ℕ} → ToldFirst text i → ToldFirst text j → i < j → ⊥
 none-before {text} {i} {j} a b h = go (a .stops)

@@ -19,10 +19,10 @@ use Rattle.lengths.specs.declared.measure.Measured.the-variants as measure
 use Rattle.tsplib_lines.specs.Line.{Line}
 use Rattle.tsplib_lines.specs.declared.line.Weighing.{Weighing}
 use Rattle.tsplib_lines.specs.declared.line.Weighing.the-variants.{Explicit, Rule}
-use Rattle.tsplib.specs.Language.{Tsplib}
+use Rattle.tsplib.specs.Language.{Tsplib, Outside}
 use Rattle.tsplib.specs.Told.{ToldFirst}
 use Rattle.tsplib.specs.Judging.{judged, linesOf}
-use Rattle.tsplib.specs.Reading.{coordinatesOf, weightsOf, ofMeasured, ofWeights, filledWith, readAs, leftAs, ReadAs, answerFor, leftFor, pointsOf}
+use Rattle.tsplib.specs.Reading.{coordinatesOf, weightsOf, ofMeasured, ofWeights, filledWith, readAs, leftAs, ReadAs, answerFor, leftFor, ReadOf, ReadOutside, pointsOf}
 use Rattle.tsplib.specs.declared.judging.Judged.{Judged}
 use Rattle.tsplib.specs.declared.judging.Judged.the-variants.{Instance, Fault}
 use Rattle.tsplib.specs.declared.reading.Read.{Read}
@@ -32,15 +32,7 @@ use Rattle.tsplib.specs.Gathering.{gathered}
 use Rattle.tsplib.proofs.FirstFault.{told-first}
 use Rattle.tsplib.proofs.TextsExact.{accepted-text, text-accepted, AcceptedAs}
 
--- the text is outside the language
-abbrev pub Outside : List ℕ → Type 0
-Outside text = (n : ℕ) (w : Weighing) (xs : List ℕ) → Tsplib text n w xs → ⊥
-
 -- a text of the language
-pub record ReadOf (n : ℕ) (w : Weighing) (xs table : List ℕ) (answer : Read) (left : List ℕ) : Type 0 where
-  pub answered : answer ≡ answerFor w n xs (length (whole32 table))
-  pub table-left : left ≡ leftFor w n xs table
-
 module _ {text : List ℕ} {n : ℕ} {w : Weighing} {xs : List ℕ} (t : Tsplib text n w xs) where
   read-inside-as : (v : Weighing) (size : ℕ) → AcceptedAs text n v xs → readAs (judged text) (linesOf text) size ≡ answerFor v n xs size
   unfolding readAs answerFor
@@ -65,12 +57,6 @@ module _ {text : List ℕ} {n : ℕ} {w : Weighing} {xs : List ℕ} (t : Tsplib 
   points-inside = ap pointsOf (text-accepted text t .verdict)
 
 -- a text outside it
-pub record ReadOutside (text table : List ℕ) (answer : Read) (left : List ℕ) : Type 0 where
-  pub line : ℕ
-  pub answered : answer ≡ Refused 19 line
-  pub told : ToldFirst text line
-  pub untouched : left ≡ table
-
 module _ (text : List ℕ) (o : Outside text) where
   outside-fault : (j : Judged) → judged text ≡ j → (line : ℕ) × (judged text ≡ Fault line)
   outside-fault (Fault line) e = (line, e)
@@ -136,7 +122,8 @@ answer-number (Instance n Explicit m) ls size = weights-number 19 n (weightsOf l
 -- 19 is no answer to a text of the language
 pub refused-outside : {text table left : List ℕ} {line : ℕ} → ReadAs text table (Refused 19 line) left → Outside text
 refused-outside {table = table} {line = line} r n w xs t =
-    let h : RefusedTo 5 (Refused 19 line) = subst (RefusedTo 5) (sym (read-inside t r .answered)) (inside-number w n xs (length (whole32 table))) in
+    let k = inside-number w n xs (length (whole32 table)) in
+    let h : RefusedTo 5 (Refused 19 line) = subst (RefusedTo 5) (sym (read-inside t r .answered)) k in
     omega (arith, h .1)
 
 -- a refused call leaves the table, whatever its number

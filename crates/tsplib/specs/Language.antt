@@ -105,3 +105,7 @@ pub record Tsplib (text : List ℕ) (n : ℕ) (w : Weighing) (xs : List ℕ) : T
   pub lines : List Line
   pub written : Text lines text
   pub says : Instance lines n w xs
+
+-- the text is outside the language
+abbrev pub Outside : List ℕ → Type 0
+Outside text = (n : ℕ) (w : Weighing) (xs : List ℕ) → Tsplib text n w xs → ⊥

@@ -15,6 +15,7 @@ use Rattle.tsplib_lines.specs.Line.{Line}
 use Rattle.tsplib_lines.specs.declared.line.Weighing.{Weighing}
 use Rattle.tsplib_lines.specs.declared.line.Weighing.the-variants.{Explicit, Rule}
 use Rattle.tsplib.specs.Judging.{judged, linesOf}
+use Rattle.tsplib.specs.Told.{ToldFirst}
 use Rattle.tsplib.specs.Gathering.{gathered}
 use Rattle.tsplib.specs.declared.judging.Judged.{Judged}
 use Rattle.tsplib.specs.declared.judging.Judged.the-variants.{Instance, Fault}
@@ -74,3 +75,15 @@ answerFor Explicit n xs size = ofWeights n xs size
 unfoldable pub leftFor : Weighing → ℕ → List ℕ → List ℕ → List ℕ
 leftFor (Rule r) n xs table = tableAfter n r xs table
 leftFor Explicit n xs table = filledWith (ofWeights n xs (length (whole32 table))) xs table
+
+-- what a reading answers and leaves of a text of the language
+pub record ReadOf (n : ℕ) (w : Weighing) (xs table : List ℕ) (answer : Read) (left : List ℕ) : Type 0 where
+  pub answered : answer ≡ answerFor w n xs (length (whole32 table))
+  pub table-left : left ≡ leftFor w n xs table
+
+-- and of a text outside it: 19 with the line told
+pub record ReadOutside (text table : List ℕ) (answer : Read) (left : List ℕ) : Type 0 where
+  pub line : ℕ
+  pub answered : answer ≡ Refused 19 line
+  pub told : ToldFirst text line
+  pub untouched : left ≡ table
