@@ -1,5 +1,6 @@
--- The three operations answer the same whatever names points and edges have: p and q, x and y, the two edges of an exchange; x and y, u and v of a move; p and q, x and
--- y, z and w, and the centres with their ends, of a crossing. So C's numbers do, which are theirs. Assumes nothing.
+-- The three operations answer the same whatever names points and edges have: p and q, x and y, the two edges of an
+-- exchange; x and y, u and v of a move; p and q, x and y, z and w, and the centres with their ends, of a crossing. So
+-- do the functions for C, whose numbers are of these answers. Assumes nothing.
 use Prim.Native.Nat.{ℕ}
 use mathlib.Core.Path.{_≡_, refl, sym, _∙_, ap, ap₂}
 use mathlib.Core.Bool.{Bool, true, false, not, _&&_}
@@ -40,14 +41,17 @@ and-four a b c d =
 -- an edge in either order of its points
 edge-turned : (n a b : ℕ) → isEdge n a b ≡ isEdge n b a
 unfolding isEdge
-edge-turned n a b = and-swap (isPoint n a) (isPoint n b) (not (eqb a b)) ∙ ap (λ (t : Bool). isPoint n b && (isPoint n a && not t)) (by (eqb b a) refl)
+edge-turned n a b =
+    and-swap (isPoint n a) (isPoint n b) (not (eqb a b))
+    ∙ ap (λ (t : Bool). isPoint n b && (isPoint n a && not t)) (by (eqb b a) refl)
   where
     by : (t : Bool) → eqb b a ≡ t → eqb a b ≡ t
     by true e = eq-eqb a b (sym (eqb-true b a e))
     by false e = ne-eqb a b (λ f. eqb-false b a e (sym f))
 
 -- the same edges tested, the same saving told
-saved-same : (t : Tested) (es fs : List Edge) {y z : ℤ} → ((n : ℕ) → every (isEdge n) es ≡ every (isEdge n) fs) → y ≡ z → savedTested t es y ≡ savedTested t fs z
+saved-same : (t : Tested) (es fs : List Edge) {y z : ℤ} → ((n : ℕ) → every (isEdge n) es ≡ every (isEdge n) fs) → y ≡ z
+    → savedTested t es y ≡ savedTested t fs z
 saved-same (tests.Refused k) es fs h e = refl
 saved-same (tests.Points n) es fs h e = ap₂ (λ (b : Bool) (s : ℤ). unless b (Refused 11 0) (Saving s)) (h n) e
 
@@ -93,27 +97,31 @@ module _ (n : ℕ) (table : List ℕ) where
     pub crossed-edge : crossingSaved n table q p r s x y z w ≡ crossingSaved n table p q r s x y z w
     unfolding crossingSaved every
     crossed-edge =
-        saved-same (testedTable n table) (edge q p ∷ edge r x ∷ edge s w ∷ edge r y ∷ edge s z ∷ []) (edge p q ∷ edge r x ∷ edge s w ∷ edge r y ∷ edge s z ∷ [])
+        saved-same (testedTable n table) (edge q p ∷ edge r x ∷ edge s w ∷ edge r y ∷ edge s z ∷ [])
+        (edge p q ∷ edge r x ∷ edge s w ∷ edge r y ∷ edge s z ∷ [])
         (λ m. ap (λ (t : Bool). t && (isEdge m r x && (isEdge m s w && (isEdge m r y && (isEdge m s z && true))))) (edge-turned m q p))
         (crossing-edge (lengthOf n table) (lengthOf n table) p q r s (length-symmetric n table) (length-symmetric n table) x y z w)
 
     pub crossed-ends-r : crossingSaved n table p q r s y x z w ≡ crossingSaved n table p q r s x y z w
     unfolding crossingSaved every
     crossed-ends-r =
-        saved-same (testedTable n table) (edge p q ∷ edge r y ∷ edge s w ∷ edge r x ∷ edge s z ∷ []) (edge p q ∷ edge r x ∷ edge s w ∷ edge r y ∷ edge s z ∷ [])
+        saved-same (testedTable n table) (edge p q ∷ edge r y ∷ edge s w ∷ edge r x ∷ edge s z ∷ [])
+        (edge p q ∷ edge r x ∷ edge s w ∷ edge r y ∷ edge s z ∷ [])
         (λ m. ap (λ (t : Bool). isEdge m p q && t) (and-three (isEdge m r y) (isEdge m s w) (isEdge m r x) (isEdge m s z && true)))
         (crossing-ends-r (lengthOf n table) (lengthOf n table) p q r s x y z w)
 
     pub crossed-ends-s : crossingSaved n table p q r s x y w z ≡ crossingSaved n table p q r s x y z w
     unfolding crossingSaved every
     crossed-ends-s =
-        saved-same (testedTable n table) (edge p q ∷ edge r x ∷ edge s z ∷ edge r y ∷ edge s w ∷ []) (edge p q ∷ edge r x ∷ edge s w ∷ edge r y ∷ edge s z ∷ [])
+        saved-same (testedTable n table) (edge p q ∷ edge r x ∷ edge s z ∷ edge r y ∷ edge s w ∷ [])
+        (edge p q ∷ edge r x ∷ edge s w ∷ edge r y ∷ edge s z ∷ [])
         (λ m. ap (λ (t : Bool). isEdge m p q && (isEdge m r x && t)) (and-three (isEdge m s z) (isEdge m r y) (isEdge m s w) true))
         (crossing-ends-s (lengthOf n table) (lengthOf n table) p q r s x y z w)
 
     pub crossed-centres : crossingSaved n table p q s r z w x y ≡ crossingSaved n table p q r s x y z w
     unfolding crossingSaved every
     crossed-centres =
-        saved-same (testedTable n table) (edge p q ∷ edge s z ∷ edge r y ∷ edge s w ∷ edge r x ∷ []) (edge p q ∷ edge r x ∷ edge s w ∷ edge r y ∷ edge s z ∷ [])
+        saved-same (testedTable n table) (edge p q ∷ edge s z ∷ edge r y ∷ edge s w ∷ edge r x ∷ [])
+        (edge p q ∷ edge r x ∷ edge s w ∷ edge r y ∷ edge s z ∷ [])
         (λ m. ap (λ (t : Bool). isEdge m p q && t) (and-four (isEdge m s z) (isEdge m r y) (isEdge m s w) (isEdge m r x)))
         (crossing-centres (lengthOf n table) (lengthOf n table) p q r s (length-symmetric n table) (length-symmetric n table) x y z w)
