@@ -1,5 +1,5 @@
--- TSPLIB texts for C: the number of each answer; what it is for a text of the language, and for any other; and what a number says of the text and the table.
--- Assumes nothing.
+-- TSPLIB texts for C: the number of each answer; what it is for a text of the language, and for any other; and what a
+-- number says of the text and the table. Assumes nothing.
 use Prim.Native.Nat.{ℕ, _+_, _*_, _%_, _^_, _≤_}
 use mathlib.Core.Path.{_≡_, refl, sym, _∙_, ap, subst}
 use mathlib.Core.List.{List}
@@ -7,13 +7,13 @@ use native.Mathlib.Omega.{arith}
 use lib.ListN.{length}
 use Rattle.endian.specs.Bytes.{whole32}
 use Rattle.tsplib_lines.specs.declared.line.Weighing.{Weighing}
-use Rattle.tsplib.specs.Language.{Tsplib}
+use Rattle.tsplib.specs.Language.{Tsplib, Outside}
 use Rattle.tsplib.specs.Told.{ToldFirst}
 use Rattle.tsplib.specs.Judging.{judged, linesOf}
 use Rattle.tsplib.specs.Reading.{ReadAs, readAs, answerFor, leftFor}
 use Rattle.tsplib.specs.declared.reading.Read.{Read}
 use Rattle.tsplib.specs.declared.reading.Read.the-variants.{Points, Refused}
-use Rattle.tsplib.proofs.Reader.{Outside, read-inside, read-outside, points-inside, points-outside, RefusedTo, answer-number, refused-outside, refused-left}
+use Rattle.tsplib.proofs.Reader.{read-inside, read-outside, points-inside, points-outside, RefusedTo, answer-number, refused-outside, refused-left}
 use Rattle.revosti.specs.Reading.{readNumber, pointsInC, ReadInC}
 
 pub read-in-c : {text table left : List ℕ} {answer : Read} {r : ℕ} → ReadAs text table answer left → r ≡ readNumber answer → ReadInC text table r left
@@ -44,13 +44,18 @@ points-outside-in-C {text} o = let a = points-outside text o in (a .0, ap readNu
 -- an answer as C sees it, and what it was: the number of points, or a refusal, whose number is its lowest byte
 data Seen (text table left : List ℕ) (r : ℕ) : Type 0 where
   points : (n : ℕ) → r ≡ 65536 * n → ReadAs text table (Points n) left → Seen text table left r
-  refused : (number line : ℕ) → 1 ≤ number → r % 256 ≡ number → ReadAs text table (Refused number line) left → Seen text table left r
+  refused : (number line : ℕ) → 1 ≤ number → r % 256 ≡ number → ReadAs text table (Refused number line) left
+      → Seen text table left r
 
 seen : {text table left : List ℕ} {r : ℕ} → ReadInC text table r left → Seen text table left r
 unfolding readNumber
-seen {text} {table} {left} {r} c = go (readAs (judged text) (linesOf text) (length (whole32 table))) refl (answer-number (judged text) (linesOf text) (length (whole32 table)))
+seen {text} {table} {left} {r} c =
+    let size = length (whole32 table) in
+    go (readAs (judged text) (linesOf text) size) refl (answer-number (judged text) (linesOf text) size)
   where
-    go : (a : Read) → readAs (judged text) (linesOf text) (length (whole32 table)) ≡ a → RefusedTo 19 (readAs (judged text) (linesOf text) (length (whole32 table))) → Seen text table left r
+    go : (a : Read) → readAs (judged text) (linesOf text) (length (whole32 table)) ≡ a
+        → RefusedTo 19 (readAs (judged text) (linesOf text) (length (whole32 table)))
+        → Seen text table left r
     go (Points n) e k = points n (c .answered ∙ ap readNumber e) (record { answered = sym e; table-left = c .table-left })
     go (Refused number line) e k =
         let h : RefusedTo 19 (Refused number line) = subst (RefusedTo 19) e k in
@@ -58,7 +63,8 @@ seen {text} {table} {left} {r} c = go (readAs (judged text) (linesOf text) (leng
         refused number line (h .0) (omega (arith, h .1)) (record { answered = sym e; table-left = c .table-left })
 
 -- no refusal: the number of points is told
-pub read-told : {text table left : List ℕ} {r : ℕ} → ReadInC text table r left → r % 256 ≡ 0 → (n : ℕ) × (r ≡ 65536 * n) × ReadAs text table (Points n) left
+pub read-told : {text table left : List ℕ} {r : ℕ} → ReadInC text table r left → r % 256 ≡ 0
+    → (n : ℕ) × (r ≡ 65536 * n) × ReadAs text table (Points n) left
 read-told {text} {table} {left} {r} c z = go (seen c)
   where
     go : Seen text table left r → (n : ℕ) × (r ≡ 65536 * n) × ReadAs text table (Points n) left

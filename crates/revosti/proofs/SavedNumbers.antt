@@ -1,6 +1,7 @@
 -- "How much is saved" for C: 65,536 times a saving fits, and is the number of the answer. Assumes nothing.
-use Prim.Native.Nat.{ℕ, zero, suc, _*_, _^_, _<_}
+use Prim.Native.Nat.{ℕ, zero, suc, _*_, _^_, _≤_, _<_}
 use mathlib.Core.Path.{_≡_, sym, _∙_, ap, subst}
+use native.Mathlib.Nat.{mul-le-mul-right}
 use native.Mathlib.Omega.{arith}
 use lib.IntN.{ℤ, pos, negsuc, negℤ, _*ℤ_}
 use lib.Signed.{mag}
@@ -17,9 +18,9 @@ neg-small : (r k : ℕ) → r < k → mag (negℤ (pos r)) < k
 neg-small zero k h = omega arith
 neg-small (suc r) k h = omega arith
 
-times-small : (z : ℤ) → mag z < 2 ^ 40 → mag (pos 65536 *ℤ z) < 2 ^ 63
-times-small (pos b) h = omega arith
-times-small (negsuc b) h = neg-small (65536 * suc b) (2 ^ 63) (omega arith)
+times-small : (k : ℕ) (z : ℤ) → k ≤ 65536 → mag z < 2 ^ 40 → mag (pos k *ℤ z) < 2 ^ 63
+times-small k (pos b) l h = omega (arith, mul-le-mul-right b l)
+times-small k (negsuc b) l h = neg-small (k * suc b) (2 ^ 63) (omega (arith, mul-le-mul-right (suc b) l))
 
 module _ {r : Saved} where
   pub saved-refused : {number rec : ℕ} → r ≡ Refused number rec → pos number ≡ savedNumber r
@@ -33,12 +34,10 @@ module _ {r : Saved} where
     read : toZ w64 (ofZ w64 z) ≡ z
     read = kept (omega (arith, small))
 
-    fits : SFits w64 (pos 65536 *ℤ z)
-    fits = record { sfits = times-small z small }
-
-    pub product-fits : SFits w64 (pos 65536 *ℤ toZ w64 (ofZ w64 z))
-    product-fits = subst (λ (y : ℤ). SFits w64 (pos 65536 *ℤ y)) (sym read) fits
+    -- by every factor to 65,536
+    pub product-fits : (k : ℕ) → k ≤ 65536 → SFits w64 (pos k *ℤ toZ w64 (ofZ w64 z))
+    product-fits k l = subst (λ (y : ℤ). SFits w64 (pos k *ℤ y)) (sym read) (record { sfits = times-small k z l small })
 
     pub saved-saving : toZ w64 (ofZ w64 (pos 65536 *ℤ toZ w64 (ofZ w64 z))) ≡ savedNumber r
     unfolding savedNumber
-    saved-saving = toZ-ofZ {w = w64} product-fits ∙ ap (λ (y : ℤ). pos 65536 *ℤ y) read ∙ rw (h, savedNumber)
+    saved-saving = toZ-ofZ {w = w64} (product-fits 65536 (omega arith)) ∙ ap (λ (y : ℤ). pos 65536 *ℤ y) read ∙ rw (h, savedNumber)

@@ -2,6 +2,7 @@
 use mathlib.Core.Path.{_∙_}
 use Rattle.lengths.proofs.SignedSavings.{kept}
 use Rattle.revosti.proofs.SavedNumbers.{saved-refused, product-fits, saved-saving}
+use native.Mathlib.Omega.{arith}
 use borrow.Author.Needs.{needs}
 use Rattle.revosti.proofs.saved.saved_number.Statement.{statement}
 use Rattle.revosti.proofs.saved.saved_number.Tie as tie
@@ -16,7 +17,7 @@ enum-known-saved-2 : tie.Need-enum-known-saved-2
 enum-known-saved-2 c = search needs
 
 mul-result : tie.Need-mul-result
-mul-result c = product-fits (c .before .saved2 .given .1) (c .before .before .before .pre)
+mul-result c = product-fits (c .before .saved2 .given .1) (c .before .before .before .pre) _ (omega arith)
 
 returns : tie.Need-returns
 returns c = kept (c .refused-number .ok) ∙ c .refused-number .ensures ∙ saved-refused (c .before .before .saved .given .1)
