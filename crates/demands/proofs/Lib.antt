@@ -1,8 +1,10 @@
 pub mod Agreement
+pub mod AnotherN
 pub mod AnyLists
 pub mod Asked
 pub mod AskedPacked
 pub mod Changed
+pub mod CheckedTours
 pub mod Demand2
 pub mod Demand2Between
 pub mod Demand2InC
@@ -20,8 +22,10 @@ pub mod Optimal
 pub mod PackedRuns
 pub mod Pages
 pub mod Runs
+pub mod SavingsInC
 pub mod SheetLines
 pub mod Sizes
 pub mod Slips
 pub mod Strikes
+pub mod TextTables
 pub mod Unchanged

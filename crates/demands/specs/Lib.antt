@@ -1,4 +1,5 @@
 pub mod Between
+pub mod CheckedTours
 pub mod Keeping
 pub mod Listed
 pub mod Marked
