@@ -1,8 +1,8 @@
 """What a document says by its code texts, those between backquotes.
 
 A code text is a path (it has a slash, or is a file of the tree's own languages), an option, a name (one word, OWNER::MEMBER too) or a call
-NAME(..). Anything else is a line that somebody types or reads: there the paths, the options, tools/sheet's command and each word that can
-only be a name (marksOf, mark_sheet) count. Blocks of code between fences are left out. Links to files count, too.
+NAME(..). Anything else is a line that somebody types or reads: there the paths, the options, the command of a program that has commands
+and each word that can only be a name (marksOf, mark_sheet) count. Blocks of code between fences are left out. Links to files count, too.
 """
 
 import re
@@ -18,6 +18,7 @@ NAME = re.compile(r"[^\W\d][\w?]*(?:-[\w?]+)*(?:::\w+)?")
 CALL = re.compile(r"(\w+)\(.*\)")
 ONLY_A_NAME = re.compile(r"[a-z][a-z\d]*(?:[A-Z_][A-Za-z\d]+)+")
 BUILT = "target/"
+COMMANDED = ("bin/revosti", "tools/sheet")  # programs whose first word is a command
 
 JOINS = re.compile(r"\**(?:,| and|, and) \**")  # `a`, `b` and `c`
 OPENS = re.compile(r"\**,? \(")                   # `name` (`file`)
@@ -58,8 +59,9 @@ def words(text):
     if call:
         yield "name", call[1]
         return
-    if text.startswith("tools/sheet "):
-        yield "command", text.split()[1]
+    program, _, rest = text.partition(" ")
+    if program in COMMANDED and rest and not OPTION.match(rest):
+        yield "command", rest.split()[0]
     for word in re.split(r"[\s()\[\],;]+", text):
         if OPTION.fullmatch(word):
             yield "option", word

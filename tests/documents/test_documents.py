@@ -3,12 +3,13 @@
 import unittest
 from pathlib import Path
 
-from reading import LINK, beside, blocks, defining, rows, spans, within, words
+from reading import COMMANDED, LINK, beside, blocks, defining, rows, spans, within, words
 from tree import OTHERS, Tree
 
 TOP = Path(__file__).resolve().parents[2]
 TREE = Tree(TOP)
-COMMANDS = TREE.declared[TOP / "tools/sheetlib/command.py"]
+COMMANDS = set().union(*(names for path, names in TREE.declared.items() if TOP / "tools" in path.parents))
+PROGRAM = next(program for program in COMMANDED if (TOP / program).exists())
 WHOLE = ("README.md", "docs/STATEMENTS.md", "docs/DECISIONS.md", "docs/RULES.md", "docs/FORMATS.md")
 HISTORY = ("docs/CHANGES.md", "docs/FIGURES.md")  # of what has been, the names may be gone
 
@@ -115,7 +116,7 @@ class Told(unittest.TestCase):
     def test_what_is_there(self):
         for text in ("`demand-3`", "`place`", "`Sheet::MOST_RECORDS`", "`refusal::PAGE`", "`revosti_mark_of`", "`REVOSTI_OPEN`",
                      "`mark_of`", "`marking`", "`says_18_unseen`", "`marking/says_18_unseen`", "`lengths/specs/Edge.antt`",
-                     "`specs/asks/`", "`bin/mark`", "`target/made.a`", "`tools/sheet mark FILE --high BOARD`", "`marksOf n set`",
+                     "`specs/asks/`", "`bin/mark`", "`target/made.a`", f"`{PROGRAM} mark FILE --high BOARD`", "`marksOf n set`",
                      "`mark_sheet(n, table, marks, sheet)`", "`1 1 3 0 0 2 0 2`", "`points 4 edges 6`", "```\n`no-such`\n```",
                      "`place` (`lengths/specs/Edge.antt`)", "`lengths/specs/Edge.antt`: `tri`, `place`"):
             with self.subTest(text):
@@ -124,8 +125,8 @@ class Told(unittest.TestCase):
     def test_what_is_not(self):
         for text, fault in (("`demand-33`", "no name demand-33"), ("`Sheet::MOST_LINES`", "no name Sheet::MOST_LINES"),
                             ("`revosti_mark_off`", "no name revosti_mark_off"), ("`says_19_unseen`", "no name says_19_unseen"),
-                            ("`-packed`", "no option -packed"), ("`tools/sheet unmark FILE`", "no command unmark"),
-                            ("`tools/sheet mark --low A`", "no option --low"), ("`mark_sheets(n)`", "no name mark_sheets"),
+                            ("`-packed`", "no option -packed"), (f"`{PROGRAM} unmark FILE`", "no command unmark"),
+                            (f"`{PROGRAM} mark --middle A`", "no option --middle"), ("`mark_sheets(n)`", "no name mark_sheets"),
                             ("`packedOf n set`", "no name packedOf"), ("`lengths/specs/Edges.antt`", "no path lengths/specs/Edges.antt"),
                             ("`rules/says_18_unseen`", "no path rules/says_18_unseen"), ("`Edge.antt`", "no path Edge.antt"),
                             ("`bin/mark examples/none.bin`", "no path examples/none.bin"), ("[rules](RULES.md)", "no path RULES.md")):
