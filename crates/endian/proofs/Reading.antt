@@ -75,7 +75,7 @@ pub size32 : (bytes : List ℕ) → 0 < length (whole32 bytes) → length bytes 
 size32 bytes h = whole-of32 bytes h .size
 
 -- an entry's bytes
-bytes-of16 : (bytes : List ℕ) (i : ℕ) → 2 * i + 1 < length bytes → getD (numbers16 bytes) i 0 ≡ getD bytes (2 * i) 0 + 256 * getD bytes (2 * i + 1) 0
+pub bytes-of16 : (bytes : List ℕ) (i : ℕ) → 2 * i + 1 < length bytes → getD (numbers16 bytes) i 0 ≡ getD bytes (2 * i) 0 + 256 * getD bytes (2 * i + 1) 0
 unfolding numbers16
 bytes-of16 [] i h = absurd (omega arith)
 bytes-of16 (a ∷ []) i h = absurd (omega arith)

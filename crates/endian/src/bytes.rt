@@ -60,7 +60,7 @@ pub fn put32(bytes: &mut [u8], at: usize, number: u32)
 }
 
 // The same for 16 bits.
-fn put16(bytes: &mut [u8], at: usize, number: u16)
+pub fn put16(bytes: &mut [u8], at: usize, number: u16)
     requires { ⌜ Entry 2 (now bytes) at ⌝ }
     ensures { λ _. ⌜ Put 2 (now (bytes .entry)) at number (now (bytes .exit)) ⌝ }
 {

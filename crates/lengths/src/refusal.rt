@@ -49,5 +49,9 @@ pub const PAGE: u8 = 26;
 
 pub const PAGE_TEXT: u8 = 27;
 
+pub const DESK: u8 = 28;
+
+pub const DESK_BUSY: u8 = 29;
+
 // The record of a refusal where no record is at fault.
 pub const NO_RECORD: u16 = 0;
