@@ -1,0 +1,5 @@
+pub mod HandInAnswers
+pub mod RoundRobin
+pub mod States
+pub mod TurnAnswers
+pub mod TurnLeaves

@@ -1,0 +1,4 @@
+pub mod asks
+pub mod HandIn
+pub mod State
+pub mod Turn
