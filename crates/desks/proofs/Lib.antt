@@ -1,3 +1,4 @@
+pub mod DeskNumbers
 pub mod HandInAnswers
 pub mod RoundRobin
 pub mod States

@@ -90,3 +90,17 @@ turned-packed p n table s set index owner lines r left some h q =
     let m : marksOf n left ≡ o .marks = ap (λ (x : Outcome (List ℕ)). x .marks) q in
     let e : left ≡ packed (o .marks) = held-packed left some m (from-set p table s index owner lines (held-set n set h)) in
     ap (servedOf r) e ∙ ap (λ (x : Served). servedOf x (packed (o .marks))) (ap (λ (x : Outcome (List ℕ)). x .served) q) ∙ sym (rw h)
+
+-- the desk that a turn serves is the one that the round robin finds
+module _ (state marks : List ℕ) (go : (index owner lines : ℕ) → Outcome (List ℕ)) where
+  pub turned-desk : {d : ℕ} {r : Served} → turnWith state marks go .answer ≡ turned.Desk d r → nextDesk state ≡ next.Desk d
+  unfolding turnWith
+  turned-desk {d} {r} = room (lent state)
+    where
+      room : (b : Bool) → unless b (record { answer = turned.Refused 22; state = state; marks = marks }) (turnOf (nextDesk state) state marks go) .answer ≡ turned.Desk d r → nextDesk state ≡ next.Desk d
+      room true e = by (nextDesk state) refl e
+        where
+          by : (x : Next) → nextDesk state ≡ x → turnOf x state marks go .answer ≡ turned.Desk d r → nextDesk state ≡ next.Desk d
+          by next.NoLine f g = absurd (let z : _≡_ {A = ℕ} 0 1 = cc in omega arith)
+          by (next.Desk k) f g = let i : k ≡ d = cc in f ∙ ap next.Desk i
+      room false e = absurd (let z : _≡_ {A = ℕ} 0 1 = cc in omega arith)

@@ -1,4 +1,5 @@
 pub mod ConvertAnswers
+pub mod DeskAnswers
 pub mod FreshAnswers
 pub mod ListAnswers
 pub mod MarkAnswers

@@ -1,5 +1,5 @@
 -- "Mark a sheet", over one table and over two, and "ask a sheet" for C: the number of a verdict. Assumes nothing.
-use Prim.Native.Nat.{ℕ, _+_, _*_}
+use Prim.Native.Nat.{ℕ, _+_, _*_, _^_, _<_}
 use mathlib.Core.Path.{_≡_, sym, _∙_, ap}
 use mathlib.Core.List.{List}
 use Rattle.argument.specs.Sheet.{Result}
@@ -16,13 +16,13 @@ use Rattle.revosti.specs.asks.Mark.{MarkNumber}
 
 -- the number of a verdict
 module _ {v : Verdict} {lines r : ℕ} where
-  pub accepted-number : v ≡ verdict.Accepted lines → r ≡ 0 + 256 * 0 + 16777216 * lines → MarkNumber v r
+  pub accepted-number : v ≡ verdict.Accepted lines → r ≡ 0 + 256 * 0 + 16777216 * lines → r < 2 ^ 40 → MarkNumber v r
   unfolding resultNumber
-  accepted-number h e = record { number = λ left. rw (resultNumber, h) e }
+  accepted-number h e small = record { number = λ left. rw (resultNumber, h) e; small = small }
 
-  pub refused-number : {number rec : ℕ} → v ≡ verdict.Refused number rec lines → r ≡ number + 256 * rec + 16777216 * lines → MarkNumber v r
+  pub refused-number : {number rec : ℕ} → v ≡ verdict.Refused number rec lines → r ≡ number + 256 * rec + 16777216 * lines → r < 2 ^ 40 → MarkNumber v r
   unfolding resultNumber
-  refused-number h e = record { number = λ left. rw (resultNumber, h) e }
+  refused-number h e small = record { number = λ left. rw (resultNumber, h) e; small = small }
 
 -- what the functions for C return, from what their callees ensure
 module _ (v : Verdict) (left : List ℕ) {x : Result (List ℕ)} (h : resultOf v left ≡ x) where

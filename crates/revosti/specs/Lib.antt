@@ -1,6 +1,7 @@
 pub mod asks
 pub mod Between
 pub mod Converting
+pub mod Desk
 pub mod Fresh
 pub mod Listing
 pub mod Mark
