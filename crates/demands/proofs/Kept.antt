@@ -79,7 +79,7 @@ module _ {n : ℕ} {low high table t : List ℕ} (some : leastPoints ≤ n) (lim
         used c d u (inl s) = rw (s .0, s .1) u
         used c d u (inr s) = has-sym (closedEdges t) b a (rw (s .0, s .1) u)
 
-  guarded : (by : ℕ) → Guarded (markingBetween by n low high) (InTour t) (Kept n t)
+  pub guarded : (by : ℕ) → Guarded (markingBetween by n low high) (InTour t) (Kept n t)
   guarded by =
       record {
         lawful = λ m k. lawful-between n low high m;

@@ -10,7 +10,9 @@ pub mod Demand2Between
 pub mod Demand2InC
 pub mod Demand2Packed
 pub mod Demand3
+pub mod DeskTurns
 pub mod Exists
+pub mod Fair
 pub mod Kept
 pub mod Lawful
 pub mod Listed

@@ -34,8 +34,22 @@ use Rattle.marking.specs.Listing.{listTested, listed, listLeft}
 use Rattle.marking.specs.Mark.{turnedDown, markTested, markBy, packedResult, repack, markPackedBy}
 use Rattle.marking.specs.Tests.{tested, untilPending, ready}
 use Rattle.marking.specs.Tour.{checkTested, tourChecked}
+use Rattle.sheets.specs.declared.verdict.Verdict.the-variants as verdict
+use Rattle.desks.specs.State.{lent, nextIndex, owner, linesAt, nextDesk}
+use Rattle.desks.specs.Turn.{Outcome, servedOf, turnTested, turnMarks, repackOutcome, turnPacked, servedLeft, Turn, turnOf, turnWith, turnOnMarks, turn}
+use Rattle.desks.specs.declared.state.Next.{Next}
+use Rattle.desks.specs.declared.state.Next.the-variants as next
+use Rattle.desks.specs.declared.turn.Served.the-variants.{Ended}
+use Rattle.desks.specs.declared.turn.Turned.the-variants as turned
 use Rattle.marking.specs.declared.tests.Tested.{Tested}
 use Rattle.marking.specs.declared.tests.Tested.the-variants.{Points, Refused}
+
+-- what a turn leaves, with the marks packed
+abbrev packedOutcome : Outcome (List ℕ) → Outcome (List ℕ)
+packedOutcome r = servedOf (r .served) (packed (r .marks))
+
+abbrev pub packedTurn : Turn → Turn
+packedTurn t = record { answer = t .answer; state = t .state; marks = packed (t .marks) }
 
 -- n points have fewer bytes than more points: four edges are at least one byte more
 packed-size-rises : (m n : ℕ) → leastPoints ≤ m → m < n → packedSize m < packedSize n
@@ -184,6 +198,34 @@ module _ {p : ℕ} {bytes : List ℕ} (some : leastPoints ≤ p) (b : ByteSet p 
   pub mark-between-on-packed : (low high s : List ℕ) → markBetweenPacked n low high (packed bytes) s ≡ packedResult (markBetween n low high bytes s)
   unfolding markBetweenPacked markBetween readyBetween
   mark-between-on-packed low high s = marked-alike (testedBetween n low high) (shared-between n low high) low high struckMark s
+
+  -- TURNS (Paper 14), whatever the desks' state is: a desk's own, and then the whole call
+  turned-alike : (table s : List ℕ) (index owner lines : ℕ) → turnPacked n table (packed bytes) s index owner lines ≡ packedOutcome (turnMarks n table bytes s index owner lines)
+  unfolding turnPacked turnMarks ready repacked
+  turned-alike table s index owner lines = on (alike (tested n table) (shared-tested n table) (meet some b n))
+    where
+      on : Alike (tested n table) n bytes → turnPacked n table (packed bytes) s index owner lines ≡ packedOutcome (turnMarks n table bytes s index owner lines)
+      on (refused k f g) =
+          ap (λ (t : Tested). repackOutcome n (packed bytes) (turnTested (untilPending t (marksOf n (packed bytes))) table (marksOf n (packed bytes)) s index owner lines)) f
+          ∙ ap (servedOf (Ended (verdict.Refused k 0 lines))) (repacked-same n (packed bytes))
+          ∙ sym (ap (λ (t : Tested). packedOutcome (turnTested (untilPending t bytes) table bytes s index owner lines)) g)
+      on (held w e) = ap (λ (m : List ℕ). repackOutcome n (packed bytes) (turnTested (untilPending (tested n table m) m) table m s index owner lines)) e ∙ rw w
+
+  pub turn-on-packed : (state table s : List ℕ) → turn state n table (packed bytes) s ≡ packedTurn (turnOnMarks state n table bytes s)
+  unfolding turnWith
+  turn-on-packed state table s = room (lent state)
+    where
+      served : (d : Next) → turnOf d state (packed bytes) (turnPacked n table (packed bytes) s) ≡ packedTurn (turnOf d state bytes (turnMarks n table bytes s))
+      served next.NoLine = refl
+      served (next.Desk d) =
+          ap (λ (r : Outcome (List ℕ)). record { answer = turned.Desk d (r .served); state = servedLeft (r .served) state d; marks = r .marks })
+          (turned-alike table s (nextIndex state d) (owner state d) (linesAt state d))
+
+      room : (r : Bool) →
+          unless r (record { answer = turned.Refused 22; state = state; marks = packed bytes }) (turnOf (nextDesk state) state (packed bytes) (turnPacked n table (packed bytes) s))
+          ≡ packedTurn (unless r (record { answer = turned.Refused 22; state = state; marks = bytes }) (turnOf (nextDesk state) state bytes (turnMarks n table bytes s)))
+      room true = served (nextDesk state)
+      room false = refl
 
   -- CONFIRMING AND WITHDRAWING
   pub settle-on-packed-answer : settledSetAnswer n (packed bytes) ≡ settledAnswer n bytes

@@ -1,5 +1,6 @@
 pub mod Between
 pub mod CheckedTours
+pub mod Desks
 pub mod Keeping
 pub mod Listed
 pub mod Marked
