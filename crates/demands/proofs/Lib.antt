@@ -16,6 +16,7 @@ pub mod Fair
 pub mod Kept
 pub mod Lawful
 pub mod Listed
+pub mod MarkedAlone
 pub mod Measured
 pub mod Monotone
 pub mod OnPacked
