@@ -1,5 +1,6 @@
 """Every name and path that the documents put between backquotes exists, and a name stands in the file that is given for it."""
 
+import re
 import unittest
 from pathlib import Path
 
@@ -103,6 +104,10 @@ class Documents(unittest.TestCase):
         for document in WHOLE:
             with self.subTest(document):
                 self.assertEqual(faults_of(document), [])
+
+    def test_layers_name_every_crate(self):
+        layers = (TOP / "README.md").read_text(encoding="utf-8").partition("## The layers")[2].split("```")[1]
+        self.assertEqual([crate.name for crate in TREE.crates if not re.search(rf"\b{crate.name}\b", layers)], [])
 
     def test_paths_of_history(self):
         for document in HISTORY:
