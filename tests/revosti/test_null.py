@@ -12,28 +12,29 @@ from revosti.library import ARGUMENTS, BUFFER, SAVINGS, library
 from revosti.operations import WORD, lend
 
 POINTER = BUFFER[0]
-TEXT, MARKS, VIEW, SIZE = 19 + 256, 6, 22, 2  # the refusals of an empty buffer, at line 1 of a text
-REFUSED = {"revosti_read_tsplib": TEXT, "revosti_tsplib_points": TEXT, "revosti_fresh_marks": MARKS, "revosti_pack_marks": MARKS,
-           "revosti_unpack_marks": MARKS, "revosti_confirm": MARKS, "revosti_withdraw": MARKS, "revosti_examiner_view": VIEW,
-           "revosti_candidate_view": VIEW}
+FUNCTIONS = {name: arguments for name, arguments in (ARGUMENTS | SAVINGS).items() if POINTER in arguments}
+SIZE, MARKS, TEXT, VIEW = 2, 6, 19 + 256, 22  # how an empty buffer is refused: a table, marks, a text at its line 1, a view
 
 
-def call(name, arguments, number, pointer):
+def call(name, number, pointer):
     """What a function answers to this number everywhere and to buffers of length 0."""
-    slots = [pointer() if kind is POINTER else 0 if kind is ctypes.c_size_t else number for kind in arguments]
+    slots = [pointer() if kind is POINTER else 0 if kind is ctypes.c_size_t else number for kind in FUNCTIONS[name]]
     return getattr(library(), name)(*slots)
 
 
 class Null(unittest.TestCase):
-    def test_every_function(self):
-        buffers = {name: arguments for name, arguments in (ARGUMENTS | SAVINGS).items() if POINTER in arguments}
-        self.assertEqual(len(buffers), 21)
-        for (name, arguments), n in product(buffers.items(), (3, 4, 180)):
+    def test_as_an_empty_buffer(self):
+        for name, n in product(FUNCTIONS, (3, 4, 180)):
             with self.subTest(name, n=n):
-                empty = call(name, arguments, n, lambda: (ctypes.c_uint8 * 0)())
-                self.assertEqual(call(name, arguments, n, lambda: None), empty)
-                refused = REFUSED.get(name, SIZE)
-                self.assertEqual(empty, refused if refused in (TEXT, VIEW) or n > 3 else 1)
+                self.assertEqual(call(name, n, lambda: None), call(name, n, lambda: (ctypes.c_uint8 * 0)()))
+
+    def test_refused(self):
+        for name, number in {"measure": SIZE, "mark_sheet": SIZE, "ask_sheet": SIZE, "list_pairs": SIZE, "check_tour": SIZE,
+                             "mark_between": SIZE, "list_between": SIZE, "write_page": SIZE, "read_page": SIZE, "move_saving": SIZE,
+                             "fresh_marks": MARKS, "pack_marks": MARKS, "unpack_marks": MARKS, "confirm": MARKS, "withdraw": MARKS,
+                             "read_tsplib": TEXT, "tsplib_points": TEXT, "examiner_view": VIEW, "candidate_view": VIEW}.items():
+            with self.subTest(name):
+                self.assertEqual(call("revosti_" + name, 4, lambda: None), number)
 
     def test_a_list_where_no_pair_stands(self):
         table, marks = array(WORD, TABLE), revosti.fresh_marks(N)
