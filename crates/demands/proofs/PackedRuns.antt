@@ -22,8 +22,9 @@ use Rattle.limits.specs.Mark.{markBetween}
 use Rattle.limits.specs.Tests.{readyBetween}
 use Rattle.marking.proofs.PackedSheets.{mark-byte-set, tested-byte-set}
 use Rattle.demands.specs.Keeping.{KeepsTours}
-use Rattle.demands.specs.Run.{Tables, Call, Step, marking, asking, confirming, withdrawing, marking-between, stepped, stepsOf, steppedPacked, stepsPacked, steppedInC, stepsInC, lengthsIn, freshIn}
-use Rattle.demands.proofs.OnPacked.{mark-on-packed, mark-between-on-packed, settle-on-packed}
+use Rattle.demands.specs.Run.{Tables, Call, Step, marking, asking, confirming, withdrawing, marking-between, turning, stepped, stepsOf, steppedPacked, stepsPacked, steppedInC, stepsInC, lengthsIn, freshIn}
+use Rattle.demands.proofs.DeskTurns.{turn-stays}
+use Rattle.demands.proofs.OnPacked.{mark-on-packed, mark-between-on-packed, settle-on-packed, turn-on-packed}
 use Rattle.demands.proofs.Runs.{run-open}
 use Rattle.demands.proofs.Sizes.{in-limits}
 
@@ -36,6 +37,7 @@ module _ {p : ℕ} (some : leastPoints ≤ p) (T : Tables) where
   step-stays (confirming n) m b = settled-byte-set struckMark (omega arith) b (settledAnswer n m)
   step-stays (withdrawing n) m b = settled-byte-set openMark (omega arith) b (settledAnswer n m)
   step-stays (marking-between call) m b = tested-byte-set struckMark (T .low) (T .high) (call .sheet) (omega arith) b (readyBetween (call .n) (T .low) (T .high) m)
+  step-stays (turning state call) m b = turn-stays state (call .n) (T .own) (call .sheet) m b
 
   -- and on the packed set it leaves their packed set
   step-on-packed : (step : Step) (m : List ℕ) → ByteSet p m → steppedPacked T step (packed m) ≡ packed (stepped T step m)
@@ -44,6 +46,7 @@ module _ {p : ℕ} (some : leastPoints ≤ p) (T : Tables) where
   step-on-packed (confirming n) m b = settle-on-packed some b n struckMark
   step-on-packed (withdrawing n) m b = settle-on-packed some b n openMark
   step-on-packed (marking-between call) m b = ap (λ r. r .marks) (mark-between-on-packed some b (call .n) (T .low) (T .high) (call .sheet))
+  step-on-packed (turning state call) m b = ap (λ r. r .marks) (turn-on-packed some b (call .n) state (T .own) (call .sheet))
 
   -- A RUN over packed sets leaves the packed set of what the run over the marks leaves
   pub run-on-packed : (steps : List Step) (m : List ℕ) → ByteSet p m → stepsPacked T steps (packed m) ≡ packed (stepsOf T steps m)
@@ -65,6 +68,7 @@ decoded (asking call) = asking (decodedCall call)
 decoded (confirming n) = confirming n
 decoded (withdrawing n) = withdrawing n
 decoded (marking-between call) = marking-between (decodedCall call)
+decoded (turning state call) = turning state (decodedCall call)
 
 step-decoded : (T : Tables) (step : Step) (set : List ℕ) → steppedInC T step set ≡ steppedPacked (lengthsIn T) (decoded step) set
 step-decoded T (marking call) set = refl
@@ -72,6 +76,7 @@ step-decoded T (asking call) set = refl
 step-decoded T (confirming n) set = refl
 step-decoded T (withdrawing n) set = refl
 step-decoded T (marking-between call) set = refl
+step-decoded T (turning state call) set = refl
 
 steps-decoded : (T : Tables) (steps : List Step) (set : List ℕ) → stepsInC T steps set ≡ stepsPacked (lengthsIn T) (map decoded steps) set
 unfolding run

@@ -1,4 +1,4 @@
--- THE RUN: no list of steps (marking, asking, confirming, withdrawing, marking over low and high) from fresh marks leaves an edge of a 3-optimal tour struck or
+-- THE RUN: no list of steps (marking, asking, confirming, withdrawing, marking over low and high, turns of desks) from fresh marks leaves an edge of a 3-optimal tour struck or
 -- pending, under any table that its marks serve. Here of the marks of the edges; `PackedRuns` says it of packed sets and of the functions for C. Assumes nothing.
 use Prim.Native.Nat.{ℕ, _≤_}
 use mathlib.Core.Path.{_≡_, refl, sym, _∙_, ap, subst}
@@ -29,7 +29,8 @@ use Rattle.marking.specs.Tests.{ready}
 use Rattle.marking.specs.declared.tests.Tested.{Tested}
 use Rattle.marking.specs.declared.tests.Tested.the-variants.{Points, Refused}
 use Rattle.demands.specs.Keeping.{Ordered, Serves, KeepsTours}
-use Rattle.demands.specs.Run.{Tables, Call, Step, marking, asking, confirming, withdrawing, marking-between, stepped, stepsOf, freshFrom}
+use Rattle.demands.specs.Run.{Tables, Call, Step, marking, asking, confirming, withdrawing, marking-between, turning, stepped, stepsOf, freshFrom}
+use Rattle.demands.proofs.DeskTurns.{turn-kept}
 use Rattle.demands.proofs.Kept.{Kept, fresh-kept, tested-kept}
 use Rattle.demands.proofs.Monotone.{LengthsBetween, lengths-between, lengths-same}
 use Rattle.demands.proofs.Sizes.{edge-count-injective, in-limits}
@@ -88,6 +89,7 @@ module _ {n : ℕ} (T : Tables) (some : leastPoints ≤ n) (low-whole : length (
   step-kept (withdrawing m) marks kept = settle-kept openMark marks kept (settledAnswer m marks)
   step-kept (marking-between call) marks kept =
       call-kept struckMark (T .low) (T .high) (call .sheet) marks kept (readyBetween (call .n) (T .low) (T .high) marks) (between-passed (call .n) marks)
+  step-kept (turning state call) marks kept = turn-kept some best state (call .n) (T .own) (call .sheet) marks kept (own-passed (call .n) marks)
 
   run-kept : (steps : List Step) → Kept n t (stepsOf T steps (freshMarks n))
   run-kept steps = run-keeps (Kept n t) (stepped T) step-kept steps (freshMarks n) (fresh-kept some (lengths-same {table = table}) best)
@@ -99,8 +101,8 @@ module _ {n : ℕ} (T : Tables) (some : leastPoints ≤ n) (low-whole : length (
 -- accepted line has a closed argument for its edge ab. If the tour used ab, its own two neighbours of each split point would be a feasible pair under the table, and
 -- so over low and high (`feasible-over`): the argument would have a case for them, and a further split or a 3-opt closing that settles it; going down, some 3-opt
 -- closing would settle a set of edges that the tour uses, over low and high and so under the table (`closes-under`), and one of its two moves would shorten the
--- tour. So ab is no edge of the tour, and another mark for ab leaves the tour's edges open. Confirming and withdrawing change pending marks alone, and no edge
--- of the tour has one.
+-- tour. So ab is no edge of the tour, and another mark for ab leaves the tour's edges open. A turn marks one such line at most. Confirming and withdrawing change
+-- pending marks alone, and no edge of the tour has one.
 pub run-open : (n : ℕ) → leastPoints ≤ n → (T : Tables) → length (T .low) ≡ edgeCount n → (steps : List Step) → KeepsTours ThreeOptimal n T (stepsOf T steps (freshMarks n))
 unfolding openUpTo
 run-open n some T low-whole steps table served t best a b u = open-mark _ (place n a b) (run-kept T some low-whole served best steps .all-open a b u)

@@ -1,4 +1,4 @@
--- Runs (01, "What the contracts and the table of examples carry"; 02, Papers 3 and 11): a whole list of calls from the marks that *fresh marks* left, each handed the
+-- Runs (01, "What the contracts and the table of examples carry"; 02, Papers 3, 11 and 14): a whole list of calls from the marks that *fresh marks* left, each handed the
 -- same tables and the marks as the call before left them. Calls may differ in their sheets and in the n they state.
 use Prim.Native.Nat.{ℕ}
 use mathlib.Core.List.{List, []}
@@ -9,7 +9,9 @@ use Rattle.marks.specs.Fresh.{freshAnswer, freshLeft, freshSetAnswer, freshSetL
 use Rattle.marks.specs.Mark.{struckMark, openMark, pendingMark}
 use Rattle.marks.specs.Pending.{settledAnswer, settledLeft, settledSet}
 use Rattle.revosti.specs.Between.{markBetweenInC}
+use Rattle.revosti.specs.Desk.{turnInC}
 use Rattle.revosti.specs.Mark.{markInC}
+use Rattle.desks.specs.Turn.{turnOnMarks, turn}
 use Rattle.limits.specs.Mark.{markBetween, markBetweenPacked}
 use Rattle.marking.specs.Mark.{markSheet, askSheet, markPacked, askPacked}
 
@@ -32,13 +34,14 @@ pub record Call : Type 0 where
   pub n : ℕ
   pub sheet : List ℕ
 
--- "any run of asking, confirming, withdrawing and direct marking", and of marking over low and high
+-- "any run of asking, confirming, withdrawing and direct marking", of marking over low and high, and of turns of desks whose state is any bytes (02, Paper 14)
 pub data Step : Type 0 where
   marking : Call → Step
   asking : Call → Step
   confirming : (n : ℕ) → Step
   withdrawing : (n : ℕ) → Step
   marking-between : Call → Step
+  turning : (state : List ℕ) → Call → Step
 
 -- the marks after a step, whether it took all its lines, stopped among them or was refused before the first
 abbrev pub stepped : Tables → Step → List ℕ → List ℕ
@@ -47,6 +50,7 @@ stepped T (asking call) m = askSheet (call .n) (T .own) m (call .sheet) .marks
 stepped T (confirming n) m = settledLeft (settledAnswer n m) struckMark m
 stepped T (withdrawing n) m = settledLeft (settledAnswer n m) openMark m
 stepped T (marking-between call) m = markBetween (call .n) (T .low) (T .high) m (call .sheet) .marks
+stepped T (turning state call) m = turnOnMarks state (call .n) (T .own) m (call .sheet) .marks
 
 -- the marks after a list of steps
 abbrev pub stepsOf : Tables → List Step → List ℕ → List ℕ
@@ -59,6 +63,7 @@ steppedPacked T (asking call) set = askPacked (call .n) (T .own) set (call .shee
 steppedPacked T (confirming n) set = settledSet struckMark n set
 steppedPacked T (withdrawing n) set = settledSet openMark n set
 steppedPacked T (marking-between call) set = markBetweenPacked (call .n) (T .low) (T .high) set (call .sheet) .marks
+steppedPacked T (turning state call) set = turn state (call .n) (T .own) set (call .sheet) .marks
 
 abbrev pub stepsPacked : Tables → List Step → List ℕ → List ℕ
 stepsPacked T = run (steppedPacked T)
@@ -70,6 +75,7 @@ steppedInC T (asking call) set = markInC pendingMark (call .n) (T .own) set (cal
 steppedInC T (confirming n) set = settledSet struckMark n set
 steppedInC T (withdrawing n) set = settledSet openMark n set
 steppedInC T (marking-between call) set = markBetweenInC (call .n) (T .low) (T .high) set (call .sheet) .marks
+steppedInC T (turning state call) set = turnInC state (call .n) (T .own) set (call .sheet) .marks
 
 abbrev pub stepsInC : Tables → List Step → List ℕ → List ℕ
 stepsInC T = run (steppedInC T)
