@@ -1,3 +1,4 @@
+pub mod DeskExamples
 pub mod DeskNumbers
 pub mod HandInAnswers
 pub mod RoundRobin

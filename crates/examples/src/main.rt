@@ -3,6 +3,7 @@
 mod between;
 mod c;
 mod converting;
+mod desks;
 mod fresh;
 mod measure;
 mod pages;
@@ -30,5 +31,6 @@ fn main() {
     let t = between::run(t);
     let t = texts::run(t);
     let t = pages::run(t);
+    let t = desks::run(t);
     t.print();
 }
