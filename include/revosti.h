@@ -2,7 +2,7 @@
  * Revosti for C: measure a board or read one from a TSPLIB text, make fresh marks, mark a strike sheet, ask one and confirm or withdraw it,
  * list standing pairs, check a tour; mark and list where lengths are known within limits only; tell how much an exchange, a move or a
  * crossing saves; convert sets of marks; show a marked sheet's slip to examiner and candidate; write the wall list of edges page by page,
- * and read it again.
+ * and read it again; mark the sheets of eight desks in turns, one line a turn.
  *
  * Link with librevosti.a (`rt staticlib revosti` writes target/staticlib/librevosti.a).
  *
@@ -21,10 +21,12 @@
  *   view         REVOSTI_VIEW_BYTES bytes, what the examiner or the candidate sees of a slip. It may be longer: bytes past them stay.
  *   text         a TSPLIB text, lent whole. Any bytes of any length: no 0 need stand behind it, and one in it is a byte like others.
  *                Or a page of the wall list, REVOSTI_LINE_BYTES bytes a line. One that is written may be lent more: bytes past it stay.
+ *   desks        REVOSTI_DESKS_BYTES bytes, the state of all eight desks; what is in them is the functions' own matter, and any bytes are a
+ *                state. It may be longer: bytes past them stay.
  *
  * All functions accept any buffers of any lengths and any numbers: faulty input gets a refusal number, the first that applies in the
- * order given at each function. A length that is no whole number of entries is a wrong size there, for all buffers but list, view and
- * text. A refused call changes nothing, but for a sheet that stops at a record. They touch no byte outside the lengths given, allocate
+ * order given at each function. A length that is no whole number of entries is a wrong size there, for all buffers but list, view, text
+ * and desks. A refused call changes nothing, but for a sheet that stops at a record. They touch no byte outside the lengths given, allocate
  * nothing, keep no state and always return. They use some 160 KB of stack, revosti_mark_between some 290 KB. A buffer that is written
  * overlaps no other while the call runs; buffers that are only read may overlap, and low and high may be the same. A buffer of length 0
  * may be NULL: of it no byte is read or written.
@@ -75,6 +77,8 @@ enum {
     REVOSTI_VIEW_BYTES = 6,
     REVOSTI_PAGE_LINES = 60, /* lines on a page, but for the last, which has what is left */
     REVOSTI_LINE_BYTES = 25, /* 24 columns and a newline */
+    REVOSTI_DESKS = 8,
+    REVOSTI_DESKS_BYTES = 50, /* the state of all desks */
     REVOSTI_STOPPED = 255, /* the first byte that the candidate sees of a sheet that stopped, until release */
 
     REVOSTI_EUC_2D = 1,   /* rule 1: the nearest whole number */
@@ -117,10 +121,12 @@ enum {
     REVOSTI_TEXT = 19,           /* not a TSPLIB text as they are read here; names the line */
     REVOSTI_SOMETHING_PENDING = 20, /* marking or asking while an edge is pending */
     REVOSTI_NOTHING_PENDING = 21,   /* confirming or withdrawing while none is */
-    REVOSTI_BUFFER = 22,            /* a view is lent fewer than six bytes, a page fewer than its text has */
+    REVOSTI_BUFFER = 22,            /* a view is lent fewer than six bytes, a page fewer than its text has, the desks fewer than 50 */
     REVOSTI_LIMITS = 25,            /* a low length above its high one */
     REVOSTI_PAGE = 26,              /* page number 0 or past the last */
-    REVOSTI_PAGE_TEXT = 27          /* a text that is not such a page; names its first wrong, missing or surplus line */
+    REVOSTI_PAGE_TEXT = 27,         /* a text that is not such a page; names its first wrong, missing or surplus line */
+    REVOSTI_NO_DESK = 28,           /* a desk outside 1 to 8 */
+    REVOSTI_DESK_BUSY = 29          /* handing in at a desk whose sheet still has a line */
 };
 
 /*
@@ -336,9 +342,48 @@ uint64_t revosti_read_page(uint32_t n, uint32_t page, const uint8_t *text, size_
                            uint8_t *marks, size_t marks_len);
 
 /*
+ * Eight desks, 1 to REVOSTI_DESKS: candidates hand in sheets over one table, each with marks of their own, and each turn marks one line.
+ *
+ *   open      revosti_open_desks: no desk has a line left, and none was served.
+ *   hand in   revosti_hand_in tests a sheet as marking does; its first line waits. While a desk has a line left, it takes no other (29).
+ *   next      revosti_next_desk tells the desk that the next turn serves, so whose table, marks and sheet to lend: the next after the last
+ *             served, counting upward and round again, that has a line left.
+ *   turn      revosti_turn marks one line of that desk and tells its verdict so far. A desk with a line left is served within eight turns.
+ *   end       a desk with no line left has the answer and the marks of revosti_mark_sheet, whatever others did, and may hand in again.
+ *
+ * The last two hold if only these functions alter the desks' state, and nothing but turns alters the desk's n, table, marks or sheet.
+ */
+
+/* Opens the desks: the first 50 bytes become 0. Refusal: 22, fewer are lent. Answer: the refusal number, or 0. */
+uint64_t revosti_open_desks(uint8_t *desks, size_t desks_len);
+
+/*
+ * Hands in a sheet at a desk. Refusals in this order: 22; 28; 29; then those of revosti_mark_sheet before its lines, 1, 2, 5, 6, 20, 7.
+ * Answer: the refusal number, or 0. It changes the desk's part of the state alone, and a refused call nothing. The table, the marks and the
+ * sheet are not kept: a turn is lent them again.
+ */
+uint64_t revosti_hand_in(uint8_t *desks, size_t desks_len, uint32_t desk, uint32_t n, const uint8_t *table, size_t table_len,
+                         const uint8_t *marks, size_t marks_len, const uint8_t *sheet, size_t sheet_len);
+
+/* The desk that the next turn serves. Refusal: 22. Answer: 22, or 65,536 * the desk, 0 where no desk has a line left. It changes nothing. */
+uint64_t revosti_next_desk(const uint8_t *desks, size_t desks_len);
+
+/*
+ * One turn: marks one line of the desk that revosti_next_desk tells, whose table, marks and sheet are lent. Answer: 22; 0 where no desk has
+ * a line left, and nothing changes; else the answer of revosti_mark_sheet so far, plus 2^48 * the desk, plus 2^56 if it has a line left.
+ * While one is left, refusal and record are 0. Each of these ends the desk's sheet: one of the tests 1, 2, 5, 6, 20, 7, which are repeated
+ * (record 0, and no mark changes); a refusal of the line; and, in the turn of the line that has it, a next index refused by 8 or 9, or 0.
+ * The desk counts as served whatever comes of it. It changes the desk's part of the state and the marks lent, and nothing of other desks.
+ * The answer is a slip, not released.
+ */
+uint64_t revosti_turn(uint8_t *desks, size_t desks_len, uint32_t n, const uint8_t *table, size_t table_len, uint8_t *marks, size_t marks_len,
+                      const uint8_t *sheet, size_t sheet_len);
+
+/*
  * The parts of an answer, and of a slip. revosti_points is that of a TSPLIB text which is read, revosti_text_line the line of a refusal 19
  * (of any other refusal of such a text it is 0). revosti_refusal takes that of a saving, too: made a uint64_t it keeps its lowest byte,
  * which is 0 where the saving is below 0. revosti_saving is exact, since such an answer is a multiple of 65,536; of a refusal it is 0.
+ * revosti_next is that of revosti_next_desk; revosti_desk and revosti_line_left, with the first three, those of revosti_turn.
  */
 static inline unsigned revosti_refusal(uint64_t answer) { return (unsigned)(answer & 0xff); }
 static inline unsigned revosti_record(uint64_t answer) { return (unsigned)(answer >> 8 & 0xffff); }
@@ -351,6 +396,9 @@ static inline uint32_t revosti_points(uint64_t answer) { return (uint32_t)(answe
 static inline uint64_t revosti_text_line(uint64_t answer) { return answer >> 8; }
 static inline size_t revosti_page_bytes(uint64_t answer) { return (size_t)(answer >> 16); }
 static inline unsigned revosti_wrong_line(uint64_t answer) { return (unsigned)(answer >> 8 & 0xff); }
+static inline unsigned revosti_next(uint64_t answer) { return (unsigned)(answer >> 16); }
+static inline unsigned revosti_desk(uint64_t answer) { return (unsigned)(answer >> 48 & 0xff); }
+static inline int revosti_line_left(uint64_t answer) { return (int)(answer >> 56 & 1); }
 static inline int64_t revosti_saving(int64_t answer) { return answer / 65536; }
 
 /* How many edges n points have, and the place of the edge a-b (a and b different, in either order). */

@@ -1,22 +1,20 @@
--- SERVED WITHIN EIGHT AND OTHERS UNTOUCHED (02, Paper 14), of the functions for C: "A desk with a line left is served within eight turns, whatever others hand
--- in". Assumes nothing.
-use Prim.Native.Nat.{ℕ, zero, suc, _+_, _-_, _*_, _≤_, _<_}
+-- SERVED WITHIN EIGHT AND OTHERS UNTOUCHED (02, Paper 14), of the functions for C: "A desk with a line left is served
+-- within eight turns, whatever others hand in". Assumes nothing.
+use Prim.Native.Nat.{ℕ, zero, suc, _-_, _≤_, _<_}
 use mathlib.Core.Path.{_≡_, refl, sym, _∙_, ap, subst}
-use mathlib.Core.Bool.{Bool, true, false, not, true≢false}
-use mathlib.Core.Logic.{_⊎_, inl}
+use mathlib.Core.Bool.{true, false, not, true≢false}
+use mathlib.Core.Logic.{inl}
 use mathlib.Core.List.{List, [], _∷_}
-use native.Mathlib.Decide.{ℕ-discrete}
+use native.Mathlib.Decide.{decLe, ℕ-discrete}
 use native.Mathlib.Omega.{arith}
-use lib.Dec.{leb}
-use lib.ListN.{length, getD}
+use lib.ListN.{length}
 use borrow.Author.Tests.{leb-true, not-true}
-use Rattle.lists.specs.Test.{unless}
 use Rattle.lists.proofs.Tests.{answered}
 use Rattle.endian.specs.Bytes.{whole16, whole32}
 use Rattle.marks.specs.Packed.{marksOf}
 use Rattle.desks.specs.HandIn.{isDesk, testedSheet, handInAnswer, handInBy, handInLeft}
-use Rattle.desks.specs.State.{deskCount, stateBytes, lent, numberAt, lastServed, setDesk, hasLine, following, nextDesk}
-use Rattle.desks.specs.Turn.{Outcome, turnPacked, servedLeft, Turn, turnOf, turnWith, turn}
+use Rattle.desks.specs.State.{deskCount, stateBytes, lent, lastServed, setDesk, hasLine, following, nextDesk}
+use Rattle.desks.specs.Turn.{Outcome, turnPacked, servedLeft, Turn, turnOf, turnWith}
 use Rattle.desks.specs.asks.State.{DeskAsked}
 use Rattle.desks.specs.declared.handing.Handed.{Handed}
 use Rattle.desks.specs.declared.handing.Handed.the-variants as handed
@@ -35,7 +33,8 @@ pub found-asked : {state : List ℕ} {d : ℕ} → stateBytes ≤ length state �
 found-asked {state} room e = let f = next-found state e in record { room = room; low = f .low; high = f .high }
 
 -- what a turn comes to where it serves a desk
-pub turn-of : (state : List ℕ) → stateBytes ≤ length state → {x : Next} → nextDesk state ≡ x → (marks : List ℕ) (go : (index owner lines : ℕ) → Outcome (List ℕ))
+pub turn-of : (state : List ℕ) → stateBytes ≤ length state → {x : Next} → nextDesk state ≡ x →
+    (marks : List ℕ) (go : (index owner lines : ℕ) → Outcome (List ℕ))
     → turnWith state marks go ≡ turnOf x state marks go
 unfolding turnWith
 turn-of state room e marks go = rw (long state room) (ap (λ (x : Next). turnOf x state marks go) e)
@@ -46,10 +45,12 @@ module _ (state : List ℕ) (room : stateBytes ≤ length state) (b : Buffers) w
 
   -- the state behind it
   pub state-served : {d : ℕ} → nextDesk state ≡ next.Desk d → (r : Served) × (stateAfter (turning b) state ≡ servedLeft r state d)
-  state-served {d} e = let t : Turn = turnOf (next.Desk d) state (b .set) go in (_, ap (λ (x : Turn). x .state) (turn-of state room e (b .set) go))
+  state-served {d} e =
+      (_, ap (λ (x : Turn). x .state) (turn-of state room e (b .set) go))
 
-  -- OTHERS UNTOUCHED: a turn that serves the desk d changes no byte of the state but the first two, the last desk served, and the six of d's own numbers; and with no
-  -- line left it changes none. Of marks it is lent those of one desk.
+  -- OTHERS UNTOUCHED: a turn that serves the desk d changes no byte of the state but the first two, the last desk
+  -- served, and the six of d's own numbers; and with no line left it changes none. Of marks it is lent those of one
+  -- desk.
   pub turn-others-untouched : {d : ℕ} → nextDesk state ≡ next.Desk d → OnlyDesk d 2 state (stateAfter (turning b) state)
   turn-others-untouched {d} e =
       let s = state-served e in
@@ -66,7 +67,8 @@ unfolding turnWith
 turn-of-short state h marks go = rw (short state h)
 
 pub turn-short-untouched : (state : List ℕ) → length state < stateBytes → (b : Buffers) → stateAfter (turning b) state ≡ state
-turn-short-untouched state h b = ap (λ (x : Turn). x .state) (turn-of-short state h (b .set) (turnPacked (b .n) (whole32 (b .table)) (b .set) (whole16 (b .sheet))))
+turn-short-untouched state h b = ap (λ (x : Turn). x .state)
+    (turn-of-short state h (b .set) (turnPacked (b .n) (whole32 (b .table)) (b .set) (whole16 (b .sheet))))
 
 -- handing in
 
@@ -79,13 +81,18 @@ pub record HandedOver (state : List ℕ) (d n : ℕ) (table marks s : List ℕ) 
   pub free : hasLine state d ≡ false
   pub passed : testedSheet n table marks s ≡ handed.Done
 
-pub handed-over : (state : List ℕ) (d n : ℕ) (table marks s : List ℕ) → handInAnswer state d n table marks s ≡ handed.Done → HandedOver state d n table marks s
+pub handed-over : (state : List ℕ) (d n : ℕ) (table marks s : List ℕ) → handInAnswer state d n table marks s ≡ handed.Done →
+    HandedOver state d n table marks s
 unfolding handInAnswer
 handed-over state d n table marks s h =
     let p1 = answered (lent state) _ _ handed.Done not-done h in
     let p2 = answered (isDesk d) _ _ handed.Done not-done (p1 .1) in
     let p3 = answered (not (hasLine state d)) _ _ handed.Done not-done (p2 .1) in
-    record { asked = desk-asked state d (leb-true stateBytes (length state) (p1 .0)) (p2 .0); free = not-true (hasLine state d) (p3 .0); passed = p3 .1 }
+    record {
+      asked = desk-asked state d (leb-true stateBytes (length state) (p1 .0)) (p2 .0);
+      free = not-true (hasLine state d) (p3 .0);
+      passed = p3 .1;
+    }
 
 -- the state behind one: the three numbers of the desk, which was free, or nothing
 pub data HandsIn (state : List ℕ) (d : ℕ) : List ℕ → Type 0 where
@@ -96,9 +103,11 @@ pub hands-in : (state : List ℕ) (d : ℕ) (b : Buffers) → HandsIn state d (h
 unfolding handInLeft
 hands-in state d b = by (handInAnswer state d (b .n) (whole32 (b .table)) (marksOf (b .n) (b .set)) (whole16 (b .sheet))) refl
   where
-    by : (r : Handed) → handInAnswer state d (b .n) (whole32 (b .table)) (marksOf (b .n) (b .set)) (whole16 (b .sheet)) ≡ r → HandsIn state d (handInBy r state d)
+    by : (r : Handed) → handInAnswer state d (b .n) (whole32 (b .table)) (marksOf (b .n) (b .set)) (whole16 (b .sheet)) ≡ r →
+        HandsIn state d (handInBy r state d)
     by (handed.Refused k) e = refused
-    by handed.Done e = let h = handed-over state d (b .n) (whole32 (b .table)) (marksOf (b .n) (b .set)) (whole16 (b .sheet)) e in taken (h .asked) (h .free)
+    by handed.Done e = let h = handed-over state d (b .n) (whole32 (b .table)) (marksOf (b .n) (b .set)) (whole16 (b .sheet)) e in taken
+        (h .asked) (h .free)
 
 -- OTHERS UNTOUCHED: handing in at the desk d changes no byte of the state but the six of d's own numbers
 pub hand-in-others-untouched : (state : List ℕ) (d : ℕ) (b : Buffers) → OnlyDesk d 0 state (handedIn state d b)
@@ -130,23 +139,36 @@ module _ {d : ℕ} {state : List ℕ} (w : Waits d state) where
       by refused = (w, refl)
       by (taken a free) =
           let other : d ≡ e → ⊥ = λ z. true≢false (sym (w .left) ∙ ap (hasLine state) z ∙ free) in (
-            record { room = omega (arith, desk-length a 1 0 0, w .room); low = w .low; high = w .high; left = line-other a 1 0 0 (w .low) other ∙ w .left },
+            record {
+              room = omega (arith, desk-length a 1 0 0, w .room);
+              low = w .low;
+              high = w .high;
+              left = line-other a 1 0 0 (w .low) other ∙ w .left;
+            },
             ap (λ (k : ℕ). distance (following k) d) (desk-other a 1 0 0 0 (inl (omega (arith, a .low)))),
           )
 
   -- a turn of another desk keeps the line, and brings d nearer
-  pub waits-other : {e : ℕ} (b : Buffers) → nextDesk state ≡ next.Desk e → (e ≡ d → ⊥) → Waits d (stateAfter (turning b) state) × (suc (ahead d (stateAfter (turning b) state)) ≡ distance e d)
+  pub waits-other : {e : ℕ} (b : Buffers) → nextDesk state ≡ next.Desk e → (e ≡ d → ⊥) →
+      Waits d (stateAfter (turning b) state) × (suc (ahead d (stateAfter (turning b) state)) ≡ distance e d)
   waits-other {e} b g other =
       let a = found-asked (w .room) g in
       let s = state-served state (w .room) b g in
       let stays : Waits d (servedLeft (s .0) state e)
-      = record { room = omega (arith, served-length a (s .0), w .room); low = w .low; high = w .high; left = served-line a (s .0) (w .low) (λ z. other (sym z)) ∙ w .left } in
+      = record {
+        room = omega (arith, served-length a (s .0), w .room);
+        low = w .low;
+        high = w .high;
+        left = served-line a (s .0) (w .low) (λ z. other (sym z)) ∙ w .left;
+      } in
       let nearer : suc (ahead d (servedLeft (s .0) state e)) ≡ distance e d
-      = ap (λ (k : ℕ). suc (distance (following k) d)) (served-last a (s .0)) ∙ distance-falls e d (a .low) (a .high) (w .low) (w .high) other in
+      = ap (λ (k : ℕ). suc (distance (following k) d)) (served-last a (s .0))
+      ∙ distance-falls e d (a .low) (a .high) (w .low) (w .high) other in
       subst (λ (x : List ℕ). Waits d x × (suc (ahead d x) ≡ distance e d)) (sym (s .1)) (stays, nearer)
 
 -- SERVED: within as many turns as d lies ahead of the last served, and one
-served-ahead : {d : ℕ} (k : ℕ) {state : List ℕ} → Waits d state → ahead d state < k → (calls : List DeskCall) → k ≤ turnsIn calls → ServedIn d k state calls
+served-ahead : {d : ℕ} (k : ℕ) {state : List ℕ} → Waits d state → ahead d state < k → (calls : List DeskCall) → k ≤ turnsIn calls →
+    ServedIn d k state calls
 unfolding turnsIn
 served-ahead k w h [] l = absurd (omega arith)
 served-ahead k w h (handing e b ∷ calls) l = let s = waits-handed w e b in meanwhile (served-ahead k (s .0) (omega (arith, s .1)) calls l)
@@ -158,12 +180,40 @@ served-ahead {d} (suc k) {state} w h (turning b ∷ calls) l =
       | no z ↦ let s = waits-other w b (n .1) z in later (served-ahead k (s .0) (omega (arith, s .1, n .2)) calls (omega arith))
     ]
 
--- SERVED WITHIN EIGHT: from any state of any bytes in which the desk d has a line left, in any list of turns and handings-in of `revosti_turn` and
--- `revosti_hand_in`, of whatever desks and with whatever buffers, one of the first eight turns serves d.
--- By how far d lies ahead of the last desk served, counting upward and round again, at most seven desks between. Handing in keeps the last served, and d's line: at d
--- itself it is refused by 29. A turn serves the first desk ahead that has a line left, which is d or one before it; then that one is the last served, and d lies
--- nearer. d's line stays, since a turn changes the numbers of the desk that it serves alone. So after at most seven turns of others it is d's own.
-pub served-within-eight : (state : List ℕ) → stateBytes ≤ length state → (d : ℕ) → 1 ≤ d → d ≤ deskCount → hasLine state d ≡ true → (calls : List DeskCall) → 8 ≤ turnsIn calls
+-- SERVED WITHIN EIGHT: from any state of any bytes in which the desk d has a line left, in any list of turns and
+-- handings-in of `revosti_turn` and `revosti_hand_in`, of whatever desks and with whatever buffers, one of the first
+-- eight turns serves d. By how far d lies ahead of the last desk served, counting upward and round again, at most seven
+-- desks between. Handing in keeps the last served, and d's line: at d itself it is refused by 29. A turn serves the
+-- first desk ahead that has a line left, which is d or one before it; then that one is the last served, and d lies
+-- nearer. d's line stays, since a turn changes the numbers of the desk that it serves alone. So after at most seven
+-- turns of others it is d's own.
+pub served-within-eight : (state : List ℕ) → stateBytes ≤ length state → (d : ℕ) → 1 ≤ d → d ≤ deskCount → hasLine state d ≡ true →
+    (calls : List DeskCall) → 8 ≤ turnsIn calls
     → ServedIn d 8 state calls
 served-within-eight state room d low high h calls enough =
     served-ahead 8 (record { room = room; low = low; high = high; left = h }) (omega arith) calls enough
+
+-- from x on, e comes before d where it lies no further from d
+around : (x e d : ℕ) → 1 ≤ x → x ≤ deskCount → 1 ≤ e → e ≤ deskCount → 1 ≤ d → d ≤ deskCount → distance e d ≤ distance x d →
+    distance x e ≤ distance x d
+around x e d lx hx le he ld hd h =
+    elim (decLe x e) [
+      | yes p ↦ elim (decLe x d) [ yes q ↦ elim (decLe e d) [ yes r ↦ omega arith | no r ↦ omega arith ] | no q ↦ omega arith ]
+      | no p ↦ elim (decLe x d) [ yes q ↦ omega arith | no q ↦ elim (decLe e d) [ yes r ↦ omega arith | no r ↦ omega arith ] ]
+    ]
+
+-- THE ROUND ROBIN takes the nearest: the desk that a turn serves has a line left, and no desk with a line left lies
+-- nearer ahead of the last served
+pub next-nearest : (state : List ℕ) (e : ℕ) → nextDesk state ≡ next.Desk e →
+    Found state e × ((d : ℕ) → 1 ≤ d → d ≤ deskCount → hasLine state d ≡ true → ahead e state ≤ ahead d state)
+next-nearest state e g = (next-found state g, nearest)
+  where
+    nearest : (d : ℕ) → 1 ≤ d → d ≤ deskCount → hasLine state d ≡ true → ahead e state ≤ ahead d state
+    nearest d low high h =
+        let f = next-found state g in
+        let a = following-desk (lastServed state) in
+        let n = next-ahead state d low high h in
+        let q : next.Desk (n .0) ≡ next.Desk e = sym (n .1) ∙ g in
+        let i : n .0 ≡ e = cc in
+        let between : distance e d ≤ distance (following (lastServed state)) d = subst (λ (k : ℕ). distance k d ≤ distance (following (lastServed state)) d) i (n .2) in
+        around (following (lastServed state)) e d (a .0) (a .1) (f .low) (f .high) low high between

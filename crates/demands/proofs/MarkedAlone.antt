@@ -1,23 +1,23 @@
--- MARKED ALONE (02, Paper 14), of the functions for C: "Its verdict and marks are those of its sheet marked alone, if nothing but turns alters n, the table, its sheet
--- or its marks". Assumes nothing.
-use Prim.Native.Nat.{ℕ, zero, suc, _+_, _-_, _*_, _%_, _≤_, _<_}
+-- MARKED ALONE (02, Paper 14), of the functions for C: "Its verdict and marks are those of its sheet marked alone, if
+-- nothing but turns alters n, the table, its sheet or its marks". Assumes nothing.
+use Prim.Native.Nat.{ℕ, suc, _+_, _-_, _*_, _/_, _%_, _≤_, _<_}
 use mathlib.Core.Path.{_≡_, refl, sym, _∙_, ap, ap₂, subst}
 use mathlib.Core.Bool.{Bool, true, false, not, true≢false}
 use mathlib.Core.Logic.{_⊎_, inl, inr, ⊎-elim}
 use mathlib.Core.List.{List, [], _∷_, _++_}
-use native.Mathlib.Decide.{decLe, decLt, ℕ-discrete}
+use native.Mathlib.Decide.{decLe, ℕ-discrete}
 use native.Mathlib.Omega.{arith}
 use lib.Dec.{eqb, ltb}
 use lib.ListN.{length, getD, set, length-set}
 use lib.Seq.{getD-set-same, getD-set-other}
-use borrow.Author.Tests.{eq-eqb, ne-eqb, lt-ltb, le-ltb}
+use borrow.Author.Tests.{eq-eqb, lt-ltb, le-ltb}
 use Rattle.lists.specs.Test.{allAtMost, unless}
 use Rattle.lists.proofs.Tests.{answered}
 use Rattle.endian.specs.Bytes.{whole16, whole32}
 use Rattle.lengths.specs.Edge.{edgeCount, place}
 use Rattle.lengths.specs.Instance.{inRange, mostLength}
 use Rattle.lengths.proofs.Limits.{limit-each, each-limit}
-use Rattle.marks.specs.Mark.{struckMark, openMark, pendingMark, areMarks, nonePending, setMark, openIn, markIn}
+use Rattle.marks.specs.Mark.{struckMark, openMark, areMarks, nonePending, setMark, markIn}
 use Rattle.marks.specs.Packed.{ByteSet, packed, wellPacked, marksOf, repacked}
 use Rattle.marks.proofs.PackedMarks.{held-set}
 use Rattle.marks.proofs.PackedSets.{packed-marks, packed-is-well, marks-packed}
@@ -25,25 +25,25 @@ use Rattle.argument.specs.Verdict.{Verdict, accepted, refused}
 use Rattle.argument.specs.Record.{records}
 use Rattle.argument.specs.Layout.{Enters}
 use Rattle.argument.specs.Line.{Struck, strikes, judge, CompleteAt}
-use Rattle.argument.specs.Sheet.{Marking, Place, LineStep, onward, struck, lineStep, Result, answer, linesFrom, start, sheet, CompleteLines}
+use Rattle.argument.specs.Sheet.{Marking, Place, onward, struck, lineStep, Result, answer, linesFrom, start, sheet, CompleteLines}
 use Rattle.argument.proofs.Exact.{line-sound}
 use Rattle.argument.proofs.Safe.{step-keeps}
 use Rattle.argument.proofs.Sheet.{step-over, step-8, step-9, step-stops, step-strikes, step-rises, lines-over, lines-stop, lines-go-on}
-use Rattle.sheets.specs.Rules.{rulesOf, markingOf}
+use Rattle.sheets.specs.Rules.{markingOf}
 use Rattle.sheets.specs.Sheet.{wholeSheet, mostRecords}
 use Rattle.sheets.specs.Verdict.{resultOf}
 use Rattle.sheets.specs.declared.verdict.Verdict as declared
 use Rattle.sheets.specs.declared.verdict.Verdict.the-variants as verdict
 use Rattle.sheets.proofs.Records.{sheet-records}
-use Rattle.marking.specs.Mark.{markTested, markBy, repack, markPackedBy}
+use Rattle.marking.specs.Mark.{markBy, repack, markPackedBy}
 use Rattle.marking.specs.Tests.{tested, untilPending, ready}
 use Rattle.marking.specs.declared.tests.Tested.{Tested}
 use Rattle.marking.specs.declared.tests.Tested.the-variants as tests
 use Rattle.marking.proofs.MarkingSheets.{struck-set}
 use Rattle.marking.proofs.Tested.{not-points, both-passed, passed-well, passed, ready-tested}
 use Rattle.desks.specs.HandIn.{isDesk, untilSheet, testedSheet, handInAnswer, handInBy, handInLeft}
-use Rattle.desks.specs.State.{deskCount, stateBytes, lent, numberAt, nextIndex, owner, linesAt, setDesk, hasLine, nextDesk}
-use Rattle.desks.specs.Turn.{Outcome, servedOf, waiting, ahead, stepServed, turnFrom, turnTested, turnMarks, repackOutcome, turnPacked, deskLeft, servedLeft, Turn}
+use Rattle.desks.specs.State.{stateBytes, lent, nextIndex, owner, linesAt, setDesk, hasLine, nextDesk}
+use Rattle.desks.specs.Turn.{Outcome, servedOf, waiting, ahead, stepServed, turnFrom, turnMarks, repackOutcome, turnPacked, servedLeft, Turn}
 use Rattle.desks.specs.asks.State.{DeskAsked}
 use Rattle.desks.specs.declared.handing.Handed.{Handed}
 use Rattle.desks.specs.declared.handing.Handed.the-variants as handed
@@ -56,28 +56,37 @@ use Rattle.desks.proofs.DeskNumbers.{desk-length, desk-index, desk-owner, desk-
 use Rattle.desks.proofs.RoundRobin.{next-found}
 use Rattle.desks.proofs.TurnAnswers.{ahead-ends, ahead-8, ahead-9, ahead-waits}
 use Rattle.revosti.specs.Desk.{handedNumber, deskBit, lineLeftBit, servedNumber, turnInC, turnedNumber}
-use Rattle.revosti.specs.Mark.{verdictNumber, resultNumber, markInC}
-use Rattle.demands.specs.Desks.{Buffers, turning, handedIn, stateAfter, Seen, Meanwhile, nothing, hands-in, other-served, served, EndedAlone, PartAlone, MarkedAlone}
-use Rattle.demands.proofs.Fair.{found-asked, turn-of, state-served, turn-nothing-left, HandedOver, handed-over, HandsIn, refused, taken}
+use Rattle.revosti.specs.Mark.{resultNumber, markInC}
+use Rattle.revosti.specs.Slip.{releasedBit, aboveSlip, slipIn}
+use Rattle.slips.specs.Slip.{slipOf}
+use Rattle.slips.proofs.Views.{slip-same}
+use Rattle.demands.specs.SheetAnswer.{of-marking}
+use Rattle.demands.specs.Desks.{Buffers, turning, stateAfter, Seen, Meanwhile, nothing, hands-in, other-served, served, EndedAlone, MarkedAlone}
+use Rattle.demands.proofs.Fair.{found-asked, turn-of, state-served, turn-nothing-left, handed-over, HandsIn, refused, taken}
 use Rattle.demands.proofs.Fair as fair
 use Rattle.demands.proofs.Lawful.{lawful-between}
+use Rattle.demands.proofs.Slips.{marked-slip}
 
 -- the tests of a sheet
 
 -- what a sheet that passed them says
-pub sheet-passed : (n : ℕ) (table marks s : List ℕ) → testedSheet n table marks s ≡ handed.Done → (ready n table marks ≡ tests.Points n) × (wholeSheet (length s) ≡ true)
+pub sheet-passed : (n : ℕ) (table marks s : List ℕ) → testedSheet n table marks s ≡ handed.Done →
+    (ready n table marks ≡ tests.Points n) × (wholeSheet (length s) ≡ true)
 unfolding testedSheet
 sheet-passed n table marks s = by (ready n table marks) refl
   where
     not-done : {k : ℕ} → handed.Refused k ≡ handed.Done → ⊥
     not-done e = let z : _≡_ {A = ℕ} 0 1 = cc in omega arith
 
-    by : (t : Tested) → ready n table marks ≡ t → untilSheet t s ≡ handed.Done → (ready n table marks ≡ tests.Points n) × (wholeSheet (length s) ≡ true)
+    by : (t : Tested) → ready n table marks ≡ t → untilSheet t s ≡ handed.Done →
+        (ready n table marks ≡ tests.Points n) × (wholeSheet (length s) ≡ true)
     by (tests.Refused k) e h = absurd (not-done h)
-    by (tests.Points p) e h = (e ∙ ap tests.Points (passed (ready-tested e .tests) .same), answered (wholeSheet (length s)) _ _ handed.Done not-done h .0)
+    by (tests.Points p) e h =
+        (e ∙ ap tests.Points (passed (ready-tested e .tests) .same), answered (wholeSheet (length s)) _ _ handed.Done not-done h .0)
 
 -- marks of n points with nothing pending pass them again
-ready-again : (n : ℕ) (table marks left : List ℕ) → ready n table marks ≡ tests.Points n → ByteSet n left → nonePending left ≡ true → ready n table left ≡ tests.Points n
+ready-again : (n : ℕ) (table marks left : List ℕ) → ready n table marks ≡ tests.Points n → ByteSet n left → nonePending left ≡ true →
+    ready n table left ≡ tests.Points n
 unfolding ready tested
 ready-again n table marks left h b none =
     let t = ready-tested {table = table} {marks = marks} h .tests in
@@ -89,12 +98,18 @@ ready-again n table marks left h b none =
 -- a struck edge leaves nothing pending
 none-struck : (n : ℕ) (marks : List ℕ) (a b : ℕ) → nonePending marks ≡ true → nonePending (markIn struckMark n marks a b) ≡ true
 unfolding markIn setMark
-none-struck n marks a b h = each-limit openMark (set marks (place n a b) struckMark) (λ i l. each i (omega (arith, length-set marks (place n a b) struckMark)))
+none-struck n marks a b h = each-limit openMark (set marks (place n a b) struckMark)
+    (λ i l. each i (omega (arith, length-set marks (place n a b) struckMark)))
   where
     each : (i : ℕ) → i < length marks → getD (set marks (place n a b) struckMark) i 0 ≤ openMark
     each i l =
         elim (ℕ-discrete i (place n a b)) [
-          | yes z ↦ omega (arith, ap (λ (k : ℕ). getD (set marks (place n a b) struckMark) k 0) z, getD-set-same marks (place n a b) struckMark 0 (subst (λ (k : ℕ). k < length marks) z l))
+          | yes z ↦ omega (
+            arith,
+            ap (λ (k : ℕ). getD (set marks (place n a b) struckMark) k 0) z,
+            getD-set-same marks (place n a b) struckMark 0
+                (subst (λ (k : ℕ). k < length marks) z l),
+          )
           | no z ↦ omega (arith, getD-set-other marks (place n a b) i struckMark 0 z, limit-each openMark marks h i)
         ]
 
@@ -108,12 +123,15 @@ module _ {M : Type 0} (𝓜 : Marking M) (s : List ℕ) where
   chain-on (y ∷ ys) p q k x h c = (k .0, k .1, chain-on ys (struck 𝓜 p y) q (k .2) x h c)
 
 -- the highest record entered is not read by a line that enters above it
-struck-same : {M : Type 0} (𝓜 : Marking M) (q : Place M) (x : Struck) → struck 𝓜 (waiting (q .marks) (q .index) (q .last) (q .lines)) x ≡ struck 𝓜 q x
+struck-same : {M : Type 0} (𝓜 : Marking M) (q : Place M) (x : Struck) →
+    struck 𝓜 (waiting (q .marks) (q .index) (q .last) (q .lines)) x ≡ struck 𝓜 q x
 unfolding struck
 struck-same 𝓜 q (strikes a b next high) = refl
 
--- THE DESK'S OWN SHEET. From here on: the desk d, its n, the table and the sheet as bytes, the packed set at handing in, and that the sheet passed its tests.
-module _ (d n : ℕ) (table set₀ s : List ℕ) (tests-passed : ready n (whole32 table) (marksOf n set₀) ≡ tests.Points n) (whole : wholeSheet (length (whole16 s)) ≡ true) where
+-- THE DESK'S OWN SHEET. From here on: the desk d, its n, the table and the sheet as bytes, the packed set at handing
+-- in, and that the sheet passed its tests.
+module _ (d n : ℕ) (table set₀ s : List ℕ) (tests-passed : ready n (whole32 table) (marksOf n set₀) ≡ tests.Points n)
+    (whole : wholeSheet (length (whole16 s)) ≡ true) where
   abbrev 𝓜 : Marking (List ℕ)
   𝓜 = markingOf n (whole32 table)
 
@@ -143,7 +161,8 @@ module _ (d n : ℕ) (table set₀ s : List ℕ) (tests-passed : ready n (whole3
       ap (λ (y : List ℕ). repackOutcome n (packed m) (turnMarks n (whole32 table) y (whole16 s) i o l)) (marks-packed b)
       ∙ rw (packed-is-well b, ready-again n (whole32 table) before m tests-passed b none, whole)
 
-  -- a desk whose next line waits: a chain of complete lines led there, with as many turns, and the desk's numbers say where that is
+  -- a desk whose next line waits: a chain of complete lines led there, with as many turns, and the desk's numbers say
+  -- where that is
   record Going (k : ℕ) (x : Seen) : Type 0 where
     pub room : stateBytes ≤ length (x .state)
     pub lines : List Struck
@@ -171,7 +190,8 @@ module _ (d n : ℕ) (table set₀ s : List ℕ) (tests-passed : ready n (whole3
 
   going-line : {k : ℕ} {x : Seen} → Going k x → hasLine (x .state) d ≡ true
   unfolding hasLine
-  going-line {k} {x} g = lt-ltb (linesAt (x .state) d) (nextIndex (x .state) d) (omega (arith, g .counted, g .index, g .all-lines, g .low, g .above))
+  going-line {k} {x} g = lt-ltb (linesAt (x .state) d) (nextIndex (x .state) d)
+      (omega (arith, g .counted, g .index, g .all-lines, g .low, g .above))
 
   -- d is served
   module _ {k : ℕ} {x : Seen} (g : Going k x) (mine : nextDesk (x .state) ≡ next.Desk d) where
@@ -194,36 +214,50 @@ module _ (d n : ℕ) (table set₀ s : List ℕ) (tests-passed : ready n (whole3
     entered⁰ = record { above = omega (arith, g .above); inside = g .inside }
 
     -- so the turn is one line from where the desk waits
-    turn-here : turnPacked n (whole32 table) (x .set) (whole16 s) (nextIndex (x .state) d) (owner (x .state) d) (linesAt (x .state) d) ≡ servedOf (outcome .served) (packed (outcome .marks))
+    turn-here : turnPacked n (whole32 table) (x .set) (whole16 s) (nextIndex (x .state) d) (owner (x .state) d) (linesAt (x .state) d)
+        ≡ servedOf (outcome .served) (packed (outcome .marks))
     turn-here =
-        ap (λ (m : List ℕ). turnPacked n (whole32 table) m (whole16 s) (nextIndex (x .state) d) (owner (x .state) d) (linesAt (x .state) d)) (g .marked)
+        ap (λ (m : List ℕ). turnPacked n (whole32 table) m (whole16 s) (nextIndex (x .state) d) (owner (x .state) d)
+        (linesAt (x .state) d)) (g .marked)
         ∙ ap₂ (λ (i o : ℕ). turnPacked n (whole32 table) (packed (q .marks)) (whole16 s) i o (linesAt (x .state) d)) (g .index) (g .last)
         ∙ ap (turnPacked n (whole32 table) (packed (q .marks)) (whole16 s) (q .index) (q .last)) (g .counted)
         ∙ line-here (q .marks) (q .index) (q .last) (q .lines) (g .bytes) (g .none)
 
     abbrev after : Seen
-    after = record { state = servedLeft (outcome .served) (x .state) d; set = packed (outcome .marks); answer = servedNumber (outcome .served) + deskBit * d }
+    after = record {
+      state = servedLeft (outcome .served) (x .state) d;
+      set = packed (outcome .marks);
+      answer = servedNumber (outcome .served) + deskBit * d;
+    }
 
-    turns-to : turnInC (x .state) n table (x .set) s ≡ record { answer = turned.Desk d (outcome .served); state = after .state; marks = after .set }
+    turns-to : turnInC (x .state) n table (x .set) s ≡ record
+        { answer = turned.Desk d (outcome .served); state = after .state; marks = after .set }
     turns-to =
         turn-of (x .state) (g .room) mine (x .set) (turnPacked n (whole32 table) (x .set) (whole16 s))
-        ∙ ap (λ (r : Outcome (List ℕ)). record { answer = turned.Desk d (r .served); state = servedLeft (r .served) (x .state) d; marks = r .marks }) turn-here
+        ∙ ap (λ (r : Outcome (List ℕ)). record
+        { answer = turned.Desk d (r .served); state = servedLeft (r .served) (x .state) d; marks = r .marks }) turn-here
 
     abbrev seen : Seen
-    seen = record { state = turnInC (x .state) n table (x .set) s .state; set = turnInC (x .state) n table (x .set) s .marks; answer = turnedNumber (turnInC (x .state) n table (x .set) s .answer) }
+    seen = record {
+      state = turnInC (x .state) n table (x .set) s .state;
+      set = turnInC (x .state) n table (x .set) s .marks;
+      answer = turnedNumber (turnInC (x .state) n table (x .set) s .answer);
+    }
 
     seen-after : seen ≡ after
     unfolding turnedNumber
     seen-after = ap (λ (t : Turn). record { state = t .state; set = t .marks; answer = turnedNumber (t .answer) }) turns-to
 
     -- the sheet ends at the place p
-    gone : (v : declared.Verdict) (p : Place (List ℕ)) (w : Verdict (Unit {0})) → outcome ≡ servedOf (served.Ended v) (p .marks) → linesFrom 𝓜 (whole16 s) q ≡ answer p w
+    gone : (v : declared.Verdict) (p : Place (List ℕ)) (w : Verdict (Unit {0})) → outcome ≡ servedOf (served.Ended v) (p .marks) →
+        linesFrom 𝓜 (whole16 s) q ≡ answer p w
         → resultNumber (resultOf v []) ≡ resultNumber (answer p w) → Gone (suc k) seen
     unfolding servedNumber servedLeft resultNumber answer repacked hasLine
     gone v p w e l r =
         let result : sheet 𝓜 (whole16 s) before ≡ answer p w = sym (g .goes-on) ∙ l in
         let to : markInC struckMark n table set₀ s ≡ repack n set₀ (answer p w) = alone ∙ ap (repack n set₀) result in
-        let state-as : after .state ≡ servedLeft (served.Ended v) (x .state) d = ap (λ (o : Outcome (List ℕ)). servedLeft (o .served) (x .state) d) e in
+        let state-as : after .state ≡ servedLeft (served.Ended v) (x .state) d = ap
+        (λ (o : Outcome (List ℕ)). servedLeft (o .served) (x .state) d) e in
         let zero-lines : linesAt (servedLeft (served.Ended v) (x .state) d) d ≡ 0
         = served-number asked (served.Ended v) (3 * d) (omega (arith, asked .low)) ∙ desk-lines asked 0 0 0 in
         let zero-index : nextIndex (servedLeft (served.Ended v) (x .state) d) d ≡ 0
@@ -231,17 +265,21 @@ module _ (d n : ℕ) (table set₀ s : List ℕ) (tests-passed : ready n (whole3
         let there : Gone (suc k) after
         = record {
           room = omega (arith, served-length asked (outcome .served), g .room);
-          free = ap (λ (y : List ℕ). hasLine y d) state-as ∙ le-ltb (linesAt (servedLeft (served.Ended v) (x .state) d) d) (nextIndex (servedLeft (served.Ended v) (x .state) d) d) (omega (arith, zero-lines, zero-index));
+          free = ap (λ (y : List ℕ). hasLine y d) state-as
+              ∙ le-ltb (linesAt (servedLeft (served.Ended v) (x .state) d) d) (nextIndex (servedLeft (served.Ended v) (x .state) d) d)
+              (omega (arith, zero-lines, zero-index));
           few = omega (arith, g .low, g .above, g .inside);
           ended = record {
-            answered = ap (λ (o : Outcome (List ℕ)). servedNumber (o .served) + deskBit * d) e ∙ ap (λ (y : ℕ). y + deskBit * d) (r ∙ ap resultNumber (sym to));
+            answered = ap (λ (o : Outcome (List ℕ)). servedNumber (o .served) + deskBit * d) e
+                ∙ ap (λ (y : ℕ). y + deskBit * d) (r ∙ ap resultNumber (sym to));
             marked = ap (λ (o : Outcome (List ℕ)). packed (o .marks)) e ∙ sym (ap (λ (y : Result (List ℕ)). y .marks) to ∙ rw well);
           };
         } in
         subst (Gone (suc k)) (sym seen-after) there
 
     -- the line is refused
-    stops : (number rec : ℕ) → judge (𝓜 .rules (q .marks)) (𝓜 .open? (q .marks)) (whole16 s) (q .index) ≡ refused number rec → Gone (suc k) seen
+    stops : (number rec : ℕ) → judge (𝓜 .rules (q .marks)) (𝓜 .open? (q .marks)) (whole16 s) (q .index) ≡ refused number rec →
+        Gone (suc k) seen
     unfolding turnFrom stepServed resultNumber answer
     stops number rec j =
         gone (verdict.Refused number rec (q .lines)) q (refused number rec)
@@ -263,10 +301,12 @@ module _ (d n : ℕ) (table set₀ s : List ℕ) (tests-passed : ready n (whole3
       unfolding turnFrom stepServed
       outcome-here =
           ap (stepServed (whole16 s) q⁰) (step-strikes 𝓜 (whole16 s) q⁰ entered⁰ y j)
-          ∙ ap (λ (z : Place (List ℕ)). servedOf (ahead (records (whole16 s)) (z .index) (z .last) (z .high) (z .lines)) (z .marks)) (struck-same 𝓜 q y)
+          ∙ ap (λ (z : Place (List ℕ)). servedOf (ahead (records (whole16 s)) (z .index) (z .last) (z .high) (z .lines)) (z .marks))
+          (struck-same 𝓜 q y)
 
       -- its next index ends the sheet
-      ends-at : (v : declared.Verdict) (w : Verdict (Unit {0})) → served.Ended v ≡ ahead (records (whole16 s)) (p .index) (p .last) (p .high) (p .lines) → linesFrom 𝓜 (whole16 s) p ≡ answer p w
+      ends-at : (v : declared.Verdict) (w : Verdict (Unit {0})) →
+          served.Ended v ≡ ahead (records (whole16 s)) (p .index) (p .last) (p .high) (p .lines) → linesFrom 𝓜 (whole16 s) p ≡ answer p w
           → resultNumber (resultOf v []) ≡ resultNumber (answer p w) → Gone (suc k) seen
       ends-at v w e l r = gone v p w (outcome-here ∙ ap (λ (z : Served). servedOf z (p .marks)) (sym e)) (goes-further ∙ l) r
 
@@ -281,18 +321,23 @@ module _ (d n : ℕ) (table set₀ s : List ℕ) (tests-passed : ready n (whole3
       complete : CompleteAt (𝓜 .rules (q .marks)) (𝓜 .open? (q .marks)) (whole16 s) (q .index) y
       complete = by y j
         where
-          by : (z : Struck) → judge (𝓜 .rules (q .marks)) (𝓜 .open? (q .marks)) (whole16 s) (q .index) ≡ accepted z → CompleteAt (𝓜 .rules (q .marks)) (𝓜 .open? (q .marks)) (whole16 s) (q .index) z
-          by (strikes a b next high) e = line-sound (𝓜 .rules (q .marks)) (lawful-between n (whole32 table) (whole32 table) (q .marks)) (whole16 s) (𝓜 .open? (q .marks)) (q .index) a b next high e
+          by : (z : Struck) → judge (𝓜 .rules (q .marks)) (𝓜 .open? (q .marks)) (whole16 s) (q .index) ≡ accepted z →
+              CompleteAt (𝓜 .rules (q .marks)) (𝓜 .open? (q .marks)) (whole16 s) (q .index) z
+          by (strikes a b next high) e = line-sound (𝓜 .rules (q .marks)) (lawful-between n (whole32 table) (whole32 table) (q .marks))
+              (whole16 s) (𝓜 .open? (q .marks)) (q .index) a b next high e
 
       -- or another line waits
-      waits : served.Waits (p .index) (p .last) (p .lines) ≡ ahead (records (whole16 s)) (p .index) (p .last) (p .high) (p .lines) → p .high < p .index → p .index ≤ records (whole16 s) → Going (suc k) seen
+      waits : served.Waits (p .index) (p .last) (p .lines) ≡ ahead (records (whole16 s)) (p .index) (p .last) (p .high) (p .lines) →
+          p .high < p .index → p .index ≤ records (whole16 s) → Going (suc k) seen
       unfolding servedNumber servedLeft
       waits e above inside =
-          let o : outcome ≡ servedOf (served.Waits (p .index) (p .last) (p .lines)) (p .marks) = outcome-here ∙ ap (λ (z : Served). servedOf z (p .marks)) (sym e) in
+          let o : outcome ≡ servedOf (served.Waits (p .index) (p .last) (p .lines)) (p .marks) = outcome-here
+          ∙ ap (λ (z : Served). servedOf z (p .marks)) (sym e) in
           let r : Served = served.Waits (p .index) (p .last) (p .lines) in
           let state-as : after .state ≡ servedLeft r (x .state) d = ap (λ (z : Outcome (List ℕ)). servedLeft (z .served) (x .state) d) o in
           let rises = step-rises 𝓜 (whole16 s) q p step-here in
-          let kept = step-keeps 𝓜 (λ (m : List ℕ). ByteSet n m × (nonePending m ≡ true)) (λ m a b h. (struck-set struckMark n (omega arith) m a b (h .0), none-struck n m a b (h .1)))
+          let kept = step-keeps 𝓜 (λ (m : List ℕ). ByteSet n m × (nonePending m ≡ true))
+          (λ m a b h. (struck-set struckMark n (omega arith) m a b (h .0), none-struck n m a b (h .1)))
           (whole16 s) q p (g .bytes, g .none) step-here in
           let lines-now : p .lines ≡ suc k = struck-lines y ∙ ap suc (g .all-lines) in
           let few = few-records in
@@ -306,14 +351,18 @@ module _ (d n : ℕ) (table set₀ s : List ℕ) (tests-passed : ready n (whole3
             marked = ap (λ (z : Outcome (List ℕ)). packed (z .marks)) o;
             bytes = kept .0;
             none = kept .1;
-            index = ap (λ (z : List ℕ). nextIndex z d) state-as ∙ served-number asked r (3 * d - 2) (omega (arith, asked .low)) ∙ desk-index asked (p .index) (p .last) (p .lines) ∙ omega (arith, inside, few);
-            last = ap (λ (z : List ℕ). owner z d) state-as ∙ served-number asked r (3 * d - 1) (omega (arith, asked .low)) ∙ desk-owner asked (p .index) (p .last) (p .lines) ∙ omega (arith, struck-last y, g .inside, few);
-            counted = ap (λ (z : List ℕ). linesAt z d) state-as ∙ served-number asked r (3 * d) (omega (arith, asked .low)) ∙ desk-lines asked (p .index) (p .last) (p .lines) ∙ omega (arith, lines-now, g .low, g .above, g .inside, few);
+            index = ap (λ (z : List ℕ). nextIndex z d) state-as ∙ served-number asked r (3 * d - 2) (omega (arith, asked .low))
+                ∙ desk-index asked (p .index) (p .last) (p .lines) ∙ omega (arith, inside, few);
+            last = ap (λ (z : List ℕ). owner z d) state-as ∙ served-number asked r (3 * d - 1) (omega (arith, asked .low))
+                ∙ desk-owner asked (p .index) (p .last) (p .lines) ∙ omega (arith, struck-last y, g .inside, few);
+            counted = ap (λ (z : List ℕ). linesAt z d) state-as ∙ served-number asked r (3 * d) (omega (arith, asked .low))
+                ∙ desk-lines asked (p .index) (p .last) (p .lines) ∙ omega (arith, lines-now, g .low, g .above, g .inside, few);
             all-lines = lines-now;
             low = omega (arith, g .low, g .above, rises .1);
             above = above;
             inside = inside;
-            answered = λ h. ap (λ (z : Outcome (List ℕ)). servedNumber (z .served) + deskBit * d) o ∙ ap (λ (m : ℕ). 16777216 * m + lineLeftBit + deskBit * d) lines-now;
+            answered = λ h. ap (λ (z : Outcome (List ℕ)). servedNumber (z .served) + deskBit * d) o
+                ∙ ap (λ (m : ℕ). 16777216 * m + lineLeftBit + deskBit * d) lines-now;
           } in
           subst (Going (suc k)) (sym seen-after) there
 
@@ -322,11 +371,19 @@ module _ (d n : ℕ) (table set₀ s : List ℕ) (tests-passed : ready n (whole3
       accepts =
           let c : ℕ = records (whole16 s) in
           elim (ℕ-discrete (p .index) 0) [
-            | yes z ↦ inr (ends-at (verdict.Accepted (p .lines)) (accepted tt) (ahead-ends c (p .index) (p .last) (p .high) (p .lines) z) (lines-over 𝓜 (whole16 s) p (step-over 𝓜 (whole16 s) p z)) refl)
+            | yes z ↦ inr
+                (ends-at (verdict.Accepted (p .lines)) (accepted tt) (ahead-ends c (p .index) (p .last) (p .high) (p .lines) z)
+                (lines-over 𝓜 (whole16 s) p (step-over 𝓜 (whole16 s) p z)) refl)
             | no z ↦ elim (decLe (p .index) c) [
-              | no h ↦ inr (ends-at (verdict.Refused 8 (p .last) (p .lines)) (refused 8 (p .last)) (ahead-8 c (p .index) (p .last) (p .high) (p .lines) z (omega arith)) (lines-stop 𝓜 (whole16 s) p 8 (p .last) (step-8 𝓜 (whole16 s) p (omega arith))) refl)
+              | no h ↦ inr
+                  (ends-at (verdict.Refused 8 (p .last) (p .lines)) (refused 8 (p .last))
+                  (ahead-8 c (p .index) (p .last) (p .high) (p .lines) z (omega arith))
+                  (lines-stop 𝓜 (whole16 s) p 8 (p .last) (step-8 𝓜 (whole16 s) p (omega arith))) refl)
               | yes h ↦ elim (decLe (p .index) (p .high)) [
-                | yes l ↦ inr (ends-at (verdict.Refused 9 (p .last) (p .lines)) (refused 9 (p .last)) (ahead-9 c (p .index) (p .last) (p .high) (p .lines) z h l) (lines-stop 𝓜 (whole16 s) p 9 (p .last) (step-9 𝓜 (whole16 s) p z h l)) refl)
+                | yes l ↦ inr
+                    (ends-at (verdict.Refused 9 (p .last) (p .lines)) (refused 9 (p .last))
+                    (ahead-9 c (p .index) (p .last) (p .high) (p .lines) z h l)
+                    (lines-stop 𝓜 (whole16 s) p 9 (p .last) (step-9 𝓜 (whole16 s) p z h l)) refl)
                 | no l ↦ inl (waits (ahead-waits c (p .index) (p .last) (p .high) (p .lines) z h (omega arith)) (omega arith) h)
               ]
             ]
@@ -335,7 +392,8 @@ module _ (d n : ℕ) (table set₀ s : List ℕ) (tests-passed : ready n (whole3
     goes : Going (suc k) seen ⊎ Gone (suc k) seen
     goes = by (judge (𝓜 .rules (q .marks)) (𝓜 .open? (q .marks)) (whole16 s) (q .index)) refl
       where
-        by : (v : Verdict Struck) → judge (𝓜 .rules (q .marks)) (𝓜 .open? (q .marks)) (whole16 s) (q .index) ≡ v → Going (suc k) seen ⊎ Gone (suc k) seen
+        by : (v : Verdict Struck) → judge (𝓜 .rules (q .marks)) (𝓜 .open? (q .marks)) (whole16 s) (q .index) ≡ v →
+            Going (suc k) seen ⊎ Gone (suc k) seen
         by (accepted y) j = accepts y j
         by (refused number rec) j = inr (stops number rec j)
 
@@ -346,7 +404,8 @@ module _ (d n : ℕ) (table set₀ s : List ℕ) (tests-passed : ready n (whole3
     pub last : owner left d ≡ owner state d
     pub counted : linesAt left d ≡ linesAt state d
 
-  going-on : {k : ℕ} {x : Seen} {left : List ℕ} → Stays (x .state) left → Going k x → Going k (record { state = left; set = x .set; answer = x .answer })
+  going-on : {k : ℕ} {x : Seen} {left : List ℕ} → Stays (x .state) left → Going k x →
+      Going k (record { state = left; set = x .set; answer = x .answer })
   going-on y g =
       record {
         room = y .room;
@@ -367,13 +426,20 @@ module _ (d n : ℕ) (table set₀ s : List ℕ) (tests-passed : ready n (whole3
         answered = g .answered;
       }
 
-  gone-on : {k : ℕ} {x : Seen} {left : List ℕ} → Stays (x .state) left → Gone k x → Gone k (record { state = left; set = x .set; answer = x .answer })
+  gone-on : {k : ℕ} {x : Seen} {left : List ℕ} → Stays (x .state) left → Gone k x →
+      Gone k (record { state = left; set = x .set; answer = x .answer })
   unfolding hasLine
   gone-on y g =
-      record { room = y .room; free = ap₂ ltb (y .counted) (y .index) ∙ g .free; few = g .few; ended = record { answered = g .ended .answered; marked = g .ended .marked } }
+      record {
+        room = y .room;
+        free = ap₂ ltb (y .counted) (y .index) ∙ g .free;
+        few = g .few;
+        ended = record { answered = g .ended .answered; marked = g .ended .marked };
+      }
 
   module _ (low : 1 ≤ d) where
-    handed-stays : {state left : List ℕ} (e : ℕ) → stateBytes ≤ length state → (e ≡ d → hasLine state d ≡ true) → HandsIn state e left → Stays state left
+    handed-stays : {state left : List ℕ} (e : ℕ) → stateBytes ≤ length state → (e ≡ d → hasLine state d ≡ true) → HandsIn state e left →
+        Stays state left
     handed-stays {state} e room own refused = record { room = room; index = refl; last = refl; counted = refl }
     handed-stays {state} e room own (taken a free) =
         let other : d ≡ e → ⊥ = λ z. true≢false (sym (own (sym z)) ∙ ap (hasLine state) z ∙ free) in
@@ -384,11 +450,13 @@ module _ (d n : ℕ) (table set₀ s : List ℕ) (tests-passed : ready n (whole3
           counted = desk-other a 1 0 0 (3 * d) (apart (3 * d) (omega arith) (omega arith) other);
         }
 
-    turn-stays : (state : List ℕ) → stateBytes ≤ length state → (nextDesk state ≡ next.Desk d → ⊥) → (b : Buffers) → Stays state (stateAfter (turning b) state)
+    turn-stays : (state : List ℕ) → stateBytes ≤ length state → (nextDesk state ≡ next.Desk d → ⊥) → (b : Buffers) →
+        Stays state (stateAfter (turning b) state)
     turn-stays state room other b = by (nextDesk state) refl
       where
         by : (m : Next) → nextDesk state ≡ m → Stays state (stateAfter (turning b) state)
-        by next.NoLine e = subst (Stays state) (sym (turn-nothing-left state room b e)) (record { room = room; index = refl; last = refl; counted = refl })
+        by next.NoLine e = subst (Stays state) (sym (turn-nothing-left state room b e))
+            (record { room = room; index = refl; last = refl; counted = refl })
         by (next.Desk m) e =
             let a = found-asked room e in
             let t = state-served state room b e in
@@ -410,8 +478,10 @@ module _ (d n : ℕ) (table set₀ s : List ℕ) (tests-passed : ready n (whole3
         (λ h. inr (gone-on (handed-stays e (h .room) own (fair.hands-in (x .state) e b)) h))
         (happens g m)
     happens g (other-served {x = x} m other b) =
-        ⊎-elim (λ h. inl (going-on (turn-stays (x .state) (h .room) other b) h)) (λ h. inr (gone-on (turn-stays (x .state) (h .room) other b) h)) (happens g m)
-    happens g (served {x = x} m mine) = ⊎-elim (λ h. goes h mine) (λ h. absurd (true≢false (sym (next-found (x .state) mine .left) ∙ h .free))) (happens g m)
+        ⊎-elim (λ h. inl (going-on (turn-stays (x .state) (h .room) other b) h))
+        (λ h. inr (gone-on (turn-stays (x .state) (h .room) other b) h)) (happens g m)
+    happens g (served {x = x} m mine) = ⊎-elim (λ h. goes h mine)
+        (λ h. absurd (true≢false (sym (next-found (x .state) mine .left) ∙ h .free))) (happens g m)
 
 -- an answer 0 of `revosti_hand_in` is that the sheet is taken: no refusal has the number 0
 
@@ -459,7 +529,8 @@ done-at-0 handed.Done h e = refl
 done-at-0 (handed.Refused k) h e = absurd (omega arith)
 
 -- the first line of a sheet that is handed in waits
-going-start : (state : List ℕ) (d n : ℕ) (table set₀ s : List ℕ) (tests-passed : ready n (whole32 table) (marksOf n set₀) ≡ tests.Points n) (whole : wholeSheet (length (whole16 s)) ≡ true) → DeskAsked state d
+going-start : (state : List ℕ) (d n : ℕ) (table set₀ s : List ℕ) (tests-passed : ready n (whole32 table) (marksOf n set₀) ≡ tests.Points n)
+    (whole : wholeSheet (length (whole16 s)) ≡ true) → DeskAsked state d
     → Going d n table set₀ s tests-passed whole 0 (record { state = setDesk state d 1 0 0; set = set₀; answer = 0 })
 unfolding sheet start CompleteLines
 going-start state d n table set₀ s tests-passed whole a =
@@ -482,27 +553,37 @@ going-start state d n table set₀ s tests-passed whole a =
       answered = λ h. absurd (omega arith);
     }
 
--- MARKED ALONE: let `revosti_hand_in` answer 0 for the desk d with n, table, marks and sheet, from any state of any bytes, and let any list of turns and handings-in
--- follow, of any desks and with any buffers, of d itself with its own n, table and sheet and the marks as its turns leave them. Then d is served in at most as many
--- turns as its sheet has records. Once it has no line left, its last answer is that of `revosti_mark_sheet` on the marks at handing in, with the desk in the bits from 48
--- on, and its marks are those that `revosti_mark_sheet` leaves. Before, its marks and lines are those behind a chain of complete lines that marking begins with.
--- Between two of its turns nothing changes the three numbers of d, nor its marks: other turns and handings-in write numbers of other desks, and handing in at d is refused.
--- They say where the sheet stands: its next index, the record that has it, and the lines; the highest record entered lies below the index, so that test 9 need not be
--- repeated. A turn of d passes the tests again, since struck marks are marks with nothing pending, and judges the line at the index under the marks that marking alone
--- finds there. If it is refused, marking alone stops there as well. If it is accepted, what the rest of the sheet comes to from the place behind it is what it came to
--- before (`lines-go-on`), and the next index is read as marking alone reads it: 0 ends the sheet, 8 and 9 refuse it, else the line there waits. Each line enters a record
--- above all entered before, so there are no more turns than records.
-pub marked-alone : (state : List ℕ) (d n : ℕ) (table set s : List ℕ) → handedNumber (handInAnswer state d n (whole32 table) (marksOf n set) (whole16 s)) ≡ 0 → {turns : ℕ} {x : Seen}
-    → Meanwhile d n table s (record { state = handInLeft state d n (whole32 table) (marksOf n set) (whole16 s); set = set; answer = 0 }) turns x → MarkedAlone d n table set s turns x
+-- MARKED ALONE: let `revosti_hand_in` answer 0 for the desk d with n, table, marks and sheet, from any state of any
+-- bytes, and let any list of turns and handings-in follow, of any desks and with any buffers, of d itself with its own
+-- n, table and sheet and the marks as its turns leave them. Then d is served in at most as many turns as its sheet has
+-- records. Once it has no line left, its last answer is that of `revosti_mark_sheet` on the marks at handing in, with
+-- the desk in the bits from 48 on, and its marks are those that `revosti_mark_sheet` leaves. Before, its marks and
+-- lines are those behind a chain of complete lines that marking begins with. Between two of its turns nothing changes
+-- the three numbers of d, nor its marks: other turns and handings-in write numbers of other desks, and handing in at d
+-- is refused. They say where the sheet stands: its next index, the record that has it, and the lines; the highest
+-- record entered lies below the index, so that test 9 need not be repeated. A turn of d passes the tests again, since
+-- struck marks are marks with nothing pending, and judges the line at the index under the marks that marking alone
+-- finds there. If it is refused, marking alone stops there as well. If it is accepted, what the rest of the sheet comes
+-- to from the place behind it is what it came to before (`lines-go-on`), and the next index is read as marking alone
+-- reads it: 0 ends the sheet, 8 and 9 refuse it, else the line there waits. Each line enters a record above all entered
+-- before, so there are no more turns than records.
+pub marked-alone : (state : List ℕ) (d n : ℕ) (table set s : List ℕ) →
+    handedNumber (handInAnswer state d n (whole32 table) (marksOf n set) (whole16 s)) ≡ 0 → {turns : ℕ} {x : Seen}
+    → Meanwhile d n table s
+    (record { state = handInLeft state d n (whole32 table) (marksOf n set) (whole16 s); set = set; answer = 0 }) turns x →
+    MarkedAlone d n table set s turns x
 unfolding handInLeft
 marked-alone state d n table set s e {turns} {x} m =
-    let done = done-at-0 (handInAnswer state d n (whole32 table) (marksOf n set) (whole16 s)) (hand-in-numbered state d n (whole32 table) (marksOf n set) (whole16 s)) e in
+    let done = done-at-0 (handInAnswer state d n (whole32 table) (marksOf n set) (whole16 s))
+    (hand-in-numbered state d n (whole32 table) (marksOf n set) (whole16 s)) e in
     let h = handed-over state d n (whole32 table) (marksOf n set) (whole16 s) done in
     let p = sheet-passed n (whole32 table) (marksOf n set) (whole16 s) (h .passed) in
-    let from : handInLeft state d n (whole32 table) (marksOf n set) (whole16 s) ≡ setDesk state d 1 0 0 = ap (λ (r : Handed). handInBy r state d) done in
+    let from : handInLeft state d n (whole32 table) (marksOf n set) (whole16 s) ≡ setDesk state d 1 0 0 = ap
+    (λ (r : Handed). handInBy r state d) done in
     told (p .0) (p .1)
     (happens d n table set s (p .0) (p .1) (h .asked .low)
-    (subst (λ (y : List ℕ). Going d n table set s (p .0) (p .1) 0 (record { state = y; set = set; answer = 0 })) (sym from) (going-start state d n table set s (p .0) (p .1) (h .asked))) m)
+    (subst (λ (y : List ℕ). Going d n table set s (p .0) (p .1) 0 (record { state = y; set = set; answer = 0 })) (sym from)
+    (going-start state d n table set s (p .0) (p .1) (h .asked))) m)
   where
     told : (p : ready n (whole32 table) (marksOf n set) ≡ tests.Points n) (w : wholeSheet (length (whole16 s)) ≡ true)
         → Going d n table set s p w turns x ⊎ Gone d n table set s p w turns x → MarkedAlone d n table set s turns x
@@ -522,3 +603,19 @@ marked-alone state d n table set s e {turns} {x} m =
           };
         }
     told p w (inr g) = record { few = g .few; ended = λ f. g .ended; part = λ f. absurd (true≢false (sym f ∙ g .free)) }
+
+-- a slip does not read the bits above its own
+slip-above : (k j : ℕ) → slipIn (k + aboveSlip * j) ≡ slipIn k
+unfolding slipIn
+slip-above k j =
+    slip-same (omega arith) (omega arith) (omega arith)
+    (ap (λ (b : ℕ). eqb b 1) (let e : (k + aboveSlip * j) / releasedBit % 2 ≡ k / releasedBit % 2 = omega arith in e))
+
+-- THE SLIP: the last answer of a desk whose sheet has ended is the slip of the sheet marked alone, not released
+pub ended-slip : {d n : ℕ} {table set s : List ℕ} {x : Seen} → EndedAlone d n table set s x →
+    slipIn (x .answer) ≡ slipOf (markInC struckMark n table set s)
+ended-slip {d} {n} {table} {set} {s} e =
+    let bits : deskBit * d ≡ aboveSlip * (128 * d) = omega arith in
+    ap slipIn (e .answered ∙ ap (λ (b : ℕ). resultNumber (markInC struckMark n table set s) + b) bits)
+    ∙ slip-above (resultNumber (markInC struckMark n table set s)) (128 * d)
+    ∙ marked-slip (of-marking struckMark n table set s)

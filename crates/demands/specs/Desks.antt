@@ -1,6 +1,6 @@
--- What happens at the desks (02, Paper 14): turns and handings-in, by the functions for C, one after the other. "if only turns and handing in alter the desks'
--- state".
-use Prim.Native.Nat.{ℕ, zero, suc, _+_, _*_, _≤_, _<_}
+-- What happens at the desks (02, Paper 14): turns and handings-in, by the functions for C, one after the other. "if
+-- only turns and handing in alter the desks' state".
+use Prim.Native.Nat.{ℕ, suc, _+_, _*_, _≤_, _<_}
 use mathlib.Core.Path.{_≡_}
 use mathlib.Core.Bool.{true, false}
 use mathlib.Core.Logic.{_⊎_}
@@ -13,10 +13,10 @@ use Rattle.argument.specs.Line.{Struck}
 use Rattle.argument.specs.Record.{records}
 use Rattle.argument.specs.Sheet.{Place, linesFrom, start, sheet, CompleteLines}
 use Rattle.sheets.specs.Rules.{markingOf}
-use Rattle.desks.specs.HandIn.{handInAnswer, handInLeft}
-use Rattle.desks.specs.State.{deskCount, stateBytes, linesAt, hasLine, nextDesk}
+use Rattle.desks.specs.HandIn.{handInLeft}
+use Rattle.desks.specs.State.{linesAt, hasLine, nextDesk}
 use Rattle.desks.specs.declared.state.Next.the-variants.{Desk}
-use Rattle.revosti.specs.Desk.{handedNumber, deskBit, lineLeftBit, turnInC, turnedNumber}
+use Rattle.revosti.specs.Desk.{deskBit, lineLeftBit, turnInC, turnedNumber}
 use Rattle.revosti.specs.Mark.{resultNumber, markInC}
 
 -- what a call is lent, in bytes
@@ -46,12 +46,15 @@ turnsIn (turning b ∷ calls) = suc (turnsIn calls)
 
 -- one of the first k turns among the calls serves the desk d
 pub data ServedIn (d : ℕ) : (k : ℕ) → List ℕ → List DeskCall → Type 0 where
-  at-once : {k : ℕ} {state : List ℕ} {b : Buffers} {calls : List DeskCall} → nextDesk state ≡ Desk d → ServedIn d (suc k) state (turning b ∷ calls)
-  later : {k : ℕ} {state : List ℕ} {b : Buffers} {calls : List DeskCall} → ServedIn d k (stateAfter (turning b) state) calls → ServedIn d (suc k) state (turning b ∷ calls)
-  meanwhile : {k : ℕ} {state : List ℕ} {e : ℕ} {b : Buffers} {calls : List DeskCall} → ServedIn d k (handedIn state e b) calls → ServedIn d k state (handing e b ∷ calls)
+  at-once : {k : ℕ} {state : List ℕ} {b : Buffers} {calls : List DeskCall} → nextDesk state ≡ Desk d →
+      ServedIn d (suc k) state (turning b ∷ calls)
+  later : {k : ℕ} {state : List ℕ} {b : Buffers} {calls : List DeskCall} → ServedIn d k (stateAfter (turning b) state) calls →
+      ServedIn d (suc k) state (turning b ∷ calls)
+  meanwhile : {k : ℕ} {state : List ℕ} {e : ℕ} {b : Buffers} {calls : List DeskCall} → ServedIn d k (handedIn state e b) calls →
+      ServedIn d k state (handing e b ∷ calls)
 
--- from `state` to `left` no byte changed outside the desk d's own six, and the first two where `last-served` allows it
-pub record OnlyDesk (d : ℕ) (first : ℕ) (state left : List ℕ) : Type 0 where
+-- from `state` to `left` no byte from `first` on changed but the six of the desk d's own numbers
+pub record OnlyDesk (d first : ℕ) (state left : List ℕ) : Type 0 where
   pub size : length left ≡ length state
   pub others : (i : ℕ) → first ≤ i → (i + 4 < 6 * d) ⊎ (6 * d + 2 ≤ i) → getD left i 0 ≡ getD state i 0
 
@@ -61,8 +64,9 @@ pub record Seen : Type 0 where
   pub set : List ℕ
   pub answer : ℕ
 
--- what happens from one moment to another, with so many turns of the desk d, while its n, table and sheet stay and nothing but turns alters its marks: any
--- desk hands in anything, d itself only while it has a line left, which is refused; other desks are served, with any buffers; d is served with its own
+-- what happens from one moment to another, with so many turns of the desk d, while its n, table and sheet stay and
+-- nothing but turns alters its marks: any desk hands in anything, d itself only while it has a line left, which is
+-- refused; other desks are served, with any buffers; d is served with its own
 pub data Meanwhile (d n : ℕ) (table s : List ℕ) (from : Seen) : (turns : ℕ) → Seen → Type 0 where
   nothing : Meanwhile d n table s from 0 from
   hands-in : {k : ℕ} {x : Seen} → Meanwhile d n table s from k x → (e : ℕ) (b : Buffers) → (e ≡ d → hasLine (x .state) d ≡ true) →
@@ -71,9 +75,14 @@ pub data Meanwhile (d n : ℕ) (table s : List ℕ) (from : Seen) : (turns : ℕ
       Meanwhile d n table s from k (record { state = stateAfter (turning b) (x .state); set = x .set; answer = x .answer })
   served : {k : ℕ} {x : Seen} → Meanwhile d n table s from k x → nextDesk (x .state) ≡ Desk d →
       Meanwhile d n table s from (suc k)
-      (record { state = turnInC (x .state) n table (x .set) s .state; set = turnInC (x .state) n table (x .set) s .marks; answer = turnedNumber (turnInC (x .state) n table (x .set) s .answer) })
+      (record {
+        state = turnInC (x .state) n table (x .set) s .state;
+        set = turnInC (x .state) n table (x .set) s .marks;
+        answer = turnedNumber (turnInC (x .state) n table (x .set) s .answer);
+      })
 
--- the desk's sheet has ended as it ends where it is marked alone: its last answer and its marks are those of `revosti_mark_sheet`
+-- the desk's sheet has ended as it ends where it is marked alone: its last answer and its marks are those of
+-- `revosti_mark_sheet`
 pub record EndedAlone (d n : ℕ) (table set s : List ℕ) (x : Seen) : Type 0 where
   pub answered : x .answer ≡ resultNumber (markInC struckMark n table set s) + deskBit * d
   pub marked : x .set ≡ markInC struckMark n table set s .marks
@@ -89,7 +98,8 @@ pub record PartAlone (d n : ℕ) (table set s : List ℕ) (turns : ℕ) (x : See
   pub all-lines : place .lines ≡ turns
   pub answered : 1 ≤ turns → x .answer ≡ 16777216 * turns + lineLeftBit + deskBit * d
 
--- at most as many turns as the sheet has records; once no line is left, the answer and the marks of marking alone; before, a part of it
+-- at most as many turns as the sheet has records; once no line is left, the answer and the marks of marking alone;
+-- before, a part of it
 pub record MarkedAlone (d n : ℕ) (table set s : List ℕ) (turns : ℕ) (x : Seen) : Type 0 where
   pub few : turns ≤ records (whole16 s)
   pub ended : hasLine (x .state) d ≡ false → EndedAlone d n table set s x

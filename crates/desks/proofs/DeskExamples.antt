@@ -1,8 +1,7 @@
--- The desks' state and the round robin, computed: opened desks, a sheet handed in, desks 1 and 3 with a line left and every kind of last served, and what a next
--- index comes to.
+-- The desks' state and the round robin, computed: opened desks, a sheet handed in, desks 1 and 3 with a line left and
+-- every kind of last served, and what a next index comes to.
 use Prim.Native.Nat.{ℕ}
 use mathlib.Core.Path.{_≡_, refl}
-use mathlib.Core.Bool.{true, false}
 use mathlib.Core.List.{List, [], _∷_}
 use lib.ListN.{replicate, take}
 use Rattle.endian.specs.Bytes.{littleEndian}
@@ -71,7 +70,8 @@ pub desk-busy : handInAnswer (two 0) 3 4 [] [] [] ≡ Refused 29
 unfolding handInAnswer isDesk hasLine numberAt setDesk setNumber littleEndian
 desk-busy = refl
 
--- a next index of line 3, in a sheet of 7 records of which 5 are entered: 0, above the count, not above the highest entered, and a line that waits
+-- a next index of line 3, in a sheet of 7 records of which 5 are entered: 0, above the count, not above the highest
+-- entered, and a line that waits
 pub index-ends : ahead 7 0 3 5 2 ≡ Ended (verdict.Accepted 2)
 unfolding ahead
 index-ends = refl

@@ -1,7 +1,7 @@
--- The three numbers of a desk, written and read: its own are read as they were written, and neither another number nor another byte changes. The round robin
--- takes a desk in its order. Assumes nothing.
+-- The three numbers of a desk, written and read: its own are read as they were written, and neither another number nor
+-- another byte changes. The round robin takes a desk in its order. Assumes nothing.
 use Prim.Native.Nat.{ℕ, zero, suc, _+_, _-_, _*_, _%_, _≤_, _<_}
-use mathlib.Core.Path.{_≡_, refl, sym, _∙_, ap, ap₂, subst}
+use mathlib.Core.Path.{_≡_, refl, sym, _∙_, ap, ap₂}
 use mathlib.Core.Bool.{Bool, true, false, true≢false}
 use mathlib.Core.Logic.{_⊎_, inl, inr}
 use mathlib.Core.List.{List}
@@ -9,10 +9,9 @@ use native.Mathlib.Decide.{decLt}
 use native.Mathlib.Omega.{arith}
 use lib.Dec.{ltb}
 use lib.ListN.{length, getD}
-use Rattle.desks.specs.State.{deskCount, stateBytes, numberAt, setNumber, lastServed, nextIndex, owner, linesAt, setDesk, hasLine, following, seek, nextDesk}
+use Rattle.desks.specs.State.{deskCount, numberAt, setNumber, lastServed, nextIndex, owner, linesAt, setDesk, hasLine, following, seek, nextDesk}
 use Rattle.desks.specs.Turn.{deskLeft, servedLeft}
 use Rattle.desks.specs.asks.State.{DeskAsked}
-use Rattle.desks.specs.declared.state.Next.{Next}
 use Rattle.desks.specs.declared.state.Next.the-variants as next
 use Rattle.desks.specs.declared.turn.Served.{Served}
 use Rattle.desks.specs.declared.turn.Served.the-variants.{Waits, Ended}
@@ -43,9 +42,11 @@ module _ {state : List ℕ} {d : ℕ} (a : DeskAsked state d) (i o l : ℕ) wher
   pub desk-byte : (j : ℕ) → (j + 4 < 6 * d) ⊎ (6 * d + 2 ≤ j) → getD (setDesk state d i o l) j 0 ≡ getD state j 0
   unfolding setDesk
   desk-byte j (inl h) =
-      byte-other two (3 * d) l in-two j (inl (omega (arith, a .low))) ∙ byte-other one (3 * d - 1) o in-one j (inl (omega (arith, a .low))) ∙ byte-other state (3 * d - 2) i in-state j (inl (omega (arith, a .low)))
+      byte-other two (3 * d) l in-two j (inl (omega (arith, a .low))) ∙ byte-other one (3 * d - 1) o in-one j (inl (omega (arith, a .low)))
+      ∙ byte-other state (3 * d - 2) i in-state j (inl (omega (arith, a .low)))
   desk-byte j (inr h) =
-      byte-other two (3 * d) l in-two j (inr (omega (arith, a .low))) ∙ byte-other one (3 * d - 1) o in-one j (inr (omega (arith, a .low))) ∙ byte-other state (3 * d - 2) i in-state j (inr (omega (arith, a .low)))
+      byte-other two (3 * d) l in-two j (inr (omega (arith, a .low))) ∙ byte-other one (3 * d - 1) o in-one j (inr (omega (arith, a .low)))
+      ∙ byte-other state (3 * d - 2) i in-state j (inr (omega (arith, a .low)))
 
   -- its own numbers
   pub desk-index : nextIndex (setDesk state d i o l) d ≡ i % 65536
@@ -74,7 +75,8 @@ pub apart : {d e : ℕ} (p : ℕ) → 3 * d ≤ p + 2 → p ≤ 3 * d → (d ≡
 apart {d} {e} p low high other = elim (decLt d e) [ yes l ↦ inl (omega arith) | no l ↦ let g : e < d = omega arith in inr (omega arith) ]
 
 -- another desk's line stays
-pub line-other : {state : List ℕ} {d e : ℕ} → DeskAsked state e → (i o l : ℕ) → 1 ≤ d → (d ≡ e → ⊥) → hasLine (setDesk state e i o l) d ≡ hasLine state d
+pub line-other : {state : List ℕ} {d e : ℕ} → DeskAsked state e → (i o l : ℕ) → 1 ≤ d → (d ≡ e → ⊥) →
+    hasLine (setDesk state e i o l) d ≡ hasLine state d
 unfolding hasLine
 line-other {state} {d} {e} a i o l low other =
     ap₂ ltb
@@ -111,10 +113,12 @@ module _ {state : List ℕ} {e : ℕ} (a : DeskAsked state e) where
     unfolding servedLeft
     served-byte j h out =
         let z = left-desk r in
-        byte-other (deskLeft r state e) 0 e room-first j (inr (omega arith)) ∙ ap (λ (x : List ℕ). getD x j 0) (z .3) ∙ desk-byte a (z .0) (z .1) (z .2) j out
+        byte-other (deskLeft r state e) 0 e room-first j (inr (omega arith)) ∙ ap (λ (x : List ℕ). getD x j 0) (z .3)
+        ∙ desk-byte a (z .0) (z .1) (z .2) j out
 
     pub served-other : (p : ℕ) → 1 ≤ p → (p + 2 < 3 * e) ⊎ (3 * e < p) → numberAt (servedLeft r state e) p ≡ numberAt state p
-    served-other p h out = let z = left-desk r in served-number p h ∙ ap (λ (x : List ℕ). numberAt x p) (z .3) ∙ desk-other a (z .0) (z .1) (z .2) p out
+    served-other p h out = let z = left-desk r in served-number p h ∙ ap (λ (x : List ℕ). numberAt x p) (z .3)
+        ∙ desk-other a (z .0) (z .1) (z .2) p out
 
     pub served-line : {d : ℕ} → 1 ≤ d → (d ≡ e → ⊥) → hasLine (servedLeft r state e) d ≡ hasLine state d
     unfolding hasLine
@@ -133,7 +137,8 @@ module _ (x d : ℕ) (low : 1 ≤ x) (high : x ≤ deskCount) (low′ : 1 ≤ d)
   distance-falls other = elim (decLt x d) [ yes l ↦ omega arith | no l ↦ let g : d < x = omega arith in omega arith ]
 
 -- the round robin takes no desk behind one with a line left
-pub seek-ahead : (state : List ℕ) (x d count : ℕ) → 1 ≤ x → x ≤ deskCount → 1 ≤ d → d ≤ deskCount → hasLine state d ≡ true → distance x d < count
+pub seek-ahead : (state : List ℕ) (x d count : ℕ) → 1 ≤ x → x ≤ deskCount → 1 ≤ d → d ≤ deskCount → hasLine state d ≡ true →
+    distance x d < count
     → (e : ℕ) × (seek state x count ≡ next.Desk e) × (distance e d ≤ distance x d)
 seek-ahead state x d zero low high low′ high′ h l = absurd (omega arith)
 seek-ahead state x d (suc count) low high low′ high′ h l =
@@ -143,7 +148,8 @@ seek-ahead state x d (suc count) low high low′ high′ h l =
     let r = seek-ahead state (following x) d count (following-desk x .0) (following-desk x .1) low′ high′ h (omega (arith, falls)) in
     (r .0, seek-no state x count f ∙ r .1, omega (arith, falls, r .2)))
   where
-    by : (b : Bool) → hasLine state x ≡ b → (hasLine state x ≡ false → (e : ℕ) × (seek state x (suc count) ≡ next.Desk e) × (distance e d ≤ distance x d))
+    by : (b : Bool) → hasLine state x ≡ b →
+        (hasLine state x ≡ false → (e : ℕ) × (seek state x (suc count) ≡ next.Desk e) × (distance e d ≤ distance x d))
         → (e : ℕ) × (seek state x (suc count) ≡ next.Desk e) × (distance e d ≤ distance x d)
     by true f further = (x, seek-yes state x count f, omega arith)
     by false f further = further f

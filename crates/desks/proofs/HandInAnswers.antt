@@ -1,7 +1,7 @@
 -- "Open desks", "hand in" and "next desk" in code: one lemma for each way out. Assumes nothing.
 use Prim.Native.Nat.{ℕ, _*_, _≤_, _<_}
 use mathlib.Core.Path.{_≡_, refl, sym, _∙_, ap}
-use mathlib.Core.Bool.{Bool, true, false, not}
+use mathlib.Core.Bool.{Bool, true, false}
 use mathlib.Core.List.{List, _++_}
 use native.Mathlib.Omega.{arith}
 use lib.Dec.{leb}
@@ -19,9 +19,9 @@ use Rattle.sheets.proofs.Records.{sheet-admitted, sheet-refused}
 use Rattle.marking.specs.Tests.{ready}
 use Rattle.marking.specs.declared.tests.Tested.{Tested}
 use Rattle.marking.specs.declared.tests.Tested.the-variants as tests
-use Rattle.desks.specs.State.{deskCount, stateNumbers, stateBytes, setDesk, hasLine, nextDesk, nextAnswer}
+use Rattle.desks.specs.State.{deskCount, stateNumbers, stateBytes, hasLine, nextDesk, nextAnswer}
 use Rattle.desks.specs.asks.State.{DeskAsked, SetAs}
-use Rattle.desks.specs.HandIn.{openAnswer, openBy, openLeft, OpenedAs, isDesk, untilSheet, testedSheet, handInAnswer, handInBy, handInLeft, HandedInAs}
+use Rattle.desks.specs.HandIn.{openAnswer, openLeft, OpenedAs, isDesk, untilSheet, testedSheet, handInAnswer, handInBy, handInLeft, HandedInAs}
 use Rattle.desks.specs.declared.handing.Handed.{Handed}
 use Rattle.desks.specs.declared.handing.Handed.the-variants.{Done, Refused}
 use Rattle.desks.specs.declared.state.Next.{Next}
@@ -50,7 +50,8 @@ module _ {state : List ℕ} where
   unfolding openAnswer openLeft
   open-short h = record { answered = rw (short state h); state-left = rw (short state h) }
 
-  pub open-done : stateBytes ≤ length state → {left : List ℕ} → left ≡ bytesOf 2 (replicate stateNumbers 0) ++ drop (2 * stateNumbers) state → OpenedAs state Done left
+  pub open-done : stateBytes ≤ length state → {left : List ℕ} →
+      left ≡ bytesOf 2 (replicate stateNumbers 0) ++ drop (2 * stateNumbers) state → OpenedAs state Done left
   unfolding openAnswer openLeft bytesOf littleEndian
   open-done h e = record { answered = rw (long state h); state-left = e ∙ rw (long state h) }
 
@@ -90,7 +91,8 @@ desk-asked state d room h = record { room = room; low = desk-within d h .0; high
 
 module _ (state : List ℕ) (d n : ℕ) (table marks s : List ℕ) where
   -- an answer, with the state that it leaves
-  handed : {r : Handed} → handInAnswer state d n table marks s ≡ r → {left : List ℕ} → left ≡ handInBy r state d → HandedInAs state d n table marks s r left
+  handed : {r : Handed} → handInAnswer state d n table marks s ≡ r → {left : List ℕ} → left ≡ handInBy r state d →
+      HandedInAs state d n table marks s r left
   unfolding handInLeft
   handed {r} e g = record { answered = sym e; state-left = g ∙ ap (λ (x : Handed). handInBy x state d) (sym e) }
 

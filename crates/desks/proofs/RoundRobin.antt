@@ -1,16 +1,15 @@
--- The round robin: the search for the next desk step by step, and that what it finds is a desk with a line left. Assumes nothing.
-use Prim.Native.Nat.{ℕ, zero, suc, _+_, _-_, _%_, _≤_, _<_}
+-- The round robin: the search for the next desk step by step, and that what it finds is a desk with a line left.
+-- Assumes nothing.
+use Prim.Native.Nat.{ℕ, zero, suc, _-_, _≤_, _<_}
 use mathlib.Core.Path.{_≡_, refl, sym, _∙_, ap, subst}
 use mathlib.Core.Bool.{Bool, true, false}
 use mathlib.Core.List.{List}
 use native.Mathlib.Omega.{arith}
 use lib.ListN.{length}
-use lib.Dec.{ltb}
 use borrow.Author.Tests.{ltb-true}
 use Rattle.desks.specs.State.{deskCount, stateBytes, numberAt, lastServed, nextIndex, linesAt, hasLine, following, seek, nextDesk}
-use Rattle.desks.specs.asks.State.{StateAsked, PlaceAsked, DeskAsked}
+use Rattle.desks.specs.asks.State.{StateAsked, DeskAsked}
 use Rattle.desks.specs.asks.Turn.{ServeAsked}
-use Rattle.desks.specs.declared.state.Next.{Next}
 use Rattle.desks.specs.declared.state.Next.the-variants as next
 
 pub seek-yes : (state : List ℕ) (d count : ℕ) → hasLine state d ≡ true → seek state d (suc count) ≡ next.Desk d
@@ -36,7 +35,10 @@ unfolding nextDesk
 seek-start {state} {last} {d} a e f =
     let g : following (lastServed state) ≡ d = ap following (sym e) ∙ sym f in
     subst (λ (k : ℕ). Seeking state k deskCount) g
-    (record { asked = record { room = a .room; low = following-desk (lastServed state) .0; high = following-desk (lastServed state) .1 }; goes = refl })
+    (record {
+      asked = record { room = a .room; low = following-desk (lastServed state) .0; high = following-desk (lastServed state) .1 };
+      goes = refl;
+    })
 
 module _ {state : List ℕ} {d left : ℕ} (s : Seeking state d left) where
   pub seek-found : 0 < left → hasLine state d ≡ true → next.Desk d ≡ nextDesk state
@@ -65,15 +67,18 @@ pub seek-finds : (state : List ℕ) (d count e : ℕ) → 1 ≤ d → d ≤ desk
 unfolding seek
 seek-finds state d zero e low high g = absurd (let z : _≡_ {A = ℕ} 0 1 = cc in omega arith)
 seek-finds state d (suc count) e low high g =
-    by (hasLine state d) refl (λ h. seek-finds state (following d) count e (following-desk d .0) (following-desk d .1) (sym (seek-no state d count h) ∙ g))
+    by (hasLine state d) refl
+    (λ h. seek-finds state (following d) count e (following-desk d .0) (following-desk d .1) (sym (seek-no state d count h) ∙ g))
   where
     by : (b : Bool) → hasLine state d ≡ b → (hasLine state d ≡ false → Found state e) → Found state e
-    by true h later = let q : next.Desk d ≡ next.Desk e = sym (seek-yes state d count h) ∙ g in let i : d ≡ e = cc in subst (Found state) i (record { low = low; high = high; left = h })
+    by true h later = let q : next.Desk d ≡ next.Desk e = sym (seek-yes state d count h)
+        ∙ g in let i : d ≡ e = cc in subst (Found state) i (record { low = low; high = high; left = h })
     by false h later = later h
 
 pub next-found : (state : List ℕ) {d : ℕ} → nextDesk state ≡ next.Desk d → Found state d
 unfolding nextDesk
-next-found state {d} g = seek-finds state (following (lastServed state)) deskCount d (following-desk (lastServed state) .0) (following-desk (lastServed state) .1) g
+next-found state {d} g = seek-finds state (following (lastServed state)) deskCount d (following-desk (lastServed state) .0)
+    (following-desk (lastServed state) .1) g
 
 -- so its lines are below its next index
 pub line-left : (state : List ℕ) (d : ℕ) → hasLine state d ≡ true → linesAt state d < nextIndex state d

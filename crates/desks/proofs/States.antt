@@ -1,20 +1,20 @@
--- The desks' state as numbers: what is written at a place is read there, and no other number changes; a desk's three numbers. Assumes nothing.
+-- The desks' state as numbers: what is written at a place is read there, and no other number changes; a desk's three
+-- numbers. Assumes nothing.
 use Prim.Native.Nat.{ℕ, _+_, _-_, _*_, _/_, _%_, _≤_, _<_}
 use mathlib.Core.Path.{_≡_, refl, sym, _∙_, ap, ap₂}
-use mathlib.Core.Bool.{true}
-use mathlib.Core.List.{List, [], _∷_, _++_}
+use mathlib.Core.List.{List, _++_}
 use mathlib.Core.Logic.{_⊎_, inl, inr}
 use native.Mathlib.Nat.{add-zero}
 use native.Mathlib.Decide.{decLt}
 use native.Mathlib.Omega.{arith}
-use lib.ListN.{length, getD, take, drop, length-append, length-take, length-drop, List·getD-append}
+use lib.ListN.{length, getD, take, drop, length-append, length-drop, List·getD-append}
 use lib.Seq.{length-take-le, getD-take, getD-drop, getD-append-add}
 use borrow.Author.Tests.{eq-eqb}
-use Rattle.endian.specs.Bytes.{numbers16, whole16, littleEndian}
-use Rattle.endian.specs.asks.Bytes.{Entry, Put}
+use Rattle.endian.specs.Bytes.{whole16, littleEndian}
+use Rattle.endian.specs.asks.Bytes.{Put}
 use Rattle.endian.proofs.Reading.{bytes-of16, whole-count16}
-use Rattle.desks.specs.State.{deskCount, stateNumbers, stateBytes, numberAt, setNumber, nextIndex, owner, linesAt, setDesk}
-use Rattle.desks.specs.asks.State.{StateAsked, PlaceAsked, DeskAsked, SetAs}
+use Rattle.desks.specs.State.{stateBytes, numberAt, setNumber, owner, setDesk}
+use Rattle.desks.specs.asks.State.{PlaceAsked, SetAs}
 
 -- a number is read from the first 50 bytes
 module _ {state : List ℕ} {at : ℕ} (asked : PlaceAsked state at) where
@@ -30,7 +30,8 @@ module _ {state : List ℕ} {at : ℕ} (asked : PlaceAsked state at) where
       e
       ∙ rw (eq-eqb (length (take stateBytes state) % 2) 0 (omega (arith, first-bytes))) refl
       ∙ bytes-of16 (take stateBytes state) at (omega (arith, first-bytes, asked .inside))
-      ∙ ap₂ (λ (p q : ℕ). p + 256 * q) (getD-take stateBytes state (2 * at) 0 (omega (arith, asked .inside))) (getD-take stateBytes state (2 * at + 1) 0 (omega (arith, asked .inside)))
+      ∙ ap₂ (λ (p q : ℕ). p + 256 * q) (getD-take stateBytes state (2 * at) 0 (omega (arith, asked .inside)))
+      (getD-take stateBytes state (2 * at + 1) 0 (omega (arith, asked .inside)))
 
 -- a number that is written
 pub put-number : {state : List ℕ} {at x : ℕ} {left : List ℕ} → Put 2 state at x left → left ≡ setNumber state at x
@@ -83,7 +84,8 @@ module _ (state : List ℕ) (at x : ℕ) (inside : 2 * (at + 1) ≤ length state
   pub read-same : numberAt (setNumber state at x) at ≡ x % 65536
   unfolding numberAt littleEndian
   read-same =
-      let first : getD (setNumber state at x) (2 * at) 0 ≡ x % 256 = ap (λ (k : ℕ). getD (setNumber state at x) k 0) (sym (add-zero (2 * at))) ∙ byte-from 0 in
+      let first : getD (setNumber state at x) (2 * at) 0 ≡ x % 256 = ap (λ (k : ℕ). getD (setNumber state at x) k 0)
+      (sym (add-zero (2 * at))) ∙ byte-from 0 in
       let second : getD (setNumber state at x) (2 * at + 1) 0 ≡ x / 256 % 256 = byte-from 1 in
       rw (first, second) (omega arith)
 
@@ -92,11 +94,13 @@ module _ (state : List ℕ) (at x : ℕ) (inside : 2 * (at + 1) ≤ length state
   read-other i h =
       elim (decLt i at) [
         | yes l ↦ ap₂ (λ (p q : ℕ). p + 256 * q) (byte-other (2 * i) (inl (omega arith))) (byte-other (2 * i + 1) (inl (omega arith)))
-        | no l ↦ let g : at < i = omega arith in ap₂ (λ (p q : ℕ). p + 256 * q) (byte-other (2 * i) (inr (omega arith))) (byte-other (2 * i + 1) (inr (omega arith)))
+        | no l ↦ let g : at < i = omega arith in ap₂ (λ (p q : ℕ). p + 256 * q) (byte-other (2 * i) (inr (omega arith)))
+            (byte-other (2 * i + 1) (inr (omega arith)))
       ]
 
 -- a desk's three numbers, written one after the other
-pub desk-set : {state one two three : List ℕ} {d index owner lines : ℕ} → Put 2 state (3 * d - 2) index one → Put 2 one (3 * d - 1) owner two → Put 2 two (3 * d) lines three
+pub desk-set : {state one two three : List ℕ} {d index owner lines : ℕ} → Put 2 state (3 * d - 2) index one →
+    Put 2 one (3 * d - 1) owner two → Put 2 two (3 * d) lines three
     → SetAs state d index owner lines three
 unfolding setDesk
 desk-set {d = d} {index} {owner} {lines} p q r =
@@ -104,5 +108,6 @@ desk-set {d = d} {index} {owner} {lines} p q r =
       kept = r .kept ∙ q .kept ∙ p .kept;
       written =
           put-number r
-          ∙ ap (λ (x : List ℕ). setNumber x (3 * d) lines) (put-number q ∙ ap (λ (x : List ℕ). setNumber x (3 * d - 1) owner) (put-number p));
+          ∙ ap (λ (x : List ℕ). setNumber x (3 * d) lines)
+          (put-number q ∙ ap (λ (x : List ℕ). setNumber x (3 * d - 1) owner) (put-number p));
     }

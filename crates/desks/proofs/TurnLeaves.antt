@@ -1,7 +1,7 @@
--- The marks that a turn leaves: what an accepted line keeps of the marks, a turn keeps. Over a packed set, it leaves the packed set of what it leaves of the
--- marks. Assumes nothing.
-use Prim.Native.Nat.{ℕ, _≤_, _<_}
-use mathlib.Core.Path.{_≡_, refl, sym, _∙_, ap, subst}
+-- The marks that a turn leaves: what an accepted line keeps of the marks, a turn keeps. Over a packed set, it leaves
+-- the packed set of what it leaves of the marks. Assumes nothing.
+use Prim.Native.Nat.{ℕ, _<_}
+use mathlib.Core.Path.{_≡_, refl, sym, _∙_, ap}
 use mathlib.Core.Bool.{Bool, true, false}
 use mathlib.Core.List.{List}
 use native.Mathlib.Omega.{arith}
@@ -22,7 +22,7 @@ use Rattle.marking.specs.Tests.{ready}
 use Rattle.marking.specs.declared.tests.Tested.{Tested}
 use Rattle.marking.specs.declared.tests.Tested.the-variants as tests
 use Rattle.desks.specs.State.{lent, nextDesk}
-use Rattle.desks.specs.Turn.{Outcome, servedOf, waiting, ahead, stepServed, turnFrom, turnTested, turnMarks, repackOutcome, turnPacked, turnOf, turnWith, Turn, turnOnMarks}
+use Rattle.desks.specs.Turn.{Outcome, servedOf, waiting, stepServed, turnFrom, turnTested, turnMarks, repackOutcome, turnOf, turnWith, turnOnMarks}
 use Rattle.desks.specs.declared.state.Next.{Next}
 use Rattle.desks.specs.declared.state.Next.the-variants as next
 use Rattle.desks.specs.declared.turn.Served.{Served}
@@ -31,7 +31,8 @@ use Rattle.desks.specs.declared.turn.Turned.the-variants as turned
 
 -- a turn changes marks only by an accepted line
 module _ {M : Type 0} (P : M → Type 0) where
-  pub from-keeps : (𝓜 : Marking M) (s : List ℕ) (p : Place M) → P (p .marks) → ((q : Place M) → lineStep 𝓜 s p ≡ accepted (onward q) → P (q .marks)) →
+  pub from-keeps : (𝓜 : Marking M) (s : List ℕ) (p : Place M) → P (p .marks) →
+      ((q : Place M) → lineStep 𝓜 s p ≡ accepted (onward q) → P (q .marks)) →
       P (turnFrom 𝓜 s p .marks)
   unfolding turnFrom stepServed
   from-keeps 𝓜 s p k go = by (lineStep 𝓜 s p) refl
@@ -43,11 +44,14 @@ module _ {M : Type 0} (P : M → Type 0) where
 
 -- behind any tests
 pub tested-keeps : (P : List ℕ → Type 0) (table marks s : List ℕ) (index owner lines : ℕ) → P marks → (t : Tested) →
-    ((n : ℕ) → t ≡ tests.Points n → P (turnFrom (markingOf n table) s (waiting marks index owner lines) .marks)) → P (turnTested t table marks s index owner lines .marks)
+    ((n : ℕ) → t ≡ tests.Points n → P (turnFrom (markingOf n table) s (waiting marks index owner lines) .marks)) →
+    P (turnTested t table marks s index owner lines .marks)
 tested-keeps P table marks s index owner lines k (tests.Refused number) go = k
 tested-keeps P table marks s index owner lines k (tests.Points n) go = whole (wholeSheet (length s))
   where
-    whole : (b : Bool) → P (unless b (servedOf (Ended (verdict.Refused 7 0 lines)) marks) (turnFrom (markingOf n table) s (waiting marks index owner lines)) .marks)
+    whole : (b : Bool) →
+        P (unless b (servedOf (Ended (verdict.Refused 7 0 lines)) marks)
+        (turnFrom (markingOf n table) s (waiting marks index owner lines)) .marks)
     whole true = go n refl
     whole false = k
 
@@ -61,27 +65,33 @@ turn-keeps P state marks go k each = room (lent state)
     served next.NoLine = k
     served (next.Desk d) = each _ _ _
 
-    room : (b : Bool) → P (unless b (record { answer = turned.Refused 22; state = state; marks = marks }) (turnOf (nextDesk state) state marks go) .marks)
+    room : (b : Bool) →
+        P (unless b (record { answer = turned.Refused 22; state = state; marks = marks }) (turnOf (nextDesk state) state marks go) .marks)
     room true = served (nextDesk state)
     room false = k
 
 -- marks of n points that a turn has marked are marks of n points
-pub from-set : (p : ℕ) {n : ℕ} (table s : List ℕ) {marks : List ℕ} (index owner lines : ℕ) → ByteSet n marks → ByteSet n (turnFrom (markingOf p table) s (waiting marks index owner lines) .marks)
+pub from-set : (p : ℕ) {n : ℕ} (table s : List ℕ) {marks : List ℕ} (index owner lines : ℕ) → ByteSet n marks →
+    ByteSet n (turnFrom (markingOf p table) s (waiting marks index owner lines) .marks)
 from-set p {n} table s {marks} index owner lines b =
     let at : Place (List ℕ) = waiting marks index owner lines in
-    from-keeps (ByteSet n) (markingOf p table) s at b (λ q e. step-keeps (markingOf p table) (ByteSet n) (struck-set struckMark p (omega arith)) s at q b e)
+    from-keeps (ByteSet n) (markingOf p table) s at b
+    (λ q e. step-keeps (markingOf p table) (ByteSet n) (struck-set struckMark p (omega arith)) s at q b e)
 
-pub marks-set-turned : {p : ℕ} (n : ℕ) (table s : List ℕ) {marks : List ℕ} (index owner lines : ℕ) → ByteSet p marks → ByteSet p (turnMarks n table marks s index owner lines .marks)
+pub marks-set-turned : {p : ℕ} (n : ℕ) (table s : List ℕ) {marks : List ℕ} (index owner lines : ℕ) → ByteSet p marks →
+    ByteSet p (turnMarks n table marks s index owner lines .marks)
 unfolding turnMarks
 marks-set-turned {p} n table s {marks} index owner lines b =
     tested-keeps (ByteSet p) table marks s index owner lines b (ready n table marks) (λ m e. from-set m table s index owner lines b)
 
-pub turn-byte-set : {p : ℕ} (state : List ℕ) (n : ℕ) (table s : List ℕ) {marks : List ℕ} → ByteSet p marks → ByteSet p (turnOnMarks state n table marks s .marks)
+pub turn-byte-set : {p : ℕ} (state : List ℕ) (n : ℕ) (table s : List ℕ) {marks : List ℕ} → ByteSet p marks →
+    ByteSet p (turnOnMarks state n table marks s .marks)
 turn-byte-set {p} state n table s {marks} b =
     turn-keeps (ByteSet p) state marks (turnMarks n table marks s) b (λ index owner lines. marks-set-turned n table s index owner lines b)
 
 -- a line that is marked over the marks of a well packed set leaves the packed set of what it leaves
-pub turned-packed : (p n : ℕ) (table s set : List ℕ) (index owner lines : ℕ) (r : Served) (left : List ℕ) → 0 < edgeCount n → wellPacked n set ≡ true
+pub turned-packed : (p n : ℕ) (table s set : List ℕ) (index owner lines : ℕ) (r : Served) (left : List ℕ) → 0 < edgeCount n →
+    wellPacked n set ≡ true
     → servedOf r (marksOf n left) ≡ turnFrom (markingOf p table) s (waiting (marksOf n set) index owner lines)
     → servedOf r left ≡ repackOutcome n set (turnFrom (markingOf p table) s (waiting (marksOf n set) index owner lines))
 unfolding repacked
@@ -97,7 +107,9 @@ module _ (state marks : List ℕ) (go : (index owner lines : ℕ) → Outcome (L
   unfolding turnWith
   turned-desk {d} {r} = room (lent state)
     where
-      room : (b : Bool) → unless b (record { answer = turned.Refused 22; state = state; marks = marks }) (turnOf (nextDesk state) state marks go) .answer ≡ turned.Desk d r → nextDesk state ≡ next.Desk d
+      room : (b : Bool) →
+          unless b (record { answer = turned.Refused 22; state = state; marks = marks }) (turnOf (nextDesk state) state marks go) .answer
+          ≡ turned.Desk d r → nextDesk state ≡ next.Desk d
       room true e = by (nextDesk state) refl e
         where
           by : (x : Next) → nextDesk state ≡ x → turnOf x state marks go .answer ≡ turned.Desk d r → nextDesk state ≡ next.Desk d

@@ -1,5 +1,5 @@
--- The operations "open desks" and "hand in" (02, Paper 14): 22; "28, desk outside 1 to 8; 29, handing in while that desk's sheet still has a line; both before
--- all tests of the sheet", which are those of direct marking.
+-- The operations "open desks" and "hand in" (02, Paper 14): 22; "28, desk outside 1 to 8; 29, handing in while that
+-- desk's sheet still has a line; both before all tests of the sheet", which are those of direct marking.
 use Prim.Native.Nat.{ℕ}
 use mathlib.Core.Path.{_≡_}
 use mathlib.Core.Bool.{Bool, not, _&&_}

@@ -1,5 +1,6 @@
--- The desks' state (02, Paper 14), a round robin over eight: lent bytes, of which the first 50 are 25 numbers of 16 bits. The first is the last desk
--- served, 0 at first; then of each desk come the index of its next line, the record that has this index, and the lines accepted. Any bytes are a state.
+-- The desks' state (02, Paper 14), a round robin over eight: lent bytes, of which the first 50 are 25 numbers of 16
+-- bits. The first is the last desk served, 0 at first; then of each desk come the index of its next line, the record
+-- that has this index, and the lines accepted. Any bytes are a state.
 use Prim.Native.Nat.{ℕ, zero, suc, _+_, _-_, _*_, _%_}
 use mathlib.Core.Bool.{Bool, true, false}
 use mathlib.Core.List.{List, _++_}

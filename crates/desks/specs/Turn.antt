@@ -1,7 +1,8 @@
--- The operation "turn" (02, Paper 14): "One turn marks one line of one desk: the next desk after the last served .. that has a line left".
-use Prim.Native.Nat.{ℕ, suc}
+-- The operation "turn" (02, Paper 14): "One turn marks one line of one desk: the next desk after the last served ..
+-- that has a line left".
+use Prim.Native.Nat.{ℕ}
 use mathlib.Core.Path.{_≡_}
-use mathlib.Core.Bool.{Bool, true, false}
+use mathlib.Core.Bool.{true, false}
 use mathlib.Core.List.{List}
 use lib.Dec.{eqb, leb, ltb}
 use lib.ListN.{length}
@@ -36,7 +37,8 @@ servedOf r left = record { marks = left; served = r }
 abbrev pub waiting : {M : Type 0} → M → (index owner lines : ℕ) → Place M
 waiting marks index owner lines = record { marks = marks; lines = lines; last = owner; index = index; high = 0 }
 
--- "a next index refused by 8 or 9 is told in the turn of the line that has it", of a sheet of so many records; index 0 ends the sheet
+-- "a next index refused by 8 or 9 is told in the turn of the line that has it", of a sheet of so many records; index 0
+-- ends the sheet
 unfoldable pub ahead : (count index owner high lines : ℕ) → Served
 ahead count index owner high lines =
     elim (eqb index 0) [
@@ -56,7 +58,8 @@ stepServed s p (refused number rec) = servedOf (Ended (verdict.Refused number re
 unfoldable pub turnFrom : {M : Type 0} → Marking M → List ℕ → Place M → Outcome M
 turnFrom 𝓜 s p = stepServed s p (lineStep 𝓜 s p)
 
--- "A turn first repeats the sheet's tests up to 7": a failure ends the sheet with no record at fault, and its lines are kept
+-- "A turn first repeats the sheet's tests up to 7": a failure ends the sheet with no record at fault, and its lines are
+-- kept
 abbrev pub turnTested : Tested → (table marks s : List ℕ) → (index owner lines : ℕ) → Outcome (List ℕ)
 turnTested (tests.Refused number) table marks s index owner lines = servedOf (Ended (verdict.Refused number 0 lines)) marks
 turnTested (tests.Points n) table marks s index owner lines =
@@ -95,7 +98,8 @@ turnOf (next.Desk d) state marks go =
     record { answer = turned.Desk d (r .served); state = servedLeft (r .served) state d; marks = r .marks }
 
 unfoldable pub turnWith : List ℕ → List ℕ → (go : (index owner lines : ℕ) → Outcome (List ℕ)) → Turn
-turnWith state marks go = unless (lent state) (record { answer = turned.Refused 22; state = state; marks = marks }) (turnOf (nextDesk state) state marks go)
+turnWith state marks go = unless (lent state) (record { answer = turned.Refused 22; state = state; marks = marks })
+    (turnOf (nextDesk state) state marks go)
 
 -- over the marks of the edges, and over a packed set
 abbrev pub turnOnMarks : List ℕ → ℕ → (table marks s : List ℕ) → Turn

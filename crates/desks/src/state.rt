@@ -1,5 +1,6 @@
-// The desks' state: 25 numbers of 16 bits in the first 50 of the bytes that are lent. The first is the last desk served, 0 at first; then of each desk come
-// the index of its next line, the record that has this index, and the lines accepted. Any bytes are a state.
+// The desks' state: 25 numbers of 16 bits in the first 50 of the bytes that are lent. The first is the last desk
+// served, 0 at first; then of each desk come the index of its next line, the record that has this index, and the lines
+// accepted. Any bytes are a state.
 use endian::bytes::number16;
 use endian::bytes::put16;
 use lengths::refusal;

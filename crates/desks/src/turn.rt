@@ -20,21 +20,23 @@ use sheets::sheet::Sheet;
 use sheets::sheet::SheetAdmission;
 use sheets::verdict::Verdict;
 ghost use mathlib.Core.Path.{_≡_};
+ghost use Prim.Native.Nat.{_<_};
 ghost use Rattle.endian.specs.Bytes.{whole16, whole32};
 ghost use Rattle.marks.specs.Packed.{marksOf};
 ghost use Rattle.sheets.specs.Rules.{markingOf};
 ghost use Rattle.desks.specs.Turn.{servedOf, waiting, ahead, turnFrom, turnPacked, TurnedAs};
-ghost use Prim.Native.Nat.{_<_};
 ghost use Rattle.desks.specs.asks.State.{DeskAsked};
 ghost use Rattle.desks.specs.asks.Turn.{TurnAdmitted, TurnRows, ServeAsked, ServedAs, PutBackAs};
 
-// What a turn makes of a desk's sheet: its next line waits at an index, which the record `owner` has, or the sheet has ended.
+// What a turn makes of a desk's sheet: its next line waits at an index, which the record `owner` has, or the sheet has
+// ended.
 pub enum Served {
     Waits { index: u16, owner: u16, lines: u16 },
     Ended(Verdict),
 }
 
-// The answer of "turn": the number of the refusal; that no desk has a line left; or the desk that was served, and what came of it.
+// The answer of "turn": the number of the refusal; that no desk has a line left; or the desk that was served, and what
+// came of it.
 pub enum Turned {
     Refused(u8),
     NoLine,
@@ -61,7 +63,8 @@ fn accepted(lines: u16) -> Served
     Served::Ended(verdict)
 }
 
-// Looks at the next index of an accepted line, in the same turn: 0 ends the sheet, 8 and 9 refuse it, and else the line there waits.
+// Looks at the next index of an accepted line, in the same turn: 0 ends the sheet, 8 and 9 refuse it, and else the line
+// there waits.
 fn ahead(count: u16, index: u16, owner: u16, high: u16, lines: u16) -> Served
     ensures { λ r. ⌜ r ≡ ahead count index owner high lines ⌝ }
 {
@@ -81,7 +84,8 @@ fn ahead(count: u16, index: u16, owner: u16, high: u16, lines: u16) -> Served
     }
 }
 
-// Writes the rows of lengths, and marks the line that waits by them.
+// Writes the rows of lengths, and marks the line that waits by them. Its index was found above every record entered,
+// so none is handed on as the highest.
 fn turn_by_rows(
     n: u16,
     table: &[u8],
@@ -117,7 +121,8 @@ fn turn_by_rows(
     }
 }
 
-// Marks the line that waits, of a sheet that passed the tests and has so many records. Few points take a small array, which is cleared sooner.
+// Marks the line that waits, of a sheet that passed the tests and has so many records. Few points take a small array,
+// which is cleared sooner.
 fn turn_admitted(
     n: u16,
     table: &[u8],

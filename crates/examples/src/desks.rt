@@ -1,4 +1,5 @@
-// Eight desks on the square: opening, handing in, next desk and turn, with their refusals and every way in which a turn ends a sheet.
+// Eight desks on the square: opening, handing in, next desk and turn, with their refusals and every way in which a turn
+// ends a sheet.
 use answers::data::begin;
 use answers::data::put;
 use answers::data::some_bytes;

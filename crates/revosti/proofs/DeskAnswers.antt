@@ -1,14 +1,15 @@
--- Eight desks for C: the numbers of the answers, and what the functions return from what their callees ensure. Assumes nothing.
+-- Eight desks for C: the numbers of the answers, and what the functions return from what their callees ensure. Assumes
+-- nothing.
 use Prim.Native.Nat.{ℕ, _+_, _*_, _≤_, _<_}
-use mathlib.Core.Path.{_≡_, refl, sym, _∙_, ap, subst}
+use mathlib.Core.Path.{_≡_, sym, _∙_, ap, subst}
 use mathlib.Core.List.{List, []}
 use native.Mathlib.Omega.{arith}
 use Rattle.endian.specs.Bytes.{whole16, whole32}
 use Rattle.marks.specs.Packed.{marksOf}
 use Rattle.sheets.specs.declared.verdict.Verdict.{Verdict}
 use Rattle.desks.specs.HandIn.{OpenedAs, HandedInAs}
-use Rattle.desks.specs.State.{deskCount, nextAnswer, nextDesk}
-use Rattle.desks.specs.Turn.{turnPacked, turn, TurnedAs}
+use Rattle.desks.specs.State.{deskCount, nextAnswer}
+use Rattle.desks.specs.Turn.{turnPacked, TurnedAs}
 use Rattle.desks.specs.declared.handing.Handed.{Handed}
 use Rattle.desks.specs.declared.state.NextAnswer.{NextAnswer}
 use Rattle.desks.specs.declared.turn.Served.{Served}
@@ -23,7 +24,8 @@ use Rattle.revosti.specs.asks.Mark.{MarkNumber}
 
 -- the number of what came of a desk's sheet
 module _ {s : Served} where
-  pub waits-number : {index owner lines : ℕ} → s ≡ served.Waits index owner lines → lines < 65536 → ServedNumber s (16777216 * lines + lineLeftBit)
+  pub waits-number : {index owner lines : ℕ} → s ≡ served.Waits index owner lines → lines < 65536 →
+      ServedNumber s (16777216 * lines + lineLeftBit)
   unfolding servedNumber
   waits-number e h = record { number = rw e; small = omega arith }
 
@@ -41,17 +43,20 @@ module _ {t : Turned} where
   desk-few e f = subst DeskIn e (f .few)
 
 -- what the functions for C return
-pub opened-in-c : {state : List ℕ} {answer : Handed} {left : List ℕ} {r : ℕ} → OpenedAs state answer left → r ≡ handedNumber answer → OpenedInC state r left
+pub opened-in-c : {state : List ℕ} {answer : Handed} {left : List ℕ} {r : ℕ} → OpenedAs state answer left → r ≡ handedNumber answer →
+    OpenedInC state r left
 opened-in-c o e = record { answered = e ∙ ap handedNumber (o .answered); state-left = o .state-left }
 
-pub handed-in-c : (state : List ℕ) (d n : ℕ) (table set s : List ℕ) {answer : Handed} {left : List ℕ} {r : ℕ} → HandedInAs state d n (whole32 table) (marksOf n set) (whole16 s) answer left
+pub handed-in-c : (state : List ℕ) (d n : ℕ) (table set s : List ℕ) {answer : Handed} {left : List ℕ} {r : ℕ} →
+    HandedInAs state d n (whole32 table) (marksOf n set) (whole16 s) answer left
     → r ≡ handedNumber answer → HandedInC state d n table set s r left
 handed-in-c state d n table set s h e = record { answered = e ∙ ap handedNumber (h .answered); state-left = h .state-left }
 
 pub next-in-c : (state : List ℕ) {answer : NextAnswer} {r : ℕ} → answer ≡ nextAnswer state → r ≡ nextNumber answer → NextInC state r
 next-in-c state a e = record { answered = e ∙ ap nextNumber a }
 
-module _ (state : List ℕ) (n : ℕ) (table set s : List ℕ) {answer : Turned} {state-out set-out : List ℕ} (t : TurnedAs state n (whole32 table) set (whole16 s) answer state-out set-out) where
+module _ (state : List ℕ) (n : ℕ) (table set s : List ℕ) {answer : Turned} {state-out set-out : List ℕ}
+    (t : TurnedAs state n (whole32 table) set (whole16 s) answer state-out set-out) where
   -- the desk that is served is one of the eight
   pub turn-few : FewDesks answer
   turn-few = record { few = by answer (sym (t .answered)) }

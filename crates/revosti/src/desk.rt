@@ -62,7 +62,8 @@ fn served_number(served: Served) -> u64
     }
 }
 
-// The refusal number alone; 0 where no desk has a line left; or the number of what came of the served desk, and the desk.
+// The refusal number alone; 0 where no desk has a line left; or the number of what came of the served desk, and the
+// desk.
 fn turned_number(turned: Turned) -> u64
     requires { ⌜ FewDesks turned ⌝ }
     ensures { λ r. ⌜ r ≡ turnedNumber turned ⌝ }

@@ -34,5 +34,6 @@ pub record PutBackAs (state : List ℕ) (desk : ℕ) (served : Served) (left : L
 -- what serving a desk answers and leaves
 pub record ServedAs (state : List ℕ) (desk n : ℕ) (table set s : List ℕ) (answer : Served) (state-out set-out : List ℕ) : Type 0 where
   pub answered : answer ≡ turnPacked n table set s (nextIndex state desk) (owner state desk) (linesAt state desk) .served
-  pub state-left : state-out ≡ servedLeft (turnPacked n table set s (nextIndex state desk) (owner state desk) (linesAt state desk) .served) state desk
+  pub state-left : state-out ≡ servedLeft
+      (turnPacked n table set s (nextIndex state desk) (owner state desk) (linesAt state desk) .served) state desk
   pub set-left : set-out ≡ turnPacked n table set s (nextIndex state desk) (owner state desk) (linesAt state desk) .marks

@@ -32,7 +32,8 @@ same-length : tie.Need-same-length
 same-length c = search needs
 
 returns-3 : tie.Need-returns-3
-returns-3 c = hand-in-busy _ _ _ _ _ _ (c .before .before .before .before .before .if1 .left) (at-desk (c .before .before .before)) (sym (c .before .has-line .ensures) ∙ c .if3 .taken)
+returns-3 c = hand-in-busy _ _ _ _ _ _ (c .before .before .before .before .before .if1 .left) (at-desk (c .before .before .before))
+    (sym (c .before .has-line .ensures) ∙ c .if3 .taken)
 
 test-sheet-requires : tie.Need-test-sheet-requires
 test-sheet-requires c κs = search needs
@@ -44,19 +45,29 @@ enum-told : tie.Need-enum-told
 enum-told c = search needs
 
 set-desk-requires : tie.Need-set-desk-requires
-set-desk-requires c κs = desk-asked _ _ (c .before .before .before .before .before .before .before .before .before .if1 .left) (at-desk (c .before .before .before .before .before .before .before))
+set-desk-requires c κs = desk-asked _ _ (c .before .before .before .before .before .before .before .before .before .if1 .left)
+    (at-desk (c .before .before .before .before .before .before .before))
 
 same-length-2 : tie.Need-same-length-2
 same-length-2 c = search needs
 
 returns-4 : tie.Need-returns-4
-returns-4 c = hand-in-refused _ _ _ _ _ _ (c .before .before .before .before .before .before .before .before .before .if1 .left) (at-desk (c .before .before .before .before .before .before .before)) (sym (c .before .before .before .before .before .has-line .ensures) ∙ c .before .before .before .before .if3 .left) (c .before .before .before .test-sheet .ensures) (c .before .refusal .given .1)
+returns-4 c = hand-in-refused _ _ _ _ _ _ (c .before .before .before .before .before .before .before .before .before .if1 .left)
+    (at-desk (c .before .before .before .before .before .before .before))
+    (sym (c .before .before .before .before .before .has-line .ensures) ∙ c .before .before .before .before .if3 .left)
+    (c .before .before .before .test-sheet .ensures) (c .before .refusal .given .1)
 
 same-length-3 : tie.Need-same-length-3
 same-length-3 c = search needs
 
 returns-5 : tie.Need-returns-5
-returns-5 c = hand-in-done _ _ _ _ _ _ (c .before .before .before .before .before .before .before .before .before .before .before .before .if1 .left) (at-desk (c .before .before .before .before .before .before .before .before .before .before)) (sym (c .before .before .before .before .before .before .before .before .has-line .ensures) ∙ c .before .before .before .before .before .before .before .if3 .left) (c .before .before .before .before .before .before .test-sheet .ensures) (c .before .before .before .before .enum-told .given .1) (c .before .before .set-desk .ensures)
+returns-5 c = hand-in-done _ _ _ _ _ _
+    (c .before .before .before .before .before .before .before .before .before .before .before .before .if1 .left)
+    (at-desk (c .before .before .before .before .before .before .before .before .before .before))
+    (sym (c .before .before .before .before .before .before .before .before .has-line .ensures)
+    ∙ c .before .before .before .before .before .before .before .if3 .left)
+    (c .before .before .before .before .before .before .test-sheet .ensures) (c .before .before .before .before .enum-told .given .1)
+    (c .before .before .set-desk .ensures)
 
 pub hand-in-spec : {M : Type 1} → statement M
 hand-in-spec =

@@ -31,10 +31,14 @@ enum-told-3 : tie.Need-enum-told-3
 enum-told-3 c = search needs
 
 returns-2 : tie.Need-returns-2
-returns-2 c = sheet-refuses _ _ _ _ (c .before .before .before .before .before .before .test-ready .ensures) (c .before .before .before .before .enum-told .given .1) (c .before .before .admit .ensures ∙ ap sheetAdmission (c .before .before .before .count16 .ensures)) (c .enum-told2 .given .1)
+returns-2 c = sheet-refuses _ _ _ _ (c .before .before .before .before .before .before .test-ready .ensures)
+    (c .before .before .before .before .enum-told .given .1)
+    (c .before .before .admit .ensures ∙ ap sheetAdmission (c .before .before .before .count16 .ensures)) (c .enum-told2 .given .1)
 
 returns-3 : tie.Need-returns-3
-returns-3 c = sheet-passes _ _ _ _ (c .before .before .before .before .before .before .test-ready .ensures) (c .before .before .before .before .enum-told .given .1) (c .before .before .admit .ensures ∙ ap sheetAdmission (c .before .before .before .count16 .ensures)) (c .enum-told3 .given .1)
+returns-3 c = sheet-passes _ _ _ _ (c .before .before .before .before .before .before .test-ready .ensures)
+    (c .before .before .before .before .enum-told .given .1)
+    (c .before .before .admit .ensures ∙ ap sheetAdmission (c .before .before .before .count16 .ensures)) (c .enum-told3 .given .1)
 
 pub test-sheet-spec : {M : Type 1} → statement M
 test-sheet-spec =

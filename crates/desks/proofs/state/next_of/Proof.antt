@@ -24,7 +24,8 @@ has-line-requires : tie.Need-has-line-requires Inv-loop μ-loop
 has-line-requires c κs = search needs
 
 returns : tie.Need-returns Inv-loop μ-loop
-returns c = seek-found (c .before .before .before .loop .inv) (c .before .before .loop-test .taken) (sym (c .before .has-line .ensures) ∙ c .if1 .taken)
+returns c = seek-found (c .before .before .before .loop .inv) (c .before .before .loop-test .taken)
+    (sym (c .before .has-line .ensures) ∙ c .if1 .taken)
 
 following-requires-2 : tie.Need-following-requires-2 Inv-loop μ-loop
 following-requires-2 c κs = search needs
@@ -36,7 +37,8 @@ loop-less : tie.Need-loop-less Inv-loop μ-loop
 loop-less c = search needs
 
 loop-again : tie.Need-loop-again Inv-loop μ-loop
-loop-again c = seek-on (c .before .before .before .before .loop .inv) (c .before .before .before .loop-test .taken) (sym (c .before .before .has-line .ensures) ∙ c .before .if1 .left) (c .following2 .ensures)
+loop-again c = seek-on (c .before .before .before .before .loop .inv) (c .before .before .before .loop-test .taken)
+    (sym (c .before .before .has-line .ensures) ∙ c .before .if1 .left) (c .following2 .ensures)
 
 returns-2 : tie.Need-returns-2 Inv-loop μ-loop
 returns-2 c = seek-ends (c .before .loop .inv) (c .loop-test .left)

@@ -1,4 +1,5 @@
--- `desks::state::number_at` meets its contract: the first 50 bytes are whole numbers, and the number there is made of its two bytes. Assumes nothing.
+-- `desks::state::number_at` meets its contract: the first 50 bytes are whole numbers, and the number there is made of
+-- its two bytes. Assumes nothing.
 use Rattle.desks.proofs.States.{first-bytes, place-inside, number-read}
 use mathlib.Core.Path.{sym}
 use Rattle.desks.proofs.state.number_at.Statement.{statement}

@@ -26,7 +26,8 @@ same-length : tie.Need-same-length
 same-length c = search needs
 
 returns : tie.Need-returns
-returns c = desk-set (c .before .before .before .before .before .before .before .before .before .before .put16 .ensures) (c .before .before .before .before .before .before .put162 .ensures) (c .before .before .put163 .ensures)
+returns c = desk-set (c .before .before .before .before .before .before .before .before .before .before .put16 .ensures)
+    (c .before .before .before .before .before .before .put162 .ensures) (c .before .before .put163 .ensures)
 
 pub set-desk-spec : {M : Type 1} → statement M
 set-desk-spec =

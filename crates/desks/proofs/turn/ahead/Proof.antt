@@ -21,7 +21,8 @@ stopped-requires-2 : tie.Need-stopped-requires-2
 stopped-requires-2 c κs = search needs
 
 returns-3 : tie.Need-returns-3
-returns-3 c = c .stopped2 .ensures ∙ ahead-9 _ _ _ _ _ (c .before .before .before .if1 .left) (c .before .before .if2 .left) (c .before .if3 .taken)
+returns-3 c = c .stopped2 .ensures
+    ∙ ahead-9 _ _ _ _ _ (c .before .before .before .if1 .left) (c .before .before .if2 .left) (c .before .if3 .taken)
 
 returns-4 : tie.Need-returns-4
 returns-4 c = ahead-waits _ _ _ _ _ (c .before .before .if1 .left) (c .before .if2 .left) (c .if3 .left)

@@ -17,13 +17,15 @@ enum-known-desk : tie.Need-enum-known-desk
 enum-known-desk c = search needs
 
 serve-requires : tie.Need-serve-requires
-serve-requires c κs = turn-serves _ (c .before .before .before .before .before .before .before .if1 .left) (c .before .before .before .before .before .next-of .ensures) (c .before .before .before .desk .given .1)
+serve-requires c κs = turn-serves _ (c .before .before .before .before .before .before .before .if1 .left)
+    (c .before .before .before .before .before .next-of .ensures) (c .before .before .before .desk .given .1)
 
 same-length : tie.Need-same-length
 same-length c = search needs
 
 returns-2 : tie.Need-returns-2
-returns-2 c = turn-none _ _ _ _ _ (c .before .before .before .before .if1 .left) (c .before .before .next-of .ensures) (c .enum-told .given .1)
+returns-2 c = turn-none _ _ _ _ _ (c .before .before .before .before .if1 .left) (c .before .before .next-of .ensures)
+    (c .enum-told .given .1)
 
 same-length-2 : tie.Need-same-length-2
 same-length-2 c = search needs
@@ -32,7 +34,10 @@ same-length-3 : tie.Need-same-length-3
 same-length-3 c = search needs
 
 returns-3 : tie.Need-returns-3
-returns-3 c = turn-served _ _ _ _ _ (c .before .before .before .before .before .before .before .before .before .before .before .before .if1 .left) (c .before .before .before .before .before .before .before .before .before .before .next-of .ensures) (c .before .before .before .before .before .before .before .before .desk .given .1) (c .before .before .before .before .serve .ensures)
+returns-3 c = turn-served _ _ _ _ _
+    (c .before .before .before .before .before .before .before .before .before .before .before .before .if1 .left)
+    (c .before .before .before .before .before .before .before .before .before .before .next-of .ensures)
+    (c .before .before .before .before .before .before .before .before .desk .given .1) (c .before .before .before .before .serve .ensures)
 
 pub turn-spec : {M : Type 1} → statement M
 turn-spec =

@@ -1,4 +1,5 @@
--- `desks::turn::turn_by_rows` meets its contract: each answer of `mark_line` has its lemma in `TurnAnswers`. Assumes nothing.
+-- `desks::turn::turn_by_rows` meets its contract: each answer of `mark_line` has its lemma in `TurnAnswers`. Assumes
+-- nothing.
 use Rattle.desks.proofs.TurnAnswers.{turn-over, turn-stops, turn-strikes}
 use borrow.Author.Needs.{needs}
 use Rattle.desks.proofs.turn.turn_by_rows.Statement.{statement}
@@ -38,7 +39,8 @@ same-length-2 : tie.Need-same-length-2
 same-length-2 c = search needs
 
 returns : tie.Need-returns
-returns c = turn-over (c .before .before .before .before .before .before .before .before .before .before .before .before .before .before .before .before .pre) (c .before .before .before .before .before .mark-line .ensures) (c .before .enum-told .given .1) (c .accepted .ensures)
+returns c = turn-over
+    (c .before .before .before .before .before .before .before .before .before .before .before .before .before .before .before .before .pre) (c .before .before .before .before .before .mark-line .ensures) (c .before .enum-told .given .1) (c .accepted .ensures)
 
 same-length-3 : tie.Need-same-length-3
 same-length-3 c = search needs
@@ -47,7 +49,8 @@ same-length-4 : tie.Need-same-length-4
 same-length-4 c = search needs
 
 returns-2 : tie.Need-returns-2
-returns-2 c = turn-stops (c .before .before .before .before .before .before .before .before .before .before .before .before .before .before .before .before .before .pre) (c .before .before .before .before .before .before .mark-line .ensures) (c .before .before .number .given .1) (c .stopped .ensures)
+returns-2 c = turn-stops
+    (c .before .before .before .before .before .before .before .before .before .before .before .before .before .before .before .before .before .pre) (c .before .before .before .before .before .before .mark-line .ensures) (c .before .before .number .given .1) (c .stopped .ensures)
 
 same-length-5 : tie.Need-same-length-5
 same-length-5 c = search needs
@@ -56,7 +59,8 @@ same-length-6 : tie.Need-same-length-6
 same-length-6 c = search needs
 
 returns-3 : tie.Need-returns-3
-returns-3 c = turn-strikes (c .before .before .before .before .before .before .before .before .before .before .before .before .before .before .before .before .before .pre) (c .before .before .before .before .before .before .mark-line .ensures) (c .before .before .next .given .1) (c .ahead .ensures)
+returns-3 c = turn-strikes
+    (c .before .before .before .before .before .before .before .before .before .before .before .before .before .before .before .before .before .pre) (c .before .before .before .before .before .before .mark-line .ensures) (c .before .before .next .given .1) (c .ahead .ensures)
 
 pub turn-by-rows-spec : {M : Type 1} → statement M
 turn-by-rows-spec =

@@ -22,7 +22,8 @@ same-length : tie.Need-same-length
 same-length c = search needs
 
 returns : tie.Need-returns
-returns c = turn-untested _ _ _ _ _ _ _ (c .before .before .before .before .test-ready .ensures) (c .before .before .number .given .1) (c .stopped .ensures)
+returns c = turn-untested _ _ _ _ _ _ _ (c .before .before .before .before .test-ready .ensures) (c .before .before .number .given .1)
+    (c .stopped .ensures)
 
 count16-requires : tie.Need-count16-requires
 count16-requires c κs = search needs
@@ -40,19 +41,33 @@ enum-known-admitted : tie.Need-enum-known-admitted
 enum-known-admitted c = search needs
 
 turn-admitted-requires : tie.Need-turn-admitted-requires
-turn-admitted-requires c κs = turn-admits _ (c .before .before .before .before .before .before .before .before .before .before .before .before .before .before .args .marks .now) (c .before .before .before .before .before .before .before .before .before .test-ready .ensures) (c .before .before .before .before .before .before .before .points .given .1) (c .before .before .before .before .admit .ensures ∙ ap sheetAdmission (c .before .before .before .before .before .count16 .ensures)) (c .before .before .admitted .given .1) (c .before .before .before .before .before .before .before .before .before .before .before .before .before .before .pre)
+turn-admitted-requires c κs = turn-admits _
+    (c .before .before .before .before .before .before .before .before .before .before .before .before .before .before .args .marks .now)
+    (c .before .before .before .before .before .before .before .before .before .test-ready .ensures)
+    (c .before .before .before .before .before .before .before .points .given .1)
+    (c .before .before .before .before .admit .ensures ∙ ap sheetAdmission (c .before .before .before .before .before .count16 .ensures))
+    (c .before .before .admitted .given .1)
+    (c .before .before .before .before .before .before .before .before .before .before .before .before .before .before .pre)
 
 same-length-2 : tie.Need-same-length-2
 same-length-2 c = search needs
 
 returns-2 : tie.Need-returns-2
-returns-2 c = turn-not-whole _ _ _ _ _ _ _ (c .before .before .before .before .before .before .before .before .test-ready .ensures) (c .before .before .before .before .before .before .points .given .1) (c .before .before .before .admit .ensures ∙ ap sheetAdmission (c .before .before .before .before .count16 .ensures)) (c .before .enum-told .given .1) (c .stopped2 .ensures)
+returns-2 c = turn-not-whole _ _ _ _ _ _ _ (c .before .before .before .before .before .before .before .before .test-ready .ensures)
+    (c .before .before .before .before .before .before .points .given .1)
+    (c .before .before .before .admit .ensures ∙ ap sheetAdmission (c .before .before .before .before .count16 .ensures))
+    (c .before .enum-told .given .1) (c .stopped2 .ensures)
 
 same-length-3 : tie.Need-same-length-3
 same-length-3 c = search needs
 
 returns-3 : tie.Need-returns-3
-returns-3 c = turn-marked _ _ _ _ _ _ _ (c .before .before .before .before .before .before .before .before .before .before .before .before .test-ready .ensures) (c .before .before .before .before .before .before .before .before .before .before .points .given .1) (c .before .before .before .before .before .before .before .admit .ensures ∙ ap sheetAdmission (c .before .before .before .before .before .before .before .before .count16 .ensures)) (c .before .before .before .before .before .admitted .given .1) (c .before .before .turn-admitted .ensures)
+returns-3 c = turn-marked _ _ _ _ _ _ _
+    (c .before .before .before .before .before .before .before .before .before .before .before .before .test-ready .ensures)
+    (c .before .before .before .before .before .before .before .before .before .before .points .given .1)
+    (c .before .before .before .before .before .before .before .admit .ensures
+    ∙ ap sheetAdmission (c .before .before .before .before .before .before .before .before .count16 .ensures))
+    (c .before .before .before .before .before .admitted .given .1) (c .before .before .turn-admitted .ensures)
 
 pub turn-sheet-spec : {M : Type 1} → statement M
 turn-sheet-spec =

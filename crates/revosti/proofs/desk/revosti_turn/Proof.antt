@@ -1,4 +1,5 @@
--- `revosti::desk::revosti_turn` meets its contract: the answer's number, and the state and the set that are left. Assumes nothing.
+-- `revosti::desk::revosti_turn` meets its contract: the answer's number, and the state and the set that are left.
+-- Assumes nothing.
 use Rattle.revosti.proofs.DeskAnswers.{turn-few, turned-in-c}
 use borrow.Author.Needs.{needs}
 use Rattle.revosti.proofs.desk.revosti_turn.Statement.{statement}

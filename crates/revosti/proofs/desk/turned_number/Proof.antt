@@ -1,4 +1,5 @@
--- `revosti::desk::turned_number` meets its contract: the desk is one of the eight, so that the sum has 64 bits. Assumes nothing.
+-- `revosti::desk::turned_number` meets its contract: the desk is one of the eight, so that the sum has 64 bits. Assumes
+-- nothing.
 use native.Mathlib.Omega.{arith}
 use Rattle.revosti.specs.Desk.{turnedNumber}
 use Rattle.revosti.proofs.DeskAnswers.{desk-number, desk-few}
@@ -28,7 +29,8 @@ mul-result : tie.Need-mul-result
 mul-result c = search needs
 
 add-result : tie.Need-add-result
-add-result c = omega (arith, c .served-number .ensures .small, desk-few (c .before .before .turned2 .given .1) (c .before .before .before .before .pre))
+add-result c = omega
+    (arith, c .served-number .ensures .small, desk-few (c .before .before .turned2 .given .1) (c .before .before .before .before .pre))
 
 returns : tie.Need-returns
 unfolding turnedNumber
