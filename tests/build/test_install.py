@@ -98,9 +98,9 @@ class Folder(unittest.TestCase):
 
     @unittest.skipUnless(COMMAND, "there is no command yet")
     def test_the_command(self):
-        status, out, told = run(self.prefix / "bin/revosti", "pairs", ROOT / "examples/square.txt", *"123")
+        status, out, told = run(self.prefix / "bin/revosti", "pairs", ROOT / "examples/square.bin", *"123")
         self.assertEqual((status, told), (0, ""))
-        self.assertIn("1 4", out)
+        self.assertIn("pair 1-4\npair 2-4\n", out)
 
     def test_bad_use(self):
         for words in ((), ("",), ("a", "b"), ("--help",)):
@@ -145,9 +145,9 @@ class Pip(unittest.TestCase):
 
     @unittest.skipUnless(COMMAND, "there is no command yet")
     def test_the_command(self):
-        status, out, told = run(self.folder / "fresh/bin/revosti", "pairs", ROOT / "examples/square.txt", *"123")
+        status, out, told = run(self.folder / "fresh/bin/revosti", "pairs", ROOT / "examples/square.bin", *"123")
         self.assertEqual((status, told), (0, ""))
-        self.assertIn("1 4", out)
+        self.assertIn("pair 1-4\npair 2-4\n", out)
 
 
 if __name__ == "__main__":
