@@ -1,11 +1,12 @@
 /*
- * Reads a board, FILE.tsp, and its set of marks, FILE.marks, prints the open edges with their lengths, and checks the tour that goes over
- * the points in the order given.
+ * Reads a board, FILE.tsp, and its set of marks, FILE.marks, prints the open edges with their lengths, and checks the
+ * tour that goes over the points in the order given.
  *
  *   cc examples/open_edges.c $(pkg-config --cflags --libs revosti) -o open_edges     (after tools/install PREFIX)
  *   ./open_edges FILE.tsp FILE.marks 1 2 3 4
  *
- * Exit status: 0 the tour is one and all its edges are open, 1 it is not, or something is refused, 2 bad use, 3 a file cannot be read.
+ * Exit status: 0 the tour is one and all its edges are open, 1 it is not, or something is refused, 2 bad use, 3 a file
+ * cannot be read.
  */
 #include <stdio.h>
 #include <stdlib.h>

@@ -1,4 +1,5 @@
-"""What the tests share: a small tree with the real bin/mark and tools/build, and a kit whose `rt` is the real one and whose prover is not."""
+"""What the tests share: a small tree with the real bin/mark and tools/build, and a kit whose `rt` is the real one and
+whose prover is not."""
 
 import os
 import shutil
@@ -26,8 +27,9 @@ apart: revosti
 """
 NAMES = ("left", "right", "upper", "mark", "more", "revosti", "apart")
 
-# Called as `rattle build --crate-name NAME FILE .. -o OUT`. It takes PACE seconds, tells when it begins and ends, and refuses a crate
-# that says "wrong". The program's answer has the number that the file of `mark` has.
+# Called as `rattle build --crate-name NAME FILE .. -o OUT`. It takes PACE seconds, tells when it begins and ends, refuses
+# a crate that says "wrong" and breaks at the one that BREAKS names. The program's answer has the number that the file of
+# `mark` has.
 PROVER = r"""#!/bin/sh
 kit=$(cd "$(dirname "$0")/../../.." && pwd)
 for out; do :; done
@@ -165,7 +167,8 @@ class Tree(unittest.TestCase):
         return self.begun()[before:]
 
     def progress(self, told, first, total, *names):
-        """Progress is told, from the first number to the total, of these crates; two that are begun together come in either order."""
+        """Progress is told, from the first number to the total, of these crates; two that are begun together come in
+        either order."""
         lines = [line.split(": ") for line in told.splitlines()]
         self.assertEqual([place for place, _ in lines], [f"{place} of {total}" for place in range(first, first + len(names))])
         self.assertCountEqual([name for _, name in lines], names)

@@ -176,8 +176,8 @@ class Fails(Tree):
         self.assertEqual(self.begun(), [])
 
     def test_no_gcc(self):
-        for name in ("sh", "awk", "sed", "find", "sha256sum", "sort", "flock", "setsid", "readlink", "dirname", "mkdir", "touch", "cp", "mv",
-                     "rm", "cat", "grep", "sleep", "wc", "cut", "uname", "date", "nproc", "ls", "tr", "basename", "head", "mktemp"):
+        for name in ("sh", "awk", "sed", "find", "sha256sum", "sort", "flock", "setsid", "readlink", "dirname", "mkdir", "touch", "cp",
+                     "mv", "rm", "cat", "grep", "sleep", "wc", "cut", "uname", "date", "nproc", "ls", "tr", "basename", "head", "mktemp"):
             (self.kit / "bin" / name).symlink_to(shutil.which(name))
         status, _, told = self.build("library", PATH=str(self.kit / "bin"))
         last = "there is no gcc, which links target/librevosti.so\n"

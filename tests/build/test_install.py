@@ -1,4 +1,5 @@
-"""tools/install into a folder and `pip install .` into a fresh environment, without a network, and the examples from there."""
+"""tools/install into a folder and `pip install .` into a fresh environment, without a network, and the examples from
+there."""
 
 import os
 import shutil
@@ -56,7 +57,8 @@ class Folder(unittest.TestCase):
     def compiled(self, example, *libraries):
         """The program of an example."""
         program = self.folder / example
-        self.assertEqual(run("gcc", *STRICT, ROOT / f"examples/{example}.c", *self.config("--cflags"), *libraries, "-o", program), (0, "", ""))
+        words = ("gcc", *STRICT, ROOT / f"examples/{example}.c", *self.config("--cflags"), *libraries, "-o", program)
+        self.assertEqual(run(*words), (0, "", ""))
         return program
 
     def test_files(self):
@@ -135,7 +137,8 @@ class Pip(unittest.TestCase):
     def test_a_shared_object_that_is_named(self):
         named = str(self.folder / "named.so")
         shutil.copy(ROOT / "target/librevosti.so", named)
-        self.assertEqual(self.python("from revosti import library; print(library.library()._name)", REVOSTI_SHARED=named), (0, named + "\n", ""))
+        program = "from revosti import library; print(library.library()._name)"
+        self.assertEqual(self.python(program, REVOSTI_SHARED=named), (0, named + "\n", ""))
 
     def test_types_and_metadata(self):
         program = ("import importlib.metadata as m, importlib.resources as r\n"

@@ -1,4 +1,5 @@
-"""bin/mark: what it prints, its exit status, and what it says where it cannot run. The program is a stand-in with a given answer."""
+"""bin/mark: what it prints, its exit status, and what it says where it cannot run. The program is a stand-in with a
+given answer."""
 
 import os
 import subprocess

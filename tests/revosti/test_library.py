@@ -1,4 +1,5 @@
-"""The shared object: which one is loaded, when it is built, and what is told. A stand-in for tools/build says what it is of."""
+"""The shared object: which one is loaded, when it is built, and what is told. A stand-in for tools/build says what it
+is of."""
 
 import contextlib
 import inspect
@@ -83,8 +84,8 @@ class Find(unittest.TestCase):
         self.assertEqual(self.fails(), (f"{self.root}/tools/build ends with status 4", ""))
 
     def test_no_repository(self):
-        self.assertEqual(self.fails(), (f"there is no shared object: REVOSTI_SHARED names none, {self.root}/installed.so is missing, and this "
-                                        "is no repository of Revosti", ""))
+        self.assertEqual(self.fails(), (f"there is no shared object: REVOSTI_SHARED names none, {self.root}/installed.so is missing, "
+                                        "and this is no repository of Revosti", ""))
 
     def test_the_build_ends_with_who_asked_for_it(self):
         self.put(self.ENDLESS)

@@ -70,7 +70,8 @@ class Tables(unittest.TestCase):
 
 class Generators(unittest.TestCase):
     def test_coordinates(self):
-        for points in (iter(POINTS), (iter(point) for point in POINTS), (number for point in POINTS for number in point), map(tuple, POINTS)):
+        for points in (iter(POINTS), (iter(point) for point in POINTS), (number for point in POINTS for number in point),
+                       map(tuple, POINTS)):
             self.assertEqual(revosti.measure(N, 1, points), TABLE)
 
     def test_sheets(self):
@@ -118,10 +119,12 @@ class Names(unittest.TestCase):
 
     def test_numbers_too_large(self):
         for call, words in ((lambda: revosti.measure(2**32, 1, POINTS), "n"), (lambda: revosti.measure(N, -1, POINTS), "rule"),
-                            (lambda: revosti.measure(N, 1, [(0, 2**32)]), "coordinates"), (lambda: revosti.check_tour(N, TABLE, b"", [2**16]), "tour"),
+                            (lambda: revosti.measure(N, 1, [(0, 2**32)]), "coordinates"),
+                            (lambda: revosti.check_tour(N, TABLE, b"", [2**16]), "tour"),
                             (lambda: revosti.exchange_saving(N, [2**32], 1, 2, 3, 4), "table"),
                             (lambda: revosti.exchange_saving(N, TABLE, 1, 2, 2**16, 4), "x"),
-                            (lambda: revosti.mark_between(N, TABLE, [-1], bytearray(2), LINES), "high"), (lambda: revosti.release(2**64), "slip")):
+                            (lambda: revosti.mark_between(N, TABLE, [-1], bytearray(2), LINES), "high"),
+                            (lambda: revosti.release(2**64), "slip")):
             with self.subTest(words), self.assertRaisesRegex(OverflowError, f"^{words}: "):
                 call()
 

@@ -1,4 +1,5 @@
-"""Python's numbers as buffers that C takes. A number or an object that does not fit is told with the name of its argument."""
+"""Python's numbers as buffers that C takes. A number or an object that does not fit is told with the name of its
+argument."""
 
 import ctypes
 from array import array

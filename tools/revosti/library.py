@@ -1,4 +1,5 @@
-"""The shared object that Python loads: one that is named, the one that is installed with this package, or that of the repository."""
+"""The shared object that Python loads: one that is named, the one that is installed with this package, or that of the
+repository."""
 
 import ctypes
 import os
@@ -88,7 +89,8 @@ def shared_object() -> Path:
 
 
 def build(root: Path) -> None:
-    """Has the library of a repository built, and tells where the build is. The build ends with this process, however that ends."""
+    """Has the library of a repository built, and tells where the build is. The build ends with this process, however
+    that ends."""
     said = []
     parent = os.getpid()
     with subprocess.Popen([root / BUILD, "library"], stdin=subprocess.DEVNULL, stdout=subprocess.DEVNULL, stderr=subprocess.PIPE, text=True,

@@ -31,15 +31,16 @@ class Instance(NamedTuple):
 
 
 def measure(n: int, rule: int, coordinates: Iterable[int] | Iterable[Iterable[int]]) -> "array[int]":
-    """The table of a board by rule 1 (EUC_2D), 2 (CEIL_2D), 3 (ATT), 4 (MAN_2D) or 5 (MAX_2D). Coordinates are pairs, or 2n numbers."""
+    """The table of a board by rule 1 (EUC_2D), 2 (CEIL_2D), 3 (ATT), 4 (MAN_2D) or 5 (MAX_2D). Coordinates are pairs,
+    or 2n numbers."""
     table = new_table(n)
     refuse(library().revosti_measure(fit("n", WORD, n), fit("rule", WORD, rule), *lend(coordinate_words(coordinates)), *lend(table)))
     return table
 
 
 def read_tsplib(text: Buffer) -> Instance:
-    """n and the table of a TSPLIB text, which is bytes: as `measure` makes it of the coordinates, or the weights. A text that is none is
-    refused by 19, with `text_line`."""
+    """n and the table of a TSPLIB text, which is bytes: as `measure` makes it of the coordinates, or the weights. A
+    text that is none is refused by 19, with `text_line`."""
     table = new_table(tsplib_points(text))
     answer = library().revosti_read_tsplib(*lend(copy(text, "text")), *lend(table))
     refuse(answer)
@@ -123,20 +124,20 @@ def exchange_saving(n: int, table: Table, p: int, q: int, x: int, y: int) -> int
 
 
 def move_saving(n: int, table: Table, c: int, x: int, y: int, u: int, v: int) -> int:
-    """What moving the point c from between x and y to between u and v saves. Above 0, condition 5 fails where cx, cy and uv lie in K with
-    the pair."""
+    """What moving the point c from between x and y to between u and v saves. Above 0, condition 5 fails where cx, cy
+    and uv lie in K with the pair."""
     return saving(library().revosti_move_saving, n, table, c=c, x=x, y=y, u=u, v=v)
 
 
 def crossing_saving(n: int, table: Table, p: int, q: int, r: int, s: int, x: int, y: int, z: int, w: int) -> int:
-    """What the crossing of pq with the centres r and s saves, by its best labelling; x and y are the other ends of r, z and w those of s.
-    It is above 0 exactly when the crossing settles its case."""
+    """What the crossing of pq with the centres r and s saves, by its best labelling; x and y are the other ends of r, z
+    and w those of s. It is above 0 exactly when the crossing settles its case."""
     return saving(library().revosti_crossing_saving, n, table, p=p, q=q, r=r, s=s, x=x, y=y, z=z, w=w)
 
 
 def place(n: int, a: int, b: int) -> int:
-    """The place of the edge ab, in either order, in edge order (01, Points, lengths, marks). It is refused by 1 for such an n, and by 11
-    where a or b is outside 1 to n or a = b."""
+    """The place of the edge ab, in either order, in edge order (01, Points, lengths, marks). It is refused by 1 for
+    such an n, and by 11 where a or b is outside 1 to n or a = b."""
     if edges(n) == 0:
         raise Refusal(1)
     low, high = sorted((whole("a", a), whole("b", b)))
@@ -151,8 +152,8 @@ def marks_size(n: int) -> int:
 
 
 def mark_of(n: int, marks: Buffer, a: int, b: int) -> int:
-    """The mark of the edge ab, in either order, in a packed set. It is refused by 1 and 11 as `place` is, and by 6 where the set has not
-    its size. No test is made whether marks are 3."""
+    """The mark of the edge ab, in either order, in a packed set. It is refused by 1 and 11 as `place` is, and by 6
+    where the set has not its size. No test is made whether marks are 3."""
     byte, rank = divmod(place(n, a, b), 4)
     seen = view("marks", marks)
     if len(seen) != marks_size(n):

@@ -1,4 +1,5 @@
-"""Edge pages (01, The wall list): the lengths and marks of a board as lines of text, page by page, written and read again."""
+"""Edge pages (01, The wall list): the lengths and marks of a board as lines of text, page by page, written and read
+again."""
 
 from array import array
 from collections.abc import MutableSequence
@@ -25,8 +26,8 @@ def write_page(n: int, table: Table, marks: Buffer, page: int) -> bytes:
 
 
 def read_page(n: int, page: int, text: Buffer, table: "array[int] | MutableSequence[int]", marks: bytearray) -> None:
-    """Reads a page into `table`, the array or list handed in, and `marks`, the bytearray handed in: only its own edges change there. A text
-    that is no such page is refused by 27, with `text_line`."""
+    """Reads a page into `table`, the array or list handed in, and `marks`, the bytearray handed in: only its own edges
+    change there. A text that is no such page is refused by 27, with `text_line`."""
     lengths = numbers("table", WORD, table)
     answer = library().revosti_read_page(fit("n", WORD, n), fit("page", WORD, page), *lend(copy(text, "text")), *lend(lengths),
                                          *lend(marks, "marks"))

@@ -39,8 +39,8 @@ def meaning(number: int) -> str:
 
 
 class Refusal(Exception):
-    """A call that is refused: the number, the record at fault (0 where none is), the lines of a sheet that are accepted before it, and the
-    line at fault of a TSPLIB text or a page (0 but for 19 and 27)."""
+    """A call that is refused: the number, the record at fault (0 where none is), the lines of a sheet that are accepted
+    before it, and the line at fault of a TSPLIB text or a page (0 but for 19 and 27)."""
 
     def __init__(self, number: int, record: int = 0, lines: int = 0, text_line: int = 0) -> None:
         super().__init__(number, record, lines, text_line)

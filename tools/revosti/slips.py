@@ -9,7 +9,8 @@ STOPPED = 255  # the first byte that the candidate sees of a sheet that stopped,
 
 
 def new_slip(n: int, table: Table, marks: bytearray, sheet: Sheet) -> int:
-    """Marks a sheet as `mark_sheet` does, and answers its slip, not released. A refusal is in the slip and is not raised."""
+    """Marks a sheet as `mark_sheet` does, and answers its slip, not released. A refusal is in the slip and is not
+    raised."""
     return marked(library().revosti_mark_sheet, n, {"table": table}, marks, sheet)
 
 
@@ -24,12 +25,14 @@ def release(slip: int) -> int:
 
 
 def examiner_view(slip: int) -> bytes:
-    """What the examiner sees, six bytes: refusal number or 0, released 0 or 1, record and lines, two bytes each, the lower first."""
+    """What the examiner sees, six bytes: refusal number or 0, released 0 or 1, record and lines, two bytes each, the
+    lower first."""
     return view(library().revosti_examiner_view, slip)
 
 
 def candidate_view(slip: int) -> bytes:
-    """What the candidate sees, six bytes: until release 0 or STOPPED, no record, and the lines; after it what the examiner sees."""
+    """What the candidate sees, six bytes: until release 0 or STOPPED, no record, and the lines; after it what the
+    examiner sees."""
     return view(library().revosti_candidate_view, slip)
 
 
