@@ -61,6 +61,12 @@ while [ "$1" != -o ]; do shift; done
 chmod +x "$2"
 """
 
+# Runs a command that can write no file longer than so many bytes, as on a full disk: an error, and no signal.
+LIMIT = """import os, resource, signal, sys
+signal.signal(signal.SIGXFSZ, signal.SIG_IGN)
+resource.setrlimit(resource.RLIMIT_FSIZE, (int(sys.argv[1]),) * 2)
+os.execv(sys.argv[2], sys.argv[2:])"""
+
 LOADER = '#!/bin/sh\nshift 2\nexec sh "$@"\n'
 
 

@@ -3,11 +3,12 @@ given answer."""
 
 import os
 import subprocess
+import sys
 import tempfile
 import unittest
 from pathlib import Path
 
-from support import ROOT
+from support import LIMIT, ROOT
 
 ACCEPTED = "points 4 edges 6\nstruck 1 3\nverdict 0 record 0 open 5\n"
 REFUSED = "points 4 edges 6\nverdict 14 record 1 open 6\n"
@@ -98,7 +99,7 @@ class Mark(unittest.TestCase):
     def test_input_that_cannot_be_read(self):
         self.assertEqual(self.mark("none"), (3, "", "mark: there is no file none\n"))
         self.assertEqual(self.mark(self.folder), (3, "", f"mark: {self.folder} is a folder\n"))
-        self.assertEqual(self.shell('"$0" </'), (3, "", "mark: the input cannot be read\n"))
+        self.assertEqual(self.shell('"$0" </'), (3, "", "mark: error reading 'standard input': Is a directory\n"))
         self.assertEqual(self.shell('"$0" <&-'), (3, "", "mark: standard input is closed\n"))
 
     def test_output_that_cannot_be_written(self):
@@ -110,6 +111,10 @@ class Mark(unittest.TestCase):
         run = subprocess.run([self.launcher], input=b"", capture_output=True, check=False, env={**os.environ, "TMPDIR": "/nowhere"})
         self.assertEqual((run.returncode, run.stdout), (3, b""))
         self.assertTrue(run.stderr.endswith(b"mark: there is no room for a copy of the input\n"))
+        words = [sys.executable, "-c", LIMIT, "3", self.launcher]
+        run = subprocess.run(words, input=b"\0sheet", capture_output=True, check=False)
+        self.assertEqual((run.returncode, run.stdout), (3, b""))
+        self.assertRegex(run.stderr.decode(), r"\Amark: .*: File too large\n\Z")
 
     def test_the_program_fails(self):
         self.answers(ACCEPTED, status=4)
