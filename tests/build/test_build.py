@@ -268,7 +268,8 @@ class Interrupted(Tree):
                     status, out, told = self.end(started)
                     self.assertEqual((status, out), (-number, ""))
                     self.assertTrue(told.endswith("the build is interrupted; what is proved is kept, and the next call goes on\n"), told)
-                    self.assertEqual(self.provers(), [])
+                    eventually(lambda: not self.provers())
+                    self.assertNotIn(["end", "upper"], [call[:2] for call in self.calls()])
                     self.assertEqual(self.stamps(), {"left", "right"})
                     self.assertEqual(self.mark(), (0, ANSWER.format(2), "3 of 4: upper\n4 of 4: mark\n"))
 

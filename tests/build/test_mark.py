@@ -92,6 +92,8 @@ class Mark(unittest.TestCase):
             self.assertTrue(out.startswith("usage: mark [FILE]\n"))
             self.assertIn("Exit status: 0 accepted, 1 refused, 2 bad use, 3 it could not run.", out)
 
+        self.assertEqual(self.shell('"$0" --help >/dev/full'), (3, "", "mark: the help cannot be written\n"))
+
     def test_bad_use(self):
         self.assertEqual(self.mark("--fast"), (2, "", "mark: there is no option --fast; usage: mark [FILE]\n"))
         self.assertEqual(self.mark("a", "b"), (2, "", "mark: one file at a time; usage: mark [FILE]\n"))
