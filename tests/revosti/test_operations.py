@@ -65,14 +65,14 @@ class Measure(Operations):
         points = [(0, 0), (1, 1), (1, 3), (5, 0)]
         for rule, table in ((1, [1, 3, 5, 2, 4, 5]), (2, [2, 4, 5, 2, 5, 5]), (3, [1, 1, 2, 1, 2, 2]), (4, [2, 4, 5, 2, 5, 7]),
                             (5, [1, 3, 5, 2, 4, 4])):
-            self.assertEqual(revosti.measure(N, rule, points), table, rule)
+            self.assertEqual(revosti.measure(N, rule, points).tolist(), table, rule)
 
     def test_rules_against_a_plain_reading(self):
         r, n = random.Random(5), 20
         for most in (4, 40, 10**6):
             points = [(r.randint(0, most), r.randint(0, most)) for _ in range(n)]
             for rule in range(1, 6):
-                self.assertEqual(revosti.measure(n, rule, points), [length_of(rule, p, q) for p, q in combinations(points, 2)], rule)
+                self.assertEqual(revosti.measure(n, rule, points).tolist(), [length_of(rule, p, q) for p, q in combinations(points, 2)], rule)
 
     def test_largest(self):
         corners = [(0, 0), (10**6, 10**6)] * 90

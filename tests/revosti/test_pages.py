@@ -138,7 +138,7 @@ class Read(unittest.TestCase):
             lengths, left = array("I", table), packed(marks) if marks else bytearray()
             before = bytes(left)
             self.assertEqual(library().revosti_read_page(n, page, *lend(bytearray(b"x" + text)), *lend(lengths), *lend(left)), number)
-            self.assertEqual((lengths.tolist(), bytes(left)), (table, before))
+            self.assertEqual((lengths.tolist(), bytes(left)), (list(table), before))
         with self.assertRaises(revosti.Refusal) as caught:
             revosti.read_page(N, 1, text + b"x", list(TABLE), packed([1] * 6))
         self.assertEqual((caught.exception.number, caught.exception.text_line, str(caught.exception)),

@@ -75,12 +75,12 @@ class Read(unittest.TestCase):
         for n in (4, 5, 9, 180):
             table = [r.choice([0, 1, 2_000_000, r.randint(0, 2_000_000)]) for _ in range(n * (n - 1) // 2)]
             for width in (1, 2, 7, len(table)):
-                self.assertEqual(revosti.read_tsplib(weights(n, table, width)), (n, table))
+                self.assertEqual(revosti.read_tsplib(weights(n, table, width)), (n, array("I", table)))
 
     def test_answers(self):
         for data in (text(NODES), text(WEIGHTS)):
             answer, table = read_into(data, array("I", [7]) * 6)
-            self.assertEqual((answer, table.tolist()), (65536 * 4, TABLE))
+            self.assertEqual((answer, table), (65536 * 4, TABLE))
             self.assertEqual(library().revosti_tsplib_points(*lend(copy(data))), 65536 * 4)
 
 
@@ -132,7 +132,7 @@ class Refusals(unittest.TestCase):
     def test_weight(self):
         for at in range(6):
             for weight, wanted in ((2_000_000, None), (2_000_001, (5, 0)), (MOST, (5, 0))):
-                table = [*TABLE[:at], weight, *TABLE[at + 1:]]
+                table = TABLE[:at] + array("I", [weight]) + TABLE[at + 1:]
                 self.assertEqual(refusal(revosti.read_tsplib, weights(4, table)), wanted or (4, table))
 
     def test_order_and_sizes(self):
