@@ -1,0 +1,23 @@
+"""The commands, one file each. A file has
+
+NAME     the command's name
+GROUP    the heading that it stands under in `revosti --help`, one of GROUPS
+HELP     one line for `revosti --help`
+ABOUT    what `revosti NAME --help` says first
+EXAMPLE  a call that works in a folder that has this repository's `examples`
+add      a function that gives its options to a parser of argparse
+run      a function of the options; it answers the exit status, or None for 0
+
+and is found by being here.
+"""
+
+from importlib import import_module
+from pkgutil import iter_modules
+
+GROUPS = ("Sheets", "Sets of marks", "Boards")
+
+
+def every_command():
+    """The modules of this folder, by group and name."""
+    modules = [import_module(f"{__name__}.{found.name}") for found in iter_modules(__path__)]
+    return sorted(modules, key=lambda module: (GROUPS.index(module.GROUP), module.NAME))
