@@ -65,7 +65,7 @@ class Run:
 
 def start(*arguments, **streams):
     """A process of the command."""
-    return subprocess.Popen([sys.executable, PROGRAM, *map(str, arguments)],
+    return subprocess.Popen([PROGRAM, *map(str, arguments)],
                             **{"stdin": subprocess.DEVNULL, "stdout": subprocess.PIPE, "stderr": subprocess.PIPE, **streams})
 
 

@@ -1,7 +1,6 @@
 """The command itself: files, pipes, exit status, kinds of file."""
 
 import subprocess
-import sys
 import unittest
 
 from support import NINE, PROGRAM, SQUARE_HEAD, SQUARE_RECORDS, Folder, Run, binary
@@ -13,7 +12,7 @@ TEXT = SQUARE_HEAD + "strike 1-3, split at 2\nstrike 2-4, split at 1\n"
 
 class Command(Folder):
     def test_program(self):
-        command = [sys.executable, PROGRAM]
+        command = [PROGRAM]
         packed = subprocess.run(command + ["pack"], input=TEXT.encode(), capture_output=True, check=True)
         self.assertEqual(packed.stdout, binary(SQUARE_RECORDS))
         back = subprocess.run(command + ["unpack"], input=packed.stdout, capture_output=True, check=True)

@@ -6,7 +6,6 @@ import random
 import resource
 import signal
 import subprocess
-import sys
 import time
 import unittest
 from itertools import combinations
@@ -71,7 +70,7 @@ class FullDisk(Sets):
 
     def limited(self, size, *words):
         """A process of the command that writes no file longer than this."""
-        run = subprocess.run([sys.executable, PROGRAM, *map(str, words)], capture_output=True, check=False, stdin=subprocess.DEVNULL,
+        run = subprocess.run([PROGRAM, *map(str, words)], capture_output=True, check=False, stdin=subprocess.DEVNULL,
                              preexec_fn=lambda: resource.setrlimit(resource.RLIMIT_FSIZE, (size, size)))
         return run.returncode, run.stderr.decode()
 

@@ -179,5 +179,6 @@ def lock(handle, file, waited):
 
 def note(message):
     """Says something on standard error, where there is one."""
-    with suppress(OSError, ValueError, AttributeError):
-        print(f"revosti: {message}", file=sys.stderr, flush=True)
+    if sys.stderr is not None:
+        with suppress(OSError, ValueError):
+            print(f"revosti: {message}", file=sys.stderr, flush=True)

@@ -24,8 +24,12 @@ def main(arguments=None):
     """Run one command and return its exit status."""
     options = None
     try:
+        if signal.getsignal(signal.SIGINT) is signal.SIG_DFL:
+            signal.signal(signal.SIGINT, signal.default_int_handler)
         options = parser().parse_args(arguments)
         return options.run(options) or 0
+    except SystemExit as end:  # the help, or bad use
+        return flushed(end.code)
     except Refusal as refusal:
         return refused(options, refusal)
     except Complaint as complaint:
@@ -41,6 +45,16 @@ def main(arguments=None):
     except KeyboardInterrupt:
         note(f"stopped{left(options)}")
         return stopped()
+
+
+def flushed(status):
+    """The status once what argparse printed is written."""
+    try:
+        if sys.stdout is not None:
+            write_out(b"")
+    except Complaint as complaint:
+        return complain(str(complaint), complaint.status)
+    return status
 
 
 def complain(message, status):
@@ -76,8 +90,8 @@ def stopped():
 def parser():
     """All commands and their options."""
     modules = every_command()
-    top = argparse.ArgumentParser(prog="revosti", description=DESCRIPTION, epilog=overview(modules),
-                                  usage="revosti COMMAND ..  (revosti COMMAND --help tells its options, with an example)",
+    top = argparse.ArgumentParser(prog="revosti", description=filled(DESCRIPTION), epilog=overview(modules),
+                                  usage="revosti COMMAND ..\n\nrevosti COMMAND --help tells the options of a command, with an example.",
                                   formatter_class=argparse.RawDescriptionHelpFormatter)
     commands = top.add_subparsers(required=True, prog="revosti", metavar="COMMAND", help=argparse.SUPPRESS)
     for module in modules:
@@ -98,7 +112,7 @@ def overview(modules):
     rows = []
     for group in GROUPS:
         rows += [f"{group}:", *(f"  {module.NAME:<12}{module.HELP}" for module in modules if module.GROUP == group), ""]
-    return "\n".join([*rows, STATUS])
+    return "\n".join([*rows, "Example:", "  revosti explain examples/square.bin", "", STATUS])
 
 
 def epilog(module):

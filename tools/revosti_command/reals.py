@@ -10,10 +10,11 @@ from typing import NamedTuple
 from revosti import LEAST_POINTS, MOST_POINTS
 
 from .parts import MAX_COORDINATE, Parts
-from .tsplib import NODES, NUMBERS, shown
+from .tsplib import NODES, NUMBERS, lines_of, shown
 from .words import counted
 
 REAL = re.compile(r"[+-]?([0-9]+\.?[0-9]*|\.[0-9]+)([eE][+-]?[0-9]{1,2})?", re.ASCII)
+BOM = b"\xef\xbb\xbf"
 LONGEST = 40  # characters of a number
 
 
@@ -38,9 +39,9 @@ def number(word, line):
     return Fraction(word)
 
 
-def read_reals(text, scale=Fraction(1), most=None):
-    """The board of a text with real coordinates: the first so many points, scaled, moved so that none is below 0, and rounded."""
-    lines = [(at, line.strip()) for at, line in enumerate(text.splitlines(), 1)]
+def read_reals(data, scale=Fraction(1), most=None):
+    """The board of a text with real coordinates, in bytes: the first so many points, scaled, moved so that none is below 0, and rounded."""
+    lines = [(at, line.strip()) for at, line in enumerate(lines_of(data.removeprefix(BOM)), 1)]
     rule, n, rest = read_head([(at, line) for at, line in lines if line])
     points = read_nodes(rest, n)
     kept = points[:most] if most is not None else points

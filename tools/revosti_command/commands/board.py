@@ -4,7 +4,7 @@ import argparse
 from fractions import Fraction
 
 from ..files import name_of, note, read_file
-from ..options import add_out, decode, digits_of, is_wide, write
+from ..options import add_out, digits_of, is_wide, write
 from ..reals import LONGEST, REAL, BadReals, read_reals
 from ..tsplib import write_board
 from ..words import Complaint
@@ -43,7 +43,7 @@ def run(options):
     if is_wide(data):
         raise Complaint(f"{name_of(options.file)}: the text is UTF-16, two bytes a letter; save it as UTF-8")
     try:
-        board = read_reals(decode(data), options.scale, options.points)
+        board = read_reals(data, options.scale, options.points)
     except BadReals as error:
         raise Complaint(f"{name_of(options.file)}{error}") from error
     write(options, write_board(board.parts).encode("ascii"))
