@@ -36,6 +36,7 @@ class Help(unittest.TestCase):
         self.assertLessEqual(WANTED, set(COMMANDS))
         shown = Run("--help").text
         for name, module in COMMANDS.items():
+            self.assertEqual(module.__name__.rpartition(".")[2].replace("_", "-"), name)
             self.assertIn(module.GROUP, GROUPS)
             self.assertIn(f"\n  {name:<12}{module.HELP}\n", shown)
         self.assertIn(STATUS, shown)

@@ -4,8 +4,8 @@ The picture has a fixed width; the second coordinate grows upward. The edges
 of one hole form one path, so that its fan does not darken around the hole.
 """
 
+from html import escape
 from typing import NamedTuple
-from xml.sax.saxutils import escape
 
 from .case import Case
 from .edges import edge

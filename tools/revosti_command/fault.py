@@ -237,7 +237,7 @@ def due(pairs):
     first = f"The pair {names[0]} is due"
     if len(names) == 1:
         return f"{first}."
-    shown = ", ".join(names[1:MOST_DUE]) + (", .." if len(names) > MOST_DUE else "")
+    shown = ", ".join(names[1:MOST_DUE]) + (" and so on" if len(names) > MOST_DUE else "")
     return f"{first}, and {len(names) - 1:,} more after it: {shown}."
 
 

@@ -11,7 +11,7 @@ from textwrap import fill
 
 from revosti import NoLibrary, Refusal
 
-from .commands import GROUPS, every_command
+from .commands import GROUPS, commands_for
 from .files import note, write_out
 from .words import Complaint
 
@@ -26,7 +26,8 @@ def main(arguments=None):
     try:
         if signal.getsignal(signal.SIGINT) is signal.SIG_DFL:
             signal.signal(signal.SIGINT, signal.default_int_handler)
-        options = parser().parse_args(arguments)
+        words = sys.argv[1:] if arguments is None else arguments
+        options = parser(words[0] if words else "").parse_args(words)
         return options.run(options) or 0
     except SystemExit as end:  # the help, or bad use
         return flushed(end.code)
@@ -87,9 +88,9 @@ def stopped():
 
 
 @cache
-def parser():
-    """All commands and their options."""
-    modules = every_command()
+def parser(word=""):
+    """The command with this name and its options, or all of them."""
+    modules = commands_for(word)
     top = argparse.ArgumentParser(prog="revosti", description=filled(DESCRIPTION), epilog=overview(modules),
                                   usage="revosti COMMAND ..\n\nrevosti COMMAND --help tells the options of a command, with an example.",
                                   formatter_class=argparse.RawDescriptionHelpFormatter)
