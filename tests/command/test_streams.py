@@ -28,8 +28,20 @@ class Streams(Folder):
                             ("$R --help >/dev/full", "standard output: No space left on device"),
                             (f"$R pages {EXAMPLES}", f"{EXAMPLES}: Is a directory"),
                             (f"$R pages - <{EXAMPLES}", "standard input: Is a directory"),
+                            (f"$R pages {EXAMPLES} </dev/null", f"{EXAMPLES}: Is a directory"),
                             (f"$R pages {SQUARE} -o /dev/full", "/dev/full: No space left on device")):
             self.assertEqual(shell(words), (3, "", f"revosti: {said}\n"), words)
+
+    def test_no_end(self):
+        for words, name in (("$R explain /dev/zero", "/dev/zero"), ("$R unpack </dev/zero", "standard input"),
+                            (f"$R pages {SQUARE} --marks /dev/zero", "/dev/zero")):
+            self.assertEqual(shell(words), (2, "", f"revosti: {name}: longer than 67,108,864 bytes, which nothing is that is read here\n"))
+
+    def test_a_set_has_a_name(self):
+        for name in ("-", "''"):
+            status, _, said = shell(f"$R withdraw --marks {name}")
+            self.assertEqual(status, 2)
+            self.assertIn("expected the name of a file, found", said)
 
     def test_nobody_is_told(self):
         self.assertEqual(shell(f"$R pages {SQUARE} >&- 2>&-"), (3, "", ""))

@@ -73,11 +73,10 @@ def change(file, call, lengths=None):
         n = checked(file, packed_points, marks) if lengths is None else lengths.n
         checked(file, read_marks, marks, n)
         before = bytes(marks)
-        try:
-            return call(n, marks)
-        finally:
-            if marks != before:
-                replace(file, bytes(marks))
+        answer = call(n, marks)
+        if marks != before:
+            replace(file, bytes(marks))
+        return answer
 
 
 def packed_of(file, data):

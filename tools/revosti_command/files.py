@@ -16,6 +16,7 @@ from pathlib import Path
 from .words import CannotRun, Complaint
 
 STANDARD = (None, "-")
+MOST_BYTES = 2**26
 NO_LINKS = (errno.EPERM, errno.EOPNOTSUPP, errno.ENOSYS, errno.EMLINK)
 
 
@@ -27,12 +28,20 @@ def name_of(file):
 def read_file(file):
     """The bytes of a file, or of standard input."""
     if file not in STANDARD:
-        with named(file):
-            return Path(file).read_bytes()
+        with named(file), open(file, "rb") as source:
+            return read_most(source, file)
     if sys.stdin is None:
         raise CannotRun("standard input: it is closed")
     with named("standard input"):
-        return sys.stdin.buffer.read()
+        return read_most(sys.stdin.buffer, "standard input")
+
+
+def read_most(source, name):
+    """All bytes of a file that has an end within reason."""
+    data = source.read(MOST_BYTES + 1)
+    if len(data) > MOST_BYTES:
+        raise Complaint(f"{name}: longer than {MOST_BYTES:,} bytes, which nothing is that is read here")
+    return data
 
 
 def write_out(data):

@@ -54,7 +54,7 @@ def add_board(command, **nargs):
 
 def add_set(command, text="the packed set in this file, not fresh marks", **required):
     """The option for a set."""
-    command.add_argument("--marks", metavar="MARKS", help=text, **required)
+    command.add_argument("--marks", metavar="MARKS", type=file_name, help=text, **required)
 
 
 def add_changed_set(command):
@@ -65,6 +65,13 @@ def add_changed_set(command):
 def add_high(command):
     """The option for a second board."""
     command.add_argument("--high", metavar="BOARD", help="the board with the high lengths; those of the first are then the low ones")
+
+
+def file_name(text):
+    """A file on the command line that has a place beside it."""
+    if text in ("", "-"):
+        raise argparse.ArgumentTypeError(f'expected the name of a file, found "{text}"')
+    return text
 
 
 def digits_of(text, what, most):
