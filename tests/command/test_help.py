@@ -1,6 +1,7 @@
 """The help, README and FORMATS agree with each other and with what the command does; it runs from any folder, through links, and from a
 built tree that cannot be written."""
 
+import json
 import os
 import re
 import shlex
@@ -100,12 +101,6 @@ class Documents(unittest.TestCase):
                     seen.add((name, option))
         self.assertGreater(len(seen), 15)
 
-    def test_json_fields(self):
-        table = FORMATS.partition("| Commands | Fields |")[2].partition("\n\n")[0]
-        rows = [row.split("|")[1:3] for row in table.splitlines()[2:]]
-        self.assertEqual({name for names, _ in rows for name in re.findall(r"`([a-z-]+)`", names)},
-                         {name for name in COMMANDS if "--json" in options_of(name)})
-
     def test_statuses(self):
         table = FORMATS.partition("| Exit status | Meaning |")[2].partition("\n\n")[0]
         self.assertEqual(re.findall(r"^\| (\d) \|", table, re.M), ["0", "1", "2", "3"])
@@ -123,6 +118,33 @@ def as_nobody():
     words = ["setpriv", "--reuid=65534", "--regid=65534", "--clear-groups"]
     tried = os.getuid() == 0 and shutil.which("setpriv") and subprocess.run([*words, "python3", "-c", ""], capture_output=True, check=False)
     return words if tried and tried.returncode == 0 else []
+
+
+class Fields(Folder):
+    """The fields of JSON that FORMATS names are those of the answers."""
+
+    def answers(self, name):
+        """Answers of a command, one line each, refused ones too."""
+        marks, sheet = self.folder / f"{name}.marks", ("--board", EXAMPLES / "square.tsp", EXAMPLES / "square.txt")
+        Run("fresh", EXAMPLES / "square.tsp", "--marks", marks)
+        if name in ("confirm", "withdraw"):
+            Run("ask", *sheet, "--marks", marks)
+        words = {"mark": (*sheet, "--marks", marks), "ask": (*sheet, "--marks", marks), "confirm": ("--marks", marks), "withdraw": ("--marks", marks),
+                 "pairs": (EXAMPLES / "square.tsp", 1, 2, 3), "tour": (EXAMPLES / "square.tsp", "1,2,3,4")}.get(name, sheet)
+        found = [json.loads(Run(name, *words, "--json").text)]
+        if name in ("mark", "ask", "explain"):
+            found.append(json.loads(Run(name, EXAMPLES / "case_missing.bin", *words[3:], "--json").text))
+        return found
+
+    def test_fields(self):
+        table = FORMATS.partition("| Commands | Fields |")[2].partition("\n\n")[0]
+        rows = [row.split("|")[1:3] for row in table.splitlines()[2:]]
+        named = {name: set(re.findall(r"`([a-z_]+)`", fields)) for names, fields in rows for name in re.findall(r"`([a-z-]+)`", names)}
+        self.assertEqual(set(named), {name for name in COMMANDS if "--json" in options_of(name)})
+        for name, fields in named.items():
+            answers = self.answers(name)
+            inner = {key for found in answers for value in found.values() if isinstance(value, dict) for key in value}
+            self.assertEqual({key for found in answers for key in found} | inner, fields, name)
 
 
 class Anywhere(Folder):

@@ -66,7 +66,7 @@ class Slip(Folder):
         examiner, candidate = ({"bytes": [14, 0, 2, 0, 1, 0], "refusal": 14, "released": 0, "record": 2, "lines": 1},
                                {"bytes": [255, 0, 0, 0, 1, 0], "refusal": 255, "released": 0, "record": 0, "lines": 1})
         self.assertEqual(json.loads(Run("slip", self.file, "--json").text),
-                         {"slip": SLIP, "released": False, "examiner": examiner, "candidate": candidate})
+                         {"refusal": 14, "slip": SLIP, "released": False, "examiner": examiner, "candidate": candidate})
 
     def test_words(self):
         told = f"refused by 14, record 4000, 1 line accepted. {meaning(14)}"

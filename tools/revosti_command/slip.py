@@ -20,8 +20,9 @@ def tell_slip(slip):
 
 def as_json(slip):
     """Both views of a slip, as a dictionary."""
-    return {"slip": slip, "released": bool(examiner_view(slip)[1]),
-            "examiner": fields(examiner_view(slip)), "candidate": fields(candidate_view(slip))}
+    examiner = fields(examiner_view(slip))
+    return {"refusal": examiner["refusal"], "slip": slip, "released": bool(examiner["released"]),
+            "examiner": examiner, "candidate": fields(candidate_view(slip))}
 
 
 def fields(view):
