@@ -34,7 +34,8 @@ def binary(records=(), points=SQUARE_POINTS, rule=1, n=None, tail=b""):
 
 
 class Run:
-    """One run of the command in this process: status, output, complaint. What is said of a set's unknown origin is kept apart."""
+    """One run of the command in this process: status, output, complaint. What is said of a set's unknown origin is kept
+    apart."""
 
     def __init__(self, *arguments, data=b""):
         from revosti_command.main import main

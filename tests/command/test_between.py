@@ -16,7 +16,8 @@ class Command(Folder):
     def setUp(self):
         super().setUp()
         self.low, self.marks = self.board("square", SQUARE_POINTS, SQUARE_RECORDS), self.put("a.marks", packed([1] * 6))
-        self.narrow, self.wide = (self.board(f"high{side}", [(x // 10 * side, y // 10 * side) for x, y in SQUARE_POINTS]) for side in (13, 14))
+        self.narrow, self.wide = (self.board(f"high{side}", [(x // 10 * side, y // 10 * side) for x, y in SQUARE_POINTS])
+                                  for side in (13, 14))
 
     def board(self, name, points, lines=(), rule=1):
         """A file with a board."""
@@ -46,7 +47,8 @@ class Command(Folder):
             number, where = said
             status, out, err = self.mark(low, high)
             self.assertEqual((status, bool(where)), (1, bool(err)))
-            self.assertTrue((err or f"revosti: {out}").startswith(f"revosti: {where}Refused, number {number}: {revosti.meaning(number)}"), out + err)
+            self.assertTrue((err or f"revosti: {out}").startswith(f"revosti: {where}Refused, number {number}: {revosti.meaning(number)}"),
+                            out + err)
             self.assertEqual(self.marks.read_bytes(), packed([1] * 6))
 
     def test_mark_stops(self):
@@ -73,8 +75,10 @@ class Command(Folder):
                          (2, "", f"revosti: {self.marks}: expected 0, 1 or 2 as the mark of 1-2, found 3\n"))
 
     def test_pairs_refused(self):
-        for words, number, more in (((self.low, 1, 1, 2), 11, " Here A and B are both 1."), ((self.low, 1, 5, 2), 11, " Here B is 5; n is 4."),
-                                    ((self.low, 1, 2, 0), 11, " Here C is 0; n is 4."), ((self.narrow, 1, 2, 3, "--high", self.low), 25, "")):
+        for words, number, more in (((self.low, 1, 1, 2), 11, " Here A and B are both 1."),
+                                    ((self.low, 1, 5, 2), 11, " Here B is 5; n is 4."),
+                                    ((self.low, 1, 2, 0), 11, " Here C is 0; n is 4."),
+                                    ((self.narrow, 1, 2, 3, "--high", self.low), 25, "")):
             self.assertEqual(self.call("pairs", *words), (1, "", f"revosti: Refused, number {number}: {revosti.meaning(number)}{more}\n"))
 
     def test_page(self):

@@ -29,7 +29,9 @@ def weights(table, n=N):
 
 def without_line(said):
     """What a command says, without the line of the text that a sheet in binary has not."""
-    return tuple(re.sub(r", line \d+ of the text", "", one) if isinstance(one, str) else one for one in said) if isinstance(said, tuple) else said
+    if not isinstance(said, tuple):
+        return said
+    return tuple(re.sub(r", line \d+ of the text", "", one) if isinstance(one, str) else one for one in said)
 
 
 class Sets(Folder):
@@ -45,7 +47,8 @@ class Sets(Folder):
         """A call is refused by a number; the file is named where the board is at fault."""
         status, out, err = found
         self.assertEqual(status, 1)
-        self.assertTrue((out or err.removeprefix("revosti: ")).startswith(f"{where}Refused, number {number}: {revosti.meaning(number)}"), out + err)
+        self.assertTrue((out or err.removeprefix("revosti: ")).startswith(f"{where}Refused, number {number}: {revosti.meaning(number)}"),
+                        out + err)
 
 
 class Limits(Sets):
@@ -87,7 +90,8 @@ class Limits(Sets):
                            (("few.tsp", [1] * 3, 3), ("five.tsp", [20] * 10, 5), ("long.tsp", [2_000_001, *TABLE[1:]])))
         far = self.put("far.tsp", changed(NODES, 10, "4 0 1000001"))
         for low, high, *said in ((LOW, five, 2), (LOW, few, 1, f"--high {few}: "), (LOW, long, 5, f"--high {long}: "),
-                                 (LOW, far, 4, f"--high {far}: "), (few, LOW, 1, f"{few}: "), (long, LOW, 5, f"{long}: "), (far, LOW, 4, f"{far}: ")):
+                                 (LOW, far, 4, f"--high {far}: "), (few, LOW, 1, f"{few}: "), (long, LOW, 5, f"{long}: "),
+                                 (far, LOW, 4, f"{far}: ")):
             self.assertRefused(self.mark(low, high), *said)
             self.assertRefused(self.call("pairs", low, 1, 3, 2, "--high", high), *said)
         self.assertEqual(self.marks.read_bytes(), packed([1] * 6))
@@ -130,7 +134,8 @@ class OneBoard(Sets):
         """What all commands say of a board, and the sets that they leave. The sheet is given by these words."""
         said = [self.call("fresh", board, "--marks", self.marks, "--force"), self.marks.read_bytes()]
         self.marks.with_name("a.marks.fingerprint").unlink()
-        said += [self.call("saving", board, *words) for words in (("exchange", 1, 3, 2, 4), ("move", 1, 2, 3, 4, 5), ("exchange", 1, 1, 2, 3))]
+        said += [self.call("saving", board, *words) for words in (("exchange", 1, 3, 2, 4), ("move", 1, 2, 3, 4, 5),
+                                                                  ("exchange", 1, 1, 2, 3))]
         said += [self.call("pairs", board, 1, 2, 3), self.call("pages", board), self.call("slip", *given)]
         for command in ("ask", "mark"):
             self.marks.write_bytes(marks)
@@ -171,18 +176,23 @@ class OneBoard(Sets):
         self.assertEqual(self.call("confirm", "--marks", self.marks), (0, "Struck: 2 edges. Pending: 0 edges. Open: 4 edges.\n", ""))
 
     def test_refused(self):
-        texts = (weights([1] * 3, 3), 1), (weights([0] * 16290, 181), 1), (changed(NODES, 7, "1 1000001 0"), 4), (weights([*TABLE[:5], 2_000_001]), 5)
+        texts = ((weights([1] * 3, 3), 1), (weights([0] * 16290, 181), 1), (changed(NODES, 7, "1 1000001 0"), 4),
+                 (weights([*TABLE[:5], 2_000_001]), 5))
         for data, number in texts:
             board = self.put("a.tsp", data)
-            for words in (("fresh", board, "--marks", self.folder / "new"), ("saving", board, "exchange", 1, 3, 2, 4), ("pairs", board, 1, 3, 2), ("pages", board),
-                          ("slip", "--board", board, SHEET), *((name, "--board", board, SHEET, "--marks", self.marks) for name in ("mark", "ask"))):
+            for words in (("fresh", board, "--marks", self.folder / "new"), ("saving", board, "exchange", 1, 3, 2, 4),
+                          ("pairs", board, 1, 3, 2), ("pages", board),
+                          ("slip", "--board", board, SHEET),
+                          *((name, "--board", board, SHEET, "--marks", self.marks) for name in ("mark", "ask"))):
                 self.assertRefused(self.call(*words), number, f"{board}: ")
         self.assertEqual(self.marks.read_bytes(), packed([1] * 6))
 
     def test_faulty(self):
         board = self.put("a.tsp", changed(WEIGHTS, 9, "10 1.5"))
-        said = (2, "", f'revosti: {board}, line 9: expected 3 more weights, found "10 1.5"; whole weights are asked for, in digits alone, and "1.5" is none\n')
-        for words in (("fresh", board, "--marks", self.marks), ("saving", board, "exchange", 1, 3, 2, 4), ("pairs", board, 1, 3, 2), ("pages", board),
+        said = (2, "", f'revosti: {board}, line 9: expected 3 more weights, found "10 1.5"; '
+                       'whole weights are asked for, in digits alone, and "1.5" is none\n')
+        for words in (("fresh", board, "--marks", self.marks), ("saving", board, "exchange", 1, 3, 2, 4), ("pairs", board, 1, 3, 2),
+                      ("pages", board),
                       ("slip", "--board", board, SHEET), ("mark", "--board", board, SHEET, "--marks", self.marks),
                       ("mark", "--board", LOW, "--high", board, SHEET, "--marks", self.marks), ("pairs", LOW, 1, 3, 2, "--high", board)):
             self.assertEqual(self.call(*words), said, words)

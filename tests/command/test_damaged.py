@@ -13,8 +13,10 @@ from revosti_command.read import pack
 COUNT = 6_000
 SQUARE, WEIGHTS, WIDE, LINES = (EXAMPLES / name for name in ("square.tsp", "square_weights.tsp", "wide_weights.tsp", "square.txt"))
 TOUR = "NAME : nine\nTYPE : TOUR\nDIMENSION : 9\nTOUR_SECTION\n1 5 4\n7 6 2\n3 8 9\n-1\nEOF\n"
-REALS = "NAME: r\nTYPE: TSP\nDIMENSION: 5\nEDGE_WEIGHT_TYPE: EUC_2D\nNODE_COORD_SECTION\n1 1.5 -2.25\n2 1.1e+03 5\n3 2 2\n4 3 3.001\n5 7 7\nEOF\n"
-ODD = ["9" * 5000, "-1", "\u00b2", "1e309", "0x10", "\0", "\ufffe", "4294967296", "\n", "65536", "EOF", ":", "nan", "  ", "\r\n", "-1\n", "points"]
+REALS = ("NAME: r\nTYPE: TSP\nDIMENSION: 5\nEDGE_WEIGHT_TYPE: EUC_2D\nNODE_COORD_SECTION\n"
+         "1 1.5 -2.25\n2 1.1e+03 5\n3 2 2\n4 3 3.001\n5 7 7\nEOF\n")
+ODD = ["9" * 5000, "-1", "\u00b2", "1e309", "0x10", "\0", "\ufffe", "4294967296", "\n", "65536", "EOF", ":", "nan", "  ", "\r\n", "-1\n",
+       "points"]
 
 
 def damaged(data, r):
@@ -55,8 +57,10 @@ class Damaged(Folder):
         """Sheets in both forms, and beside a board."""
         file, marks = self.file, self.marks
         beside = [(name, "--board", SQUARE, file) for name in ("explain", "slip", "draw", "pack")]
-        whole = [("explain", file), ("slip", file), ("explain", file, "--json"), ("mark", file, "--marks", marks), ("ask", file, "--marks", marks),
-                 ("draw", file), ("draw", file, "--record", 22), ("pairs", file, "--record", 22), ("pairs", file, 1, 2, 3), ("unpack", file),
+        whole = [("explain", file), ("slip", file), ("explain", file, "--json"), ("mark", file, "--marks", marks),
+                 ("ask", file, "--marks", marks),
+                 ("draw", file), ("draw", file, "--record", 22), ("pairs", file, "--record", 22), ("pairs", file, 1, 2, 3),
+                 ("unpack", file),
                  ("saving", file, "exchange", 1, 2, 3, 4), ("tour", file, "1,2,3,4,5,6,7,8,9"), ("explain", file, "--high", NINE)]
         return [(self.text, whole), (self.text, [("pack", file)]), (self.sheet, whole), (self.sheet, [("unpack", file, "--tsplib")]),
                 (LINES.read_bytes(), beside)]
@@ -69,13 +73,15 @@ class Damaged(Folder):
                  ("mark", "--board", SQUARE, "--high", file, LINES, "--marks", self.small), ("pairs", SQUARE, 1, 3, 2, "--high", file),
                  ("read-pages", self.folder / "wall", "--board", file)]
         self.put("wall", self.wall)
-        return [(SQUARE.read_bytes(), alone), (WEIGHTS.read_bytes(), alone), (REALS.encode(), [("board", file), ("board", file, "--points", 4)])]
+        return [(SQUARE.read_bytes(), alone), (WEIGHTS.read_bytes(), alone),
+                (REALS.encode(), [("board", file), ("board", file, "--points", 4)])]
 
     def of_others(self):
         """Sets, their fingerprints, lists and tours."""
         file = self.file
         sets = [("convert", file, "--to", form) for form in ("packed", "bytes", "text")]
-        sets += [("pages", SQUARE, "--marks", file), ("confirm", "--marks", file), ("withdraw", "--marks", file), ("tour", SQUARE, "1,2,3,4", "--marks", file)]
+        sets += [("pages", SQUARE, "--marks", file), ("confirm", "--marks", file), ("withdraw", "--marks", file),
+                 ("tour", SQUARE, "1,2,3,4", "--marks", file)]
         return [(packed([1, 0, 2, 1, 1, 1]), sets), (self.print, [("pages", SQUARE, "--marks", self.folder / "c.marks")]),
                 (self.wall, [("read-pages", file), ("read-pages", file, "--points", 4), ("read-pages", file, "--board", SQUARE)]),
                 (TOUR.encode(), [("tour", NINE, file), ("draw", NINE, "--tour", file)])]

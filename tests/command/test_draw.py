@@ -179,7 +179,8 @@ class Command(Folder):
     def test_case_with_a_crossing(self):
         p = Picture(Run("draw", NINE, "--record", 10).out)
         self.assertEqual([p.edges(g) for g in ("k", "crossed", "named", "due")], [4, 1, 0, 0])
-        self.assertEqual((len(p.groups["rings"]), p.texts("legend")[1:4]), (2, ["record 10: K, 5 edges", "crossed: 4-8", "centres 2 and 5"]))
+        self.assertEqual((len(p.groups["rings"]), p.texts("legend")[1:4]),
+                         (2, ["record 10: K, 5 edges", "crossed: 4-8", "centres 2 and 5"]))
 
     def test_no_case(self):
         for record, words in ((0, "found 0"), (72, "which has 71 records, found 72"), ("x", 'expected a record, found "x"')):
@@ -241,7 +242,8 @@ class Command(Folder):
                 self.assertEqual((run.status, run.out), (2, b""))
                 self.assertIn("revosti: TOUR: expected", run.err)
                 self.assertIn(words, run.err)
-        for tour, words in (("1,2,3", "Point 4 is missing."), ("1,2,3,3", "Point 3 is there 2 times."), ("1,2,3,5", "Here is point 5; n is 4."),
+        for tour, words in (("1,2,3", "Point 4 is missing."), ("1,2,3,3", "Point 3 is there 2 times."),
+                            ("1,2,3,5", "Here is point 5; n is 4."),
                             ("", "Point 1 is missing.")):
             run = Run("draw", "--tour", tour, data=binary(SQUARE_RECORDS))
             self.assertEqual((run.status, run.out), (1, b""))

@@ -186,7 +186,8 @@ class DuePairs(unittest.TestCase):
 
 
 class Standing(unittest.TestCase):
-    """The pairs from the marker are those of the plain rules, at every split of a sheet, and at splits that no sheet has."""
+    """The pairs from the marker are those of the plain rules, at every split of a sheet, and at splits that no sheet
+    has."""
 
     def agree(self, parts, struck, way):
         """Both ways to list the pairs of a split."""
@@ -218,7 +219,8 @@ class Standing(unittest.TestCase):
                     pairs = self.agree(parts, {(4, 6)}, [line, parts.records[2]._replace(a=x, b=y, c=d)])
                     seen.add(len(pairs))
                     for p, q in pairs[:2]:
-                        self.agree(parts, {(4, 6)}, [line, parts.records[2]._replace(a=x, b=y, c=d), parts.records[2]._replace(a=p, b=q, c=9)])
+                        self.agree(parts, {(4, 6)},
+                                   [line, parts.records[2]._replace(a=x, b=y, c=d), parts.records[2]._replace(a=p, b=q, c=9)])
         self.assertGreater(len(seen), 4)
 
     def test_a_way_that_does_not_stand(self):
@@ -296,8 +298,8 @@ class Command(Folder):
         for name in ("explain", "slip"):
             run = Run(name, "--marks", marks, data=binary(SQUARE_RECORDS))
             self.assertEqual((run.status, run.err, len(run.notes)), (1, "", 1))
-            self.assertIn("Refused, number 12: The edge is struck already.\nIt was struck before this sheet.\n1 line before it is accepted.\n"
-                          "Struck: 2 edges. Pending: 0 edges. Open: 4 edges.\n\nRecord 2 is at fault:\n", run.text)
+            self.assertIn("Refused, number 12: The edge is struck already.\nIt was struck before this sheet.\n"
+                          "1 line before it is accepted.\nStruck: 2 edges. Pending: 0 edges. Open: 4 edges.\n\nRecord 2 is at fault:\n", run.text)
             self.assertEqual(marks.read_bytes(), packed([1, 1, 1, 1, 0, 1]))
         self.assertIn("The examiner sees 12 0 2 0 1 0: ", run.text)
         self.assertIn("The candidate sees 255 0 0 0 1 0: the sheet stopped, 1 line accepted.\n", run.text)

@@ -64,12 +64,15 @@ class Board(Sets):
             run = Run(*words)
             self.assertIn(run.status, (0, 1))
             self.assertEqual((run.err, len(run.notes)), ("", 1), words)
-            self.assertEqual(run.notes[0], f"revosti: {self.file}: the set is of unknown origin: no a.marks.fingerprint beside it tells which board it is of\n")
+            self.assertEqual(run.notes[0],
+                             f"revosti: {self.file}: the set is of unknown origin: no a.marks.fingerprint beside it tells "
+                             "which board it is of\n")
         self.assertFalse(self.beside.exists())
 
     def test_damaged(self):
         whole = self.beside.read_text()
-        for text in ("", "points 4\n", whole.replace("table", "tables"), whole + "table 12\n", whole.replace("points 4", "points x"), whole + whole,
+        for text in ("", "points 4\n", whole.replace("table", "tables"), whole + "table 12\n", whole.replace("points 4", "points x"),
+                     whole + whole,
                      whole.upper(), "\0" * 100):
             self.beside.write_text(text)
             run = Run("pages", SQUARE, "--marks", self.file)
@@ -97,7 +100,10 @@ class Board(Sets):
     def test_of_other_points(self):
         run = Run("pages", NINE, "--marks", self.file)
         self.assertEqual(run.status, 2)
-        self.assertIn("expected a packed set of 9 points", run.err)
+        self.assertIn(f"{OTHER}", run.err)
+        self.assertIn("this one has 9 points", run.err)
+        self.beside.unlink()
+        self.assertIn("expected a packed set of 9 points, 9 bytes, found 2 bytes", Run("pages", NINE, "--marks", self.file).err)
 
     def test_confirm_and_withdraw_ask_for_no_board(self):
         Run(*self.changing(SQUARE)[0])
@@ -111,7 +117,8 @@ class Limits(Sets):
     def setUp(self):
         super().setUp()
         self.assertEqual(Run("fresh", LOW, "--high", HIGH, "--marks", self.file, "--force").status, 0)
-        self.cut_board = self.put("cut.txt", binary(SQUARE_RECORDS, [(x // 10 * 12, y // 10 * 12) for x, y in ((0, 0), (10, 0), (10, 10), (0, 10))]))
+        self.cut_board = self.put("cut.txt", binary(SQUARE_RECORDS,
+                                                    [(x // 10 * 12, y // 10 * 12) for x, y in ((0, 0), (10, 0), (10, 10), (0, 10))]))
 
     def cut(self, board=None, low=LOW, high=HIGH):
         """The board that is cut."""
@@ -153,7 +160,8 @@ class Limits(Sets):
 
     def test_cut_outside(self):
         small = self.put("small.txt", binary(SQUARE_RECORDS, [(0, 0), (9, 0), (9, 9), (0, 9)]))
-        for board, words in ((small, "the length of 1-2 is 9, not from 10 to 13"), (NINE, "the board has 9 points, and the limits are of 4")):
+        for board, words in ((small, "the length of 1-2 is 9, not from 10 to 13"),
+                             (NINE, "the board has 9 points, and the limits are of 4")):
             self.assertEqual(self.cut(board).all, (2, "", f"revosti: {board}: {words}\n"))
         for limits in ({"low": HIGH}, {"high": LOW}, {"low": self.other}):
             self.assertIn("the set was not started with these low and high lengths", self.cut(**limits).err)

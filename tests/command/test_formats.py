@@ -1,5 +1,5 @@
-"""The examples in docs/FORMATS.md, sets of marks and TSPLIB texts among them, and the distances and savings in docs/RULES.md are true, and
-both have each refusal."""
+"""The examples in docs/FORMATS.md, sets of marks and TSPLIB texts among them, and the distances and savings in
+docs/RULES.md are true, and both have each refusal."""
 
 import re
 import unittest

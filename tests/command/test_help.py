@@ -1,5 +1,5 @@
-"""The help, README and FORMATS agree with each other and with what the command does; it runs from any folder, through links, and from a
-built tree that cannot be written."""
+"""The help, README and FORMATS agree with each other and with what the command does; it runs from any folder, through
+links, and from a built tree that cannot be written."""
 
 import json
 import os
@@ -17,7 +17,8 @@ from revosti_command.main import STATUS, parser
 COMMANDS = {module.NAME: module for module in every_command()}
 FORMATS, README, RULES, DECISIONS = ((ROOT / name).read_text(encoding="utf-8")
                                      for name in ("docs/FORMATS.md", "README.md", "docs/RULES.md", "docs/DECISIONS.md"))
-WANTED = {"mark", "ask", "confirm", "withdraw", "fresh", "explain", "pairs", "saving", "slip", "tour", "edges", "draw", "pages", "read-pages", "board",
+WANTED = {"mark", "ask", "confirm", "withdraw", "fresh", "explain", "pairs", "saving", "slip", "tour", "edges", "draw", "pages",
+          "read-pages", "board",
           "pack", "unpack", "convert"}
 
 
@@ -60,7 +61,8 @@ class Examples(Folder):
 
     def run_here(self, line):
         """One call, in the folder."""
-        return subprocess.run([PROGRAM, *shlex.split(line)[1:]], cwd=self.folder, capture_output=True, check=False, stdin=subprocess.DEVNULL)
+        return subprocess.run([PROGRAM, *shlex.split(line)[1:]], cwd=self.folder, capture_output=True, check=False,
+                              stdin=subprocess.DEVNULL)
 
     def test_examples(self):
         for name, module in COMMANDS.items():
@@ -129,7 +131,8 @@ class Fields(Folder):
         Run("fresh", EXAMPLES / "square.tsp", "--marks", marks)
         if name in ("confirm", "withdraw"):
             Run("ask", *sheet, "--marks", marks)
-        words = {"mark": (*sheet, "--marks", marks), "ask": (*sheet, "--marks", marks), "confirm": ("--marks", marks), "withdraw": ("--marks", marks),
+        words = {"mark": (*sheet, "--marks", marks), "ask": (*sheet, "--marks", marks), "confirm": ("--marks", marks),
+                 "withdraw": ("--marks", marks),
                  "pairs": (EXAMPLES / "square.tsp", 1, 2, 3), "tour": (EXAMPLES / "square.tsp", "1,2,3,4")}.get(name, sheet)
         found = [json.loads(Run(name, *words, "--json").text)]
         if name in ("mark", "ask", "explain"):
@@ -176,7 +179,8 @@ class Anywhere(Folder):
             path.chmod(0o555)
         self.addCleanup(lambda: [path.chmod(0o755) for path in folders])
         self.folder.chmod(0o777)
-        run = subprocess.run([*as_nobody(), tree / "bin/revosti", "explain", tree / "examples/square.bin"], cwd="/", capture_output=True, check=False,
+        run = subprocess.run([*as_nobody(), tree / "bin/revosti", "explain", tree / "examples/square.bin"], cwd="/", capture_output=True,
+                             check=False,
                              stdin=subprocess.DEVNULL, env={"PATH": os.environ["PATH"]})
         self.assertEqual((run.returncode, run.stderr), (0, b""))
         self.assertEqual(run.stdout.decode(), Run("explain", EXAMPLES / "square.bin").text)

@@ -70,7 +70,8 @@ class Lists(Folder):
                             (every[:-25], f"page 2, line 6: {expected} 11-12 with a length up to 2,000,000, found the end\n"),
                             (every + last, "page 2, line 7: expected the end after 6 lines, found 25 bytes more\n"),
                             (every + b"\n", "page 2, line 7: expected the end after 6 lines, found 1 byte more\n"),
-                            (every[:1500] + first + every[1500:], f"page 2, line 1: {expected} 9-10 with a length up to 2,000,000, found '  1   2 ")):
+                            (every[:1500] + first + every[1500:],
+                             f"page 2, line 1: {expected} 9-10 with a length up to 2,000,000, found '  1   2 ")):
             run = Run("read-pages", "--points", "12", data=text)
             self.assertEqual((run.status, run.out), (2, b""))
             self.assertIn(f"revosti: standard input: {words}", run.err)

@@ -106,7 +106,8 @@ class Records(Folder):
             self.assertIn(f"revosti: --record: expected a record of the sheet, which has 71 records, {words}\n", run.err)
 
     def test_a_record_that_marking_does_not_reach(self):
-        sheet = NINE.read_text().replace("  pair 2-7: split at 2\n    pair 6-9: split at 3\n", "  pair 1-8: split at 2\n    pair 6-9: split at 3\n")
+        sheet = NINE.read_text().replace("  pair 2-7: split at 2\n    pair 6-9: split at 3\n",
+                                         "  pair 1-8: split at 2\n    pair 6-9: split at 3\n")
         run = Run("pairs", "-", "--record", 5, data=sheet.encode())
         self.assertEqual((run.status, run.err), (2, "revosti: --record: marking does not get to record 5\n"))
 

@@ -31,7 +31,8 @@ class Rounded(unittest.TestCase):
         self.assertEqual(points(HEAD + NODES.replace("1.5 2.25", "-10.5 -0.4")), [(0, 0), (1126, 5), (12, 2), (13, 3), (17, 7)])
 
     def test_shapes(self):
-        for text in ((HEAD + NODES + "EOF\n").replace("\n", "\r\n"), (HEAD + NODES).replace(" ", "\t"), "\ufeff" + HEAD + NODES, HEAD + NODES + "EOF",
+        for text in ((HEAD + NODES + "EOF\n").replace("\n", "\r\n"), (HEAD + NODES).replace(" ", "\t"), "\ufeff" + HEAD + NODES,
+                     HEAD + NODES + "EOF",
                      HEAD.replace("NODE_COORD_SECTION", "DISPLAY_DATA_TYPE : COORD_DISPLAY\n\nNODE_COORD_SECTION:") + NODES,
                      HEAD + NODES.replace("7 7", "7. +7.0E0"), HEAD + NODES + "EOF\nmore\n"):
             self.assertEqual(points(text), [(2, 2), (1116, 5), (2, 2), (3, 3), (7, 7)])
@@ -57,15 +58,19 @@ class Command(Folder):
             self.assertIn(f"EDGE_WEIGHT_TYPE : {rule}\n", run.text)
 
     def test_bad_texts(self):
-        for text, words in ((HEAD, ": expected 5 nodes, found 0 nodes"), (HEAD + NODES.replace("3 2 2", "3 2"), ", line 8: expected node 3 of 5"),
+        for text, words in ((HEAD, ": expected 5 nodes, found 0 nodes"),
+                            (HEAD + NODES.replace("3 2 2", "3 2"), ", line 8: expected node 3 of 5"),
                             (HEAD + NODES.replace("3 2 2", "4 2 2"), ", line 8: expected node 3 of 5"),
                             (HEAD + NODES.replace("3 2 2", "3 2 x"), ', line 8: expected a number, found "x"'),
                             (HEAD + NODES.replace("3 2 2", f"3 2 {'9' * 5000}"), ", line 8: expected a number, found"),
                             (HEAD + NODES.replace("3 2 2", "3 2 1e999"), ", line 8: expected a number, found"),
-                            (HEAD + NODES.replace("3 2 2", "3 2 1000001"), ": point 3 comes to 2 1000001, above 1,000,000; a smaller --scale helps"),
-                            (HEAD.replace("EUC_2D", "GEO") + NODES, ', line 4: expected EUC_2D, CEIL_2D, ATT, MAN_2D, MAX_2D as EDGE_WEIGHT_TYPE, found "GEO"'),
+                            (HEAD + NODES.replace("3 2 2", "3 2 1000001"),
+                             ": point 3 comes to 2 1000001, above 1,000,000; a smaller --scale helps"),
+                            (HEAD.replace("EUC_2D", "GEO") + NODES,
+                             ', line 4: expected EUC_2D, CEIL_2D, ATT, MAN_2D, MAX_2D as EDGE_WEIGHT_TYPE, found "GEO"'),
                             (HEAD.replace("5", "x") + NODES, ', line 3: expected a whole number as DIMENSION, found "x"'),
-                            ("what\n", ', line 1: expected a keyword with a colon or NODE_COORD_SECTION, found "what"'), ("", ": expected NODE_COORD_SECTION"),
+                            ("what\n", ', line 1: expected a keyword with a colon or NODE_COORD_SECTION, found "what"'),
+                            ("", ": expected NODE_COORD_SECTION"),
                             (HEAD.replace("5", "2") + NODES, ": the board has 2 points, and 4 to 180 are wanted")):
             run = Run("board", data=text.encode())
             self.assertEqual((run.status, run.out), (2, b""), text)

@@ -190,7 +190,8 @@ class AtOnce(Folder):
         runs = [start("mark", sheet, "--marks", self.file) for sheet in self.sheets]
         for run in runs:
             _, said = run.communicate()
-            self.assertEqual((run.returncode, said.replace(f"revosti: {self.file}: another command changes it; waiting\n".encode(), b"")), (0, b""))
+            self.assertEqual((run.returncode, said.replace(f"revosti: {self.file}: another command changes it; waiting\n".encode(), b"")),
+                             (0, b""))
         self.assertEqual(self.struck(), sorted((a, b) for _, a, b, *_ in self.lines))
 
     def test_a_hundred_times(self):
@@ -244,15 +245,17 @@ class Existing(Sets):
         Run(*self.ask)
         wall = self.put("wall", Run("pages", SQUARE).out)
         for words in (("read-pages", wall), ("convert", self.file, "--to", "bytes")):
-            self.assertEqual(Run(*words, "-o", self.file).all, (2, "", f"revosti: {self.file}: there is such a file already; --force replaces it\n"))
+            self.assertEqual(Run(*words, "-o", self.file).all,
+                             (2, "", f"revosti: {self.file}: there is such a file already; --force replaces it\n"))
             self.assertEqual(self.file.read_bytes(), ASKED)
 
     def test_no_output_goes_over_a_set(self):
-        for words in (("pages", SQUARE), ("draw", SQUARE), ("edges", SQUARE), ("convert", self.file, "--to", "text"), (*self.ask, )):
+        for words in (("pages", SQUARE), ("draw", SQUARE), ("edges", SQUARE), ("convert", self.file, "--to", "text"), self.ask,
+                      ("withdraw", "--marks", self.file), ("fresh", SQUARE, "--marks", self.folder / "b.marks")):
             run = Run(*words, "-o", self.file)
             self.assertEqual(run.status, 2)
             self.assertIn("this is a set of marks, with its fingerprint beside it, and is not overwritten", run.err)
-        self.assertEqual(self.file.read_bytes(), ASKED)
+        self.assertEqual((self.file.read_bytes(), self.names()), (FRESH, ["a.marks", "a.marks.fingerprint"]))
 
     def test_links_and_modes_stay(self):
         link = self.folder / "link.marks"
@@ -265,7 +268,8 @@ class Existing(Sets):
     def test_what_is_no_file(self):
         pipe = self.folder / "pipe"
         os.mkfifo(pipe)
-        for file, words in ((self.folder, "Is a directory"), (pipe, "expected a regular file"), (Path("/dev/null"), "expected a regular file")):
+        for file, words in ((self.folder, "Is a directory"), (pipe, "expected a regular file"),
+                            (Path("/dev/null"), "expected a regular file")):
             run = Run("withdraw", "--marks", file)
             self.assertIn(f"revosti: {file}: {words}\n", run.err)
             self.assertIn(run.status, (2, 3))

@@ -24,7 +24,8 @@ class BadUse(unittest.TestCase):
             self.assertIn("required: POINT", self.complaint("x", rule))
 
     def test_points(self):
-        for word, said in (("x", 'expected a point, found "x"'), ("", 'expected a point, found ""'), ("1-2", 'expected a point, found "1-2"'),
+        for word, said in (("x", 'expected a point, found "x"'), ("", 'expected a point, found ""'),
+                           ("1-2", 'expected a point, found "1-2"'),
                            ("-1", 'expected a point, found "-1"'), ("+1", 'expected a point, found "+1"'),
                            ("1.0", 'expected a point, found "1.0"'), ("²", 'expected a point, found "²"'),
                            ("65536", "expected a point from 0 to 65535, found 65536"),

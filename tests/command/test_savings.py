@@ -1,4 +1,5 @@
-"""revosti saving over the library: the saving, the sums that show it, what it means; and what explain tells of a refusal 16."""
+"""revosti saving over the library: the saving, the sums that show it, what it means; and what explain tells of a
+refusal 16."""
 
 import random
 import re
@@ -74,7 +75,8 @@ def told(parts, test, *points):
 
 
 def sentences(text):
-    """The saving of the first sentence, and the sums of each step: taken out, put in, saved, each as the numbers of its sum."""
+    """The saving of the first sentence, and the sums of each step: taken out, put in, saved, each as the numbers of its
+    sum."""
     saving = int(re.match(r".* saves (-?\d+)\.\n", text)[1])
     return saving, [[list(map(int, re.findall(r"-?\d+", part))) for part in step] for step in re.findall(
         r"^Taken out: [^.]*, (\d[\d +]* = \d+)\. Put in: [^.]*, (\d[\d +]* = \d+)\. Saved: (.*)\.$", text, re.M)]
@@ -174,7 +176,8 @@ class Command(Folder):
     def test_refusals(self):
         eleven = "Refused, number 11: A point is outside 1 to n, or a = b; for a saving also, both ends of an edge taken out are the same."
         for words, more in ((("exchange", 1, 7, 2, 3), " Here Q is 7; n is 6."), (("exchange", 1, 2, 0, 3), " Here X is 0; n is 6."),
-                            (("exchange", 1, 2, 3, 3), ""), (("move", 1, 1, 2, 3, 4), ""), (("move", 65535, 1, 2, 3, 4), " Here C is 65535; n is 6."),
+                            (("exchange", 1, 2, 3, 3), ""), (("move", 1, 1, 2, 3, 4), ""),
+                            (("move", 65535, 1, 2, 3, 4), " Here C is 65535; n is 6."),
                             (("crossing", 1, 2, 3, 4, 3, 1, 2, 1), "")):
             self.assertEqual(self.run_saving(self.board, *words), (1, "", f"revosti: {eleven}{more}\n"), words)
 
@@ -204,7 +207,8 @@ class Explain(unittest.TestCase):
         """The sentence about the saving, or None."""
         fresh = bytes(revosti.fresh_marks(parts.n))
         text = explain(Sheet(parts, []), Verdict(16, record, 0, Lengths(parts.n, measured(parts)), fresh, fresh))
-        found = re.search(r"^Refused, number 16: No labelling of the crossing saves on both moves\.\nIts best labelling saves (.*)\.$", text,
+        found = re.search(r"^Refused, number 16: No labelling of the crossing saves on both moves\.\nIts best labelling saves (.*)\.$",
+                          text,
                           re.M)
         return int(found[1]) if found else None
 

@@ -44,9 +44,11 @@ class HandIn(Archive):
         fresh, asked = "Struck: 0 edges. Pending: 0 edges. Open: 6 edges.", "Struck: 0 edges. Pending: 2 edges. Open: 4 edges."
         self.done(fresh, [1] * 6, "fresh", self.sheet)
         self.done(f"2 lines are accepted. {asked}", [1, 2, 1, 1, 2, 1], "ask", self.sheet)
-        self.refused("Refused, number 20: Something is pending: confirm or withdraw it first.", packed([1, 2, 1, 1, 2, 1]), "mark", self.sheet)
+        self.refused("Refused, number 20: Something is pending: confirm or withdraw it first.", packed([1, 2, 1, 1, 2, 1]), "mark",
+                     self.sheet)
         self.done(fresh, [1] * 6, "withdraw")
-        self.bad(f"{self.file}: Refused, number 21: Nothing is pending: there is nothing to confirm or withdraw.", packed([1] * 6), "confirm", status=1)
+        self.bad(f"{self.file}: Refused, number 21: Nothing is pending: there is nothing to confirm or withdraw.", packed([1] * 6),
+                 "confirm", status=1)
         self.call("ask", self.sheet)
         self.done("Struck: 2 edges. Pending: 0 edges. Open: 4 edges.", [1, 0, 1, 1, 0, 1], "confirm")
 

@@ -52,7 +52,8 @@ class Slip(Folder):
 
     def test_a_sheet(self):
         told = "\n\nRefused, number 14: "
-        for words, slip, more in (((self.file,), SLIP, told), ((self.file, "--release"), SLIP | RELEASED, told), (("--number", SLIP), SLIP, "\n"),
+        for words, slip, more in (((self.file,), SLIP, told), ((self.file, "--release"), SLIP | RELEASED, told),
+                                  (("--number", SLIP), SLIP, "\n"),
                                   (("--number", f"00{SLIP}", "--release"), SLIP | RELEASED, "\n")):
             run = Run("slip", *words)
             self.assertEqual((run.status, run.err), (1, ""))

@@ -44,27 +44,32 @@ class Tour(Squares):
         wanted = Run("tour", NINE, ",".join(map(str, SHORTEST))).all
         blank, lines = " ".join(map(str, SHORTEST)), "\n".join(map(str, SHORTEST))
         tsplib = "NAME : nine.opt.tour\nCOMMENT : 1 2 3\nTYPE : TOUR\nDIMENSION : 9\nTOUR_SECTION\n"
-        for text in (blank, lines, ",".join(map(str, SHORTEST)) + "\n", tsplib + lines + "\n-1\nEOF\n", tsplib + blank + " -1\n", tsplib + lines,
+        for text in (blank, lines, ",".join(map(str, SHORTEST)) + "\n", tsplib + lines + "\n-1\nEOF\n", tsplib + blank + " -1\n",
+                     tsplib + lines,
                      tsplib.replace("\n", "\r\n") + lines.replace("\n", "\r\n") + "\r\n-1\r\nEOF\r\n", (tsplib + blank + "\nEOF\n")):
             self.assertEqual(Run("tour", NINE, self.put("a.tour", text)).all, wanted, text)
 
     def test_refused(self):
-        for tour, words in (("1,2,3", "Point 4 is missing."), ("1,2,3,3", "Point 3 is there 2 times."), ("1,2,3,4,4", "Point 4 is there 2 times."),
+        for tour, words in (("1,2,3", "Point 4 is missing."), ("1,2,3,3", "Point 3 is there 2 times."),
+                            ("1,2,3,4,4", "Point 4 is there 2 times."),
                             ("1,2,3,5", "Here is point 5; n is 4."), ("0,1,2,3", "Here is point 0; n is 4."), (" ", "Point 1 is missing.")):
             run = Run("tour", SQUARE, tour)
             self.assertEqual((run.status, run.out), (1, b""))
-            self.assertEqual(run.err, "revosti: the tour: Refused, number 17: The tour is not n numbers, or not each point from 1 to n exactly once. "
-                                      f"{words}\n")
+            self.assertEqual(run.err, "revosti: the tour: Refused, number 17: The tour is not n numbers, or not each point from 1 to n "
+                                      f"exactly once. {words}\n")
 
     def test_bad_texts(self):
-        for text, words in (("1,2,x,4", 'expected point numbers with commas or blanks between, found "x"'), ("1 2 70000 4", "from 0 to 65535, found 70000"),
-                            ("1,2,³,4", 'found "³"'), ("9" * 5000, f"found {'9' * 40}.."), ("TYPE : TSP\nTOUR_SECTION\n1 2\n", 'found "TSP"')):
+        for text, words in (("1,2,x,4", 'expected point numbers with commas or blanks between, found "x"'),
+                            ("1 2 70000 4", "from 0 to 65535, found 70000"),
+                            ("1,2,³,4", 'found "³"'), ("9" * 5000, f"found {'9' * 40}.."),
+                            ("TYPE : TSP\nTOUR_SECTION\n1 2\n", 'found "TSP"')):
             file = self.put("a.tour", text)
             self.assertEqual((Run("tour", SQUARE, file).status, words in Run("tour", SQUARE, file).err), (2, True), text)
 
     def test_json(self):
         run = Run("tour", SQUARE, "1,3,2,4", "--marks", self.marks, "--json")
-        self.assertEqual(json.loads(run.text), {"refusal": 0, "length": 48, "open": False, "struck": [[1, 3], [2, 4]], "tour": [1, 3, 2, 4]})
+        self.assertEqual(json.loads(run.text),
+                         {"refusal": 0, "length": 48, "open": False, "struck": [[1, 3], [2, 4]], "tour": [1, 3, 2, 4]})
         self.assertEqual(json.loads(Run("tour", SQUARE, "1,2", "--json").text)["refusal"], 17)
 
 

@@ -138,8 +138,8 @@ class Refused(Board):
 
 
 class Handed(Board):
-    """The commands that call the library, on a board's file and on a sheet beside one. The library is asked whether the text is one, then
-    for its table."""
+    """The commands that call the library, on a board's file and on a sheet beside one. The library is asked whether the
+    text is one, then for its table."""
 
     def setUp(self):
         super().setUp()
@@ -150,7 +150,8 @@ class Handed(Board):
                          ("pairs", self.board, 1, 3, 2), ("pages", self.board)]
         self.beside = [(command, "--board", self.board, *more) for command, *more in
                        (("mark", "--marks", self.marks), ("ask", "--marks", self.marks), ("slip",))]
-        self.high = [("pairs", self.sheet, 1, 3, 2, "--high", self.board), ("mark", self.sheet, "--high", self.board, "--marks", self.marks)]
+        self.high = [("pairs", self.sheet, 1, 3, 2, "--high", self.board),
+                     ("mark", self.sheet, "--high", self.board, "--marks", self.marks)]
 
     def test_each_fault(self):
         for board, line, words in FAULTS:

@@ -1,6 +1,7 @@
 """Packed sets in files: started, read, and changed by a call (01, Pending edges).
 
-A set is changed under a lock from its reading to its replacing, and only where the call changes it; a sheet that stops at a record does.
+A set is changed under a lock from its reading to its replacing, and only where the call changes it; a sheet that stops
+at a record does.
 """
 
 import os
@@ -23,8 +24,9 @@ def start(lengths, file, force=False):
 
 
 def keep(file, data, found, force=False):
-    """Makes a file for a set, with the fingerprint beside it, or none. With force, a file of this name is replaced. Both are written before
-    either takes its place, and between the two steps the set is of unknown origin, never of a wrong one."""
+    """Makes a file for a set, with the fingerprint beside it, or none. With force, a file of this name is replaced.
+    Both are written before either takes its place, and between the two steps the set is of unknown origin, never of a
+    wrong one."""
     text = b"" if found is None else text_of(found)
     with named(beside(file)), written_beside(beside(file), text) as ready:
         if force and os.path.lexists(file):
@@ -64,8 +66,8 @@ def checked(file, test, *data):
 
 
 def change(file, call, lengths=None):
-    """What a call answers that changes the set in a file, a bytearray. The set is that of the lengths, where there are any; without them
-    its size tells n."""
+    """What a call answers that changes the set in a file, a bytearray. The set is that of the lengths, where there are
+    any; without them its size tells n."""
     with held(file):
         if lengths is not None:
             hold(file, lengths, changing=True)

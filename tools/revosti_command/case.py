@@ -1,4 +1,5 @@
-"""One record of a sheet, as the marker sees it: K, its split point or its crossing, the pairs that stand there, and which have a case."""
+"""One record of a sheet, as the marker sees it: K, its split point or its crossing, the pairs that stand there, and
+which have a case."""
 
 from typing import NamedTuple
 
@@ -13,8 +14,8 @@ from .words import Complaint, counted
 
 
 class Case(NamedTuple):
-    """K with the record's own edge or pair, its split point or its two centres, the edge that it crosses, the pairs that stand at the
-    split, those of them that no case names, and the marks that the record's line is judged over."""
+    """K with the record's own edge or pair, its split point or its two centres, the edge that it crosses, the pairs
+    that stand at the split, those of them that no case names, and the marks that the record's line is judged over."""
 
     k: list
     points: list

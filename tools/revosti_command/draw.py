@@ -21,8 +21,8 @@ PAPER, INK, SLATE, ORANGE, GREEN, BLUE, PURPLE, RED = (
 
 
 class Scene(NamedTuple):
-    """What a picture shows: the points and the name of their rule, the marks, the edges of a tour and its length, a case and its record, and
-    the marks that are left out."""
+    """What a picture shows: the points and the name of their rule, the marks, the edges of a tour and its length, a
+    case and its record, and the marks that are left out."""
 
     points: list
     rule: str
@@ -35,8 +35,8 @@ class Scene(NamedTuple):
 
 
 def draw(scene):
-    """The SVG of a scene. A pending leg of the tour counts as open; it is drawn as tour with a light core, and pending edges lie above
-    that."""
+    """The SVG of a scene. A pending leg of the tour counts as open; it is drawn as tour with a light core, and pending
+    edges lie above that."""
     case, by_name = scene.case, {name: marked(len(scene.points), scene.marks, mark) for mark, name in NAMES.items()}
     shown = {name: [] if name in scene.without else found for name, found in by_name.items()}
     broken = sorted(set(scene.legs) & set(by_name["struck"]))
@@ -90,8 +90,8 @@ def page(view, css, body):
 
 
 def style(view, shown, case):
-    """The look of each class. The more edges, the lighter each of them; a struck edge has less ink than an open one, and around a case all
-    of them step back."""
+    """The look of each class. The more edges, the lighter each of them; a struck edge has less ink than an open one,
+    and around a case all of them step back."""
     opened, pending, struck = (len(shown[name]) for name in ("open", "pending", "struck"))
     back = 0.35 if case else 1
     return "\n".join([
@@ -116,7 +116,8 @@ def style(view, shown, case):
 
 
 def case_style():
-    """The look of a case: K thick, the edges of standing pairs dashed, darker where no case names the pair, split point or centres ringed."""
+    """The look of a case: K thick, the edges of standing pairs dashed, darker where no case names the pair, split point
+    or centres ringed."""
     return [f".k {{ stroke: {INK}; stroke-width: 7; }}", f".crossed {{ stroke: {BLUE}; stroke-width: 7; }}",
             f".named {{ stroke: {PURPLE}; stroke-width: 3.5; stroke-dasharray: 12 7; }}",
             f".due {{ stroke: {RED}; stroke-width: 3.5; stroke-dasharray: 12 7; }}",
@@ -187,7 +188,8 @@ def case_rows(scene):
     case = scene.case
     rows = [("k", f"record {scene.record}: K, {counted(len(case.k), 'edge')}")]
     if case.crossed:
-        return [*rows, ("crossed", f"crossed: {case.crossed[0]}-{case.crossed[1]}"), ("ring", f"centres {case.points[0]} and {case.points[1]}")]
+        return [*rows, ("crossed", f"crossed: {case.crossed[0]}-{case.crossed[1]}"),
+                ("ring", f"centres {case.points[0]} and {case.points[1]}")]
     rows += [("ring", f"split at {case.points[0]}")]
     rows += [("named", f"with a case: {counted(len(case.pairs) - len(case.due), 'pair')}")] if len(case.due) < len(case.pairs) else []
     return rows + ([("due", f"due: {counted(len(case.due), 'pair')}")] if case.due else [])

@@ -1,4 +1,5 @@
-"""What a sheet lacks, where it is refused: a sentence or two, or none where file and library do not settle it. Nothing here is a guess.
+"""What a sheet lacks, where it is refused: a sentence or two, or none where file and library do not settle it. Nothing
+here is a guess.
 
 The pairs that are due come from the proved marker (`standing`), what a crossing saves from the library.
 """
@@ -82,7 +83,8 @@ def wrong_size(parts):
 
 
 class Sight:
-    """A record of a sheet among the others and with its place. The place is None if the nesting does not reach the record."""
+    """A record of a sheet among the others and with its place. The place is None if the nesting does not reach the
+    record."""
 
     def __init__(self, records, lengths, marks, number):
         self.records, self.lengths, self.marks, self.number = records, lengths, marks, number
@@ -218,7 +220,8 @@ def due_pairs(sight):
 
 
 def missing_pairs(sight, rest):
-    """The pairs due after a record whose own pair is right: those of its empty chain, or the rest of the chain that it ends."""
+    """The pairs due after a record whose own pair is right: those of its empty chain, or the rest of the chain that it
+    ends."""
     record = sight.record
     if holds_split(record) and record.d == 0:
         inner = sight.standing(sight.number)

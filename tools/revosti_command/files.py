@@ -1,7 +1,9 @@
-"""Files read whole, and files that are replaced at once: what a file held is there until what it gets is written and synced.
+"""Files read whole, and files that are replaced at once: what a file held is there until what it gets is written and
+synced.
 
-A set of marks that is changed is locked from its reading to its replacing (`held`): its own file is locked, not one beside it, so that
-nothing is left behind. Whoever gets the lock looks whether the file is still the one of this name, for the one before may have replaced it.
+A set of marks that is changed is locked from its reading to its replacing (`held`): its own file is locked, not one
+beside it, so that nothing is left behind. Whoever gets the lock looks whether the file is still the one of this name,
+for the one before may have replaced it.
 """
 
 import errno
@@ -70,8 +72,8 @@ def named(file):
 
 
 def replace(file, data, first=lambda: None):
-    """Gives a file these bytes at once, or makes it; what is to be done first is done once they are written. What is no regular file,
-    such as /dev/null, is written as it is."""
+    """Gives a file these bytes at once, or makes it; what is to be done first is done once they are written. What is no
+    regular file, such as /dev/null, is written as it is."""
     place = real(file)
     with named(file):
         if place.exists() and not place.is_file():
@@ -111,7 +113,8 @@ def link_new(beside, place):
 
 @contextmanager
 def written_beside(place, data):
-    """A new file beside another, written and synced, with the mode of the other. It is removed unless it took the other's place."""
+    """A new file beside another, written and synced, with the mode of the other. It is removed unless it took the
+    other's place."""
     handle, beside = tempfile.mkstemp(prefix=f".{place.name}.", suffix=".new", dir=place.parent)
     try:
         with open(handle, "wb") as out:

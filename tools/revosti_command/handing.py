@@ -5,7 +5,7 @@ from revosti import Refusal
 from .archive import change
 from .edges import edge_count
 from .explain import as_json, counts, told
-from .options import add_changed_set, add_json, add_out, add_sheet, answer, board_name, lengths_of, load_sheet
+from .options import add_changed_set, add_json, add_out, add_sheet, answer, board_name, guard, lengths_of, load_sheet
 from .verdict import counted_marks, judge
 from .words import are, counted
 
@@ -20,6 +20,7 @@ def add_handing(command):
 
 def hand_in(options, operation, high=None):
     """Marks or asks a sheet over the set of a file, and tells the verdict."""
+    guard(options)
     sheet = load_sheet(options)
     lengths = lengths_of(sheet.parts, board_name(options), high, options.form)
     verdict = change(options.marks, lambda _, marks: judge(operation, lengths, marks, sheet.parts), lengths)
@@ -45,6 +46,7 @@ def settle(options, operation):
     def call(n, marks):
         operation(n, marks)
         return n, bytes(marks)
+    guard(options)
     try:
         n, marks = change(options.marks, call)
     except Refusal as refusal:

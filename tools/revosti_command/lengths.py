@@ -5,7 +5,8 @@ The operations are those of the module `revosti`; each is that of one table or t
 
 from typing import NamedTuple
 
-from revosti import (LEAST_POINTS, MOST_POINTS, Refusal, ask_sheet, list_between, list_pairs, mark_between, mark_sheet, measure, read_tsplib)
+from revosti import (LEAST_POINTS, MOST_POINTS, Refusal, ask_sheet, list_between, list_pairs, mark_between, mark_sheet, measure,
+                     read_tsplib)
 
 from .parts import MAX_FILE, Beside, join
 
@@ -36,8 +37,8 @@ class Lengths(NamedTuple):
 
 
 def measured(parts):
-    """The table of a board: that of its TSPLIB text, or that of a sheet's coordinates. A file that ends inside the board, or is too long,
-    gets 7, as from `mark`, unless n is refused."""
+    """The table of a board: that of its TSPLIB text, or that of a sheet's coordinates. A file that ends inside the
+    board, or is too long, gets 7, as from `mark`, unless n is refused."""
     if isinstance(parts, Beside):
         return read_tsplib(parts.text).table
     known = parts.n is not None and not LEAST_POINTS <= parts.n <= MOST_POINTS

@@ -40,7 +40,7 @@ def main(arguments=None):
     except BrokenPipeError:
         with suppress(OSError):
             os.dup2(os.open(os.devnull, os.O_WRONLY), sys.stdout.fileno())
-        return complain(f"standard output: nobody reads it any more{left(options)}", 3)
+        return complain(f"standard output: nobody reads it any more{left(options)}", 3) if left(options) else 3
     except OSError as error:
         return complain(f"{error.filename or 'standard output'}: {error.strerror}", 3)
     except KeyboardInterrupt:
@@ -74,7 +74,8 @@ def refused(options, refusal):
     """Tells a refusal, with what is known of it."""
     more = getattr(refusal, "detail", None)
     if getattr(options, "json", False):
-        write_out(json.dumps({"refusal": refusal.number, "record": refusal.record, "words": refusal.words, "detail": more}).encode() + b"\n")
+        write_out(json.dumps({"refusal": refusal.number, "record": refusal.record, "words": refusal.words,
+                              "detail": more}).encode() + b"\n")
         return 1
     where = getattr(refusal, "where", None)
     return complain(" ".join(filter(None, (where and f"{where}:", str(refusal), more))), 1)

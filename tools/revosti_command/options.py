@@ -35,7 +35,8 @@ def add_json(command):
 
 def add_form(command):
     """The option for a file's form."""
-    command.add_argument("--form", choices=("text", "binary"), help="the form of the file; else a file without control characters is a text")
+    command.add_argument("--form", choices=("text", "binary"),
+                         help="the form of the file; else a file without control characters is a text")
 
 
 def add_sheet(command, board="by coordinates or weights"):
@@ -105,14 +106,16 @@ def decode(data):
 
 
 def is_text(data):
-    """Whether bytes look like the text form: some, none of them controls. Binary sheets have zero bytes in their rule."""
+    """Whether bytes look like the text form: some, none of them controls. Binary sheets have zero bytes in their
+    rule."""
     return bool(data) and CONTROLS.isdisjoint(data)
 
 
 def is_wide(data):
     """Whether bytes look like a text in UTF-16, which some editors write: two bytes a letter."""
-    plain = data[:2] in UTF_16 or len(data) >= 8 and (not any(data[1:8:2]) and all(data[0:8:2]) or not any(data[0:8:2]) and all(data[1:8:2]))
-    return plain and len(data) % 2 == 0
+    even, odd = data[0:8:2], data[1:8:2]
+    spaced = len(data) >= 8 and any(all(letters) and not any(zeros) for letters, zeros in ((even, odd), (odd, even)))
+    return len(data) % 2 == 0 and (data[:2] in UTF_16 or spaced)
 
 
 def text_sheet(file, data, board=None):
@@ -145,13 +148,13 @@ def load_sheet(options, read=read_text):
 def load_file(file, form):
     """The sheet in a file of either form."""
     data = read_file(file)
-    if form is None and not is_text(data) and is_wide(data) or form == "text" or form is None and is_text(data):
-        return text_sheet(file, data)
-    return Sheet(split(data), [])
+    as_text = form == "text" or form is None and (is_text(data) or is_wide(data))
+    return text_sheet(file, data) if as_text else Sheet(split(data), [])
 
 
 def load_board(file, form=None, read=read_text):
-    """The sheet of a board's file: of a TSPLIB text where its name says so and no form is asked for, it has no records."""
+    """The sheet of a board's file: of a TSPLIB text where its name says so and no form is asked for, it has no
+    records."""
     if form is None and str(file or "").endswith(TSPLIB):
         return Sheet(board_of(file, read), [])
     return load_file(file, form)
@@ -184,19 +187,23 @@ def marks_for(options, lengths):
     """The set that is named, held against the board, or fresh marks."""
     if options.marks is None:
         return fresh_marks(lengths.n)
-    marks = load_set(options.marks, lengths.n)
     hold(options.marks, lengths)
-    return marks
+    return load_set(options.marks, lengths.n)
 
 
 def write(options, data):
-    """Puts bytes where the options say. A set of marks is not overwritten."""
+    """Puts bytes where the options say."""
+    guard(options)
     if options.out in STANDARD:
         write_out(data)
-        return
-    if is_set(options.out):
+    else:
+        replace(options.out, data)
+
+
+def guard(options):
+    """A set of marks is not overwritten by what a command says. One that changes a set asks this first."""
+    if options.out not in STANDARD and is_set(options.out):
         raise Complaint(f"{options.out}: this is a set of marks, with its fingerprint beside it, and is not overwritten")
-    replace(options.out, data)
 
 
 def say(options, words):

@@ -39,7 +39,8 @@ def read_list(text, n=None):
 def fault(page, on_page, line):
     """What is wrong with a line of a page that has these edges, in words."""
     if line > len(on_page):
-        return f"expected the end after {counted(len(on_page), 'line')}, found {counted(len(page) - LINE_BYTES * len(on_page), 'byte')} more"
+        more = len(page) - LINE_BYTES * len(on_page)
+        return f"expected the end after {counted(len(on_page), 'line')}, found {counted(more, 'byte')} more"
     (a, b), found = on_page[line - 1], page[LINE_BYTES * (line - 1):LINE_BYTES * line]
     shown = ascii(found.decode("latin-1")) if found else "the end"
     return f"expected the line of {a}-{b} with a length up to 2,000,000, found {shown}"
@@ -62,5 +63,5 @@ def points_of(text):
     for n in range(LEAST_POINTS, MOST_POINTS + 1):
         if edge_count(n) * LINE_BYTES == len(text):
             return n
-    raise BadPages(f"expected the wall list of {LEAST_POINTS} to {MOST_POINTS} points, {LINE_BYTES} bytes an edge, found {counted(len(text), 'byte')}, "
-                   f"the size of none; with --points the page and the line are told")
+    raise BadPages(f"expected the wall list of {LEAST_POINTS} to {MOST_POINTS} points, {LINE_BYTES} bytes an edge, "
+                   f"found {counted(len(text), 'byte')}, the size of none; with --points the page and the line are told")

@@ -1,4 +1,5 @@
-"""A board from a TSPLIB text as others write it: real coordinates, tabs, carriage returns, keywords that are of no matter here.
+"""A board from a TSPLIB text as others write it: real coordinates, tabs, carriage returns, keywords that are of no
+matter here.
 
 Coordinates are scaled and rounded to whole ones, exactly; what was done is told.
 """
@@ -40,20 +41,23 @@ def number(word, line):
 
 
 def read_reals(data, scale=Fraction(1), most=None):
-    """The board of a text with real coordinates, in bytes: the first so many points, scaled, moved so that none is below 0, and rounded."""
+    """The board of a text with real coordinates, in bytes: the first so many points, scaled, moved so that none is
+    below 0, and rounded."""
     lines = [(at, line.strip()) for at, line in enumerate(lines_of(data.removeprefix(BOM)), 1)]
     rule, n, rest = read_head([(at, line) for at, line in lines if line])
     points = read_nodes(rest, n)
     kept = points[:most] if most is not None else points
     if not LEAST_POINTS <= len(kept) <= MOST_POINTS:
-        raise BadReals(f"the board has {counted(len(kept), 'point')}, and {LEAST_POINTS} to {MOST_POINTS} are wanted; --points takes the first so many")
+        raise BadReals(f"the board has {counted(len(kept), 'point')}, and {LEAST_POINTS} to {MOST_POINTS} are wanted; "
+                       "--points takes the first so many")
     scaled = [(x * scale, y * scale) for x, y in kept]
     shift = tuple(max(0, -rounded(min(p[axis] for p in scaled))) for axis in (0, 1))
     moved = [(x + shift[0], y + shift[1]) for x, y in scaled]
     whole = [(rounded(x), rounded(y)) for x, y in moved]
     far = [i for i, p in enumerate(whole, 1) if max(p) > MAX_COORDINATE]
     if far:
-        raise BadReals(f"point {far[0]} comes to {whole[far[0] - 1][0]} {whole[far[0] - 1][1]}, above {MAX_COORDINATE:,}; a smaller --scale helps")
+        x, y = whole[far[0] - 1]
+        raise BadReals(f"point {far[0]} comes to {x} {y}, above {MAX_COORDINATE:,}; a smaller --scale helps")
     return Board(Parts(rule, len(kept), whole, [], b""), told(len(points), kept, scale, shift, moved, whole))
 
 

@@ -13,8 +13,8 @@ from .edges import name
 
 
 class Rule(NamedTuple):
-    """A rule that saves: the points that it names, the call that answers its saving, and functions of these points for the steps that
-    show it, for its name in words, and for what the saving says."""
+    """A rule that saves: the points that it names, the call that answers its saving, and functions of these points for
+    the steps that show it, for its name in words, and for what the saving says."""
 
     points: str
     call: Callable

@@ -1,10 +1,11 @@
 """The pairs that stand at a split, at any depth, from the proved marker itself.
 
-A sheet is made of the records from the line down to the split, and of one case more: the pair in question, closed by a crossing whose two
-centres are the same point. Marking gets to that case and says 15 where its pair is the next standing one, 14 where it is not (01, Each
-operation and its refusals: 14 comes before 15). At the split points no edge is left open but those of K and the two of the pair. So no
-other pair stands before it; and where it stands, none before those on the way, since a split point of the way has its two edges in K then,
-and the pair gives it no third. A pair that gives it one may get 14 further up, and does not stand.
+A sheet is made of the records from the line down to the split, and of one case more: the pair in question, closed by a
+crossing whose two centres are the same point. Marking gets to that case and says 15 where its pair is the next standing
+one, 14 where it is not (01, Each operation and its refusals: 14 comes before 15). At the split points no edge is left
+open but those of K and the two of the pair. So no other pair stands before it; and where it stands, none before those
+on the way, since a split point of the way has its two edges in K then, and the pair gives it no third. A pair that
+gives it one may get 14 further up, and does not stand.
 """
 
 from array import array
@@ -12,13 +13,14 @@ from array import array
 from revosti import OPEN, STRUCK, Refusal, place
 
 from .edges import edge
+from .lengths import Lengths
 from .parts import CROSSING, LINE, SPLIT, Record
 
 
 def standing(lengths, marks, way):
-    """The pairs that stand at the split of the last of some records, the first of them a line, each of the others a case of the one before.
-    None where marking does not get there. The marks are a packed set with nothing pending."""
-    lengths = lengths._replace(**{name: array("I", getattr(lengths, name)) for name in ("table", "high") if getattr(lengths, name) is not None})
+    """The pairs that stand at the split of the last of some records, the first of them a line, each of the others a
+    case of the one before. None where marking does not get there. The marks are a packed set with nothing pending."""
+    lengths = Lengths(lengths.n, *(array("I", table) for table in lengths.tables))  # lent as they are, many times
     k, c = edges_of(way), way[-1].c
     narrow = narrowed(lengths.n, marks, {record.c for record in way}, k)
     try:
@@ -69,8 +71,8 @@ def put(n, marks, a, b, mark):
 
 
 def probe(lengths, marks, way, a, b):
-    """The refusal number and the record that marking answers for a case with a pair where the way ends. A crossing with one point as
-    both centres never settles a case."""
+    """The refusal number and the record that marking answers for a case with a pair where the way ends. A crossing with
+    one point as both centres never settles a case."""
     sheet = [Record(SPLIT if above else LINE, record.a, record.b, 0, 0, record.c, above + 2, 0) for above, record in enumerate(way)]
     try:
         lengths.mark(marks, [*sheet, Record(CROSSING, a, b, 1, 2, 3, 3, 0)])

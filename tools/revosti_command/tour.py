@@ -1,4 +1,5 @@
-"""Tours: from the command line, from a list of numbers in a file, or from a TSPLIB tour file; and the check in words (01, Check a tour)."""
+"""Tours: from the command line, from a list of numbers in a file, or from a TSPLIB tour file; and the check in words
+(01, Check a tour)."""
 
 import re
 
@@ -18,7 +19,8 @@ class BadTour(Exception):
 
 
 def read_tour(text):
-    """The points that a text names, whether they are a tour or not: numbers with commas or blanks between, or a TSPLIB tour file."""
+    """The points that a text names, whether they are a tour or not: numbers with commas or blanks between, or a TSPLIB
+    tour file."""
     if SECTION in text:
         return read_section(text)
     words = [word.strip() for word in text.split(",")] if "," in text else text.split()

@@ -1,7 +1,8 @@
-"""TSPLIB texts: a board taken from one and written as one, and what was expected at a line that is refused (01, TSPLIB texts).
+"""TSPLIB texts: a board taken from one and written as one, and what was expected at a line that is refused (01, TSPLIB
+texts).
 
-Whether a text is one, and the line that is told, is what the module `revosti` answers. A text that is one is taken apart here, and so are
-the lines before the one that is told.
+Whether a text is one, and the line that is told, is what the module `revosti` answers. A text that is one is taken
+apart here, and so are the lines before the one that is told.
 """
 
 import re
@@ -42,7 +43,8 @@ def read_board(data):
     """The board of a TSPLIB text by coordinates, as the input of `mark` has it."""
     n, seen = read_text(data).n, Seen(lines_of(data)[:-1])
     if seen.explicit:
-        raise BadBoard(f"the board has weights ({EXPLICIT}), and the input of mark has coordinates; revosti mark, ask, explain and slip take it")
+        raise BadBoard(f"the board has weights ({EXPLICIT}), and the input of mark has coordinates; "
+                       "revosti mark, ask, explain and slip take it")
     return Parts(NUMBERS[seen.values["EDGE_WEIGHT_TYPE"]], n, [tuple(map(number, words[1:])) for words in seen.data], [], b"")
 
 
@@ -86,7 +88,8 @@ def above(word):
 
 
 class Seen:
-    """What lines say that a text of the language begins with: the values by keyword, the section, the numbers of its lines."""
+    """What lines say that a text of the language begins with: the values by keyword, the section, the numbers of its
+    lines."""
 
     def __init__(self, lines):
         self.values, self.section, self.data, self.ended = {}, None, [], False

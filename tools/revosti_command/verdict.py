@@ -10,8 +10,8 @@ from .marks import marks_of
 
 
 class Verdict(NamedTuple):
-    """The refusal number or 0, its record or 0 and the lines accepted; the lengths, the marks found and the marks left. A board that is
-    refused has no lengths and no marks."""
+    """The refusal number or 0, its record or 0 and the lines accepted; the lengths, the marks found and the marks left.
+    A board that is refused has no lengths and no marks."""
 
     refusal: int
     record: int = 0
@@ -32,7 +32,8 @@ class Verdict(NamedTuple):
         return [e for e, old, new in pairs if old == OPEN != new]
 
     def closed(self):
-        """The marks that the line at fault was judged over, with nothing pending: within an asked sheet pending counts as struck."""
+        """The marks that the line at fault was judged over, with nothing pending: within an asked sheet pending counts
+        as struck."""
         marks = bytearray(self.left)
         if PENDING in marks_of(marks, self.lengths.n):
             confirm(self.lengths.n, marks)

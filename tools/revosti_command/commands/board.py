@@ -11,9 +11,9 @@ from ..words import Complaint
 
 NAME, GROUP = "board", "Boards"
 HELP = "a TSPLIB text with real coordinates to one with whole ones"
-ABOUT = """Reads a TSPLIB text as others write it, with real coordinates such as 1.11630e+03, and writes one that every command takes: coordinates
-are multiplied by --scale, moved up where one is below 0, and rounded to whole numbers. What is done is told on standard error. --points
-takes the first so many points."""
+ABOUT = """Reads a TSPLIB text as others write it, with real coordinates such as 1.11630e+03, and writes one that every
+command takes: coordinates are multiplied by --scale, moved up where one is below 0, and rounded to whole numbers. What
+is done is told on standard error. --points takes the first so many points."""
 EXAMPLE = "revosti board examples/square.tsp --scale 2.5 -o large.tsp"
 
 

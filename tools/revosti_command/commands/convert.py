@@ -8,8 +8,9 @@ from ..options import add_out, write
 
 NAME, GROUP = "convert", "Sets of marks"
 HELP = "a set in another form: packed, a byte an edge, or text"
-ABOUT = """Converts a set: a packed set to a byte set or to text, a line an edge; or a byte set, the older form, to a packed set. Its size tells how
-many points it is of. With -o the fingerprint goes along; an existing file is left alone unless --force is given."""
+ABOUT = """Converts a set: a packed set to a byte set or to text, a line an edge; or a byte set, the older form, to a
+packed set. Its size tells how many points it is of. With -o the fingerprint goes along; an existing file is left alone
+unless --force is given."""
 EXAMPLE = """revosti fresh examples/square.tsp --marks square.marks
   revosti convert square.marks --to text"""
 

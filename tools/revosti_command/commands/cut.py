@@ -10,8 +10,9 @@ from ..words import Complaint
 
 NAME, GROUP = "cut", "Sets of marks"
 HELP = "say which board is cut, of those between low and high lengths"
-ABOUT = """A set that was started with --high serves every board between low and high lengths. Once one of them is cut, this command holds its
-lengths against the low and the high ones and writes it into MARKS.fingerprint. From then on sheets are marked and asked over this board."""
+ABOUT = """A set that was started with --high serves every board between low and high lengths. Once one of them is cut,
+this command holds its lengths against the low and the high ones and writes it into MARKS.fingerprint. From then on
+sheets are marked and asked over this board."""
 EXAMPLE = """revosti fresh examples/square_weights.tsp --high examples/wide_weights.tsp --marks wide.marks
   revosti cut examples/square.tsp --low examples/square_weights.tsp --high examples/wide_weights.tsp --marks wide.marks"""
 

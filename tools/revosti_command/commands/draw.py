@@ -14,8 +14,9 @@ from .tour import checked, tour_of
 
 NAME, GROUP = "draw", "Boards"
 HELP = "the board as SVG: holes, edges by mark, a tour, or one case of a sheet"
-ABOUT = """Draws a board with the marks that marking its sheet leaves, or with those of a set: open edges are drawn through, struck ones dashed,
-pending ones dotted. --record shows one case: K thick, the split point or the centres ringed, the pairs that stand there dashed."""
+ABOUT = """Draws a board with the marks that marking its sheet leaves, or with those of a set: open edges are drawn
+through, struck ones dashed, pending ones dotted. --record shows one case: K thick, the split point or the centres
+ringed, the pairs that stand there dashed."""
 EXAMPLE = "revosti draw examples/square.tsp --tour 1,2,3,4 -o square.svg"
 
 
@@ -41,7 +42,8 @@ def run(options):
         marks = dry(lengths, marks, parts).left
     tour = [] if options.tour is None else tour_of(options.tour)
     length = checked(lengths, marks, tour).length if options.tour is not None else 0
-    scene = Scene(parts.points, RULES[parts.rule], marks_of(marks, lengths.n), legs(tour), length, case, options.record or 0, tuple(options.without))
+    scene = Scene(parts.points, RULES[parts.rule], marks_of(marks, lengths.n), legs(tour), length, case, options.record or 0,
+                  tuple(options.without))
     write(options, draw(scene).encode("utf-8"))
 
 

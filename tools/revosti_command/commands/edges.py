@@ -8,8 +8,9 @@ from ..options import add_board, add_out, add_set, lengths_of, load_board, marks
 
 NAME, GROUP = "edges", "Boards"
 HELP = "the open edges as an edge file, for a tour solver"
-ABOUT = """Writes the edges that are not struck as an edge file, as Concorde and LKH read it: the numbers of points and of edges, then a line an
-edge with its two points, numbered from 0, and its length. A pending edge is not struck yet, and is among them."""
+ABOUT = """Writes the edges that are not struck as an edge file, as Concorde and LKH read it: the numbers of points and
+of edges, then a line an edge with its two points, numbered from 0, and its length. A pending edge is not struck yet,
+and is among them."""
 EXAMPLE = "revosti edges examples/square.tsp"
 
 

@@ -8,8 +8,8 @@ from ..verdict import Verdict, dry
 
 NAME, GROUP = "explain", "Sheets"
 HELP = "the verdict on a sheet in words; nothing is changed"
-ABOUT = """Tells what marking a sheet comes to, over fresh marks or a set, which stays as it is: the edges that it strikes, or the record at
-fault in its place, with the pairs that are due."""
+ABOUT = """Tells what marking a sheet comes to, over fresh marks or a set, which stays as it is: the edges that it
+strikes, or the record at fault in its place, with the pairs that are due."""
 EXAMPLE = "revosti explain --board examples/square.tsp examples/square.txt"
 
 

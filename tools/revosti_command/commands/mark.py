@@ -6,8 +6,9 @@ from ..options import add_high
 
 NAME, GROUP = "mark", "Sets of marks"
 HELP = "mark a sheet over a set: its strikes count at once"
-ABOUT = """Marks a strike sheet over the set in a file, which is changed: the edge of each accepted line is struck. A sheet that stops at a
-record keeps the lines before it. The answer is the verdict in words, with the record at fault and the pairs that are due."""
+ABOUT = """Marks a strike sheet over the set in a file, which is changed: the edge of each accepted line is struck. A
+sheet that stops at a record keeps the lines before it. The answer is the verdict in words, with the record at fault and
+the pairs that are due."""
 EXAMPLE = """revosti fresh examples/square.tsp --marks square.marks
   revosti mark --board examples/square.tsp examples/square.txt --marks square.marks"""
 

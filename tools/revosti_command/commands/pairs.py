@@ -10,8 +10,8 @@ from ..words import Complaint, counted
 
 NAME, GROUP = "pairs", "Boards"
 HELP = "the pairs that stand at a split"
-ABOUT = """Lists the pairs that stand at C under the edge A-B, or with --record those at the split of a record of the sheet, at any depth, in the
-order in which a chain names its cases."""
+ABOUT = """Lists the pairs that stand at C under the edge A-B, or with --record those at the split of a record of the
+sheet, at any depth, in the order in which a chain names its cases."""
 EXAMPLE = "revosti pairs examples/square.tsp 1 2 3"
 
 

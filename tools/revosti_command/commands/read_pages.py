@@ -14,8 +14,9 @@ from ..words import Complaint
 
 NAME, GROUP = "read-pages", "Boards"
 HELP = "a wall list to a packed set"
-ABOUT = """Reads a wall list and writes its marks as a packed set. With -o a fingerprint of the lengths in the list is written beside the set; an
-existing file is left alone unless --force is given. --board compares the lengths of the list with those of a board."""
+ABOUT = """Reads a wall list and writes its marks as a packed set. With -o a fingerprint of the lengths in the list is
+written beside the set; an existing file is left alone unless --force is given. --board compares the lengths of the list
+with those of a board."""
 EXAMPLE = """revosti pages examples/square.tsp -o wall.txt
   revosti read-pages wall.txt --board examples/square.tsp -o square.marks"""
 

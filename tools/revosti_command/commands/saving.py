@@ -10,7 +10,8 @@ from ..saving import SAVINGS, tell
 
 NAME, GROUP = "saving", "Boards"
 HELP = "how much a rule saves on a board"
-ABOUT = "Tells what an exchange, a move or a crossing saves on a board, with the sums. It shuts a case out exactly when that is above 0."
+ABOUT = """Tells what an exchange, a move or a crossing saves on a board, with the sums. It shuts a case out exactly
+when that is above 0."""
 EXAMPLE = "revosti saving examples/square.tsp exchange 1 3 2 4"
 
 

@@ -9,8 +9,8 @@ from ..verdict import dry
 
 NAME, GROUP = "slip", "Sheets"
 HELP = "what examiner and candidate see of a marked sheet, or of a slip"
-ABOUT = """Shows the slip of a sheet, as marking it over fresh marks or a set makes it; the set stays as it is. Below stands, for the examiner,
-why a sheet is refused. --number shows a slip that a program kept."""
+ABOUT = """Shows the slip of a sheet, as marking it over fresh marks or a set makes it; the set stays as it is. Below
+stands, for the examiner, why a sheet is refused. --number shows a slip that a program kept."""
 EXAMPLE = "revosti slip --board examples/square.tsp examples/square.txt"
 
 

@@ -11,8 +11,8 @@ from ..words import Complaint
 
 NAME, GROUP = "tour", "Boards"
 HELP = "the length of a tour, and whether all its edges are open"
-ABOUT = """Checks a tour of a board: its length, and whether all its edges are open in a set, where one is named. TOUR is the points in order,
-1,2,3,.. , or a file with them, also a TSPLIB tour file. A pending edge counts as open."""
+ABOUT = """Checks a tour of a board: its length, and whether all its edges are open in a set, where one is named. TOUR
+is the points in order, 1,2,3,.. , or a file with them, also a TSPLIB tour file. A pending edge counts as open."""
 EXAMPLE = "revosti tour examples/square.tsp 1,2,3,4"
 
 

@@ -9,7 +9,8 @@ from ..write import unpack, unpack_beside
 
 NAME, GROUP = "unpack", "Sheets"
 HELP = "the input of mark to a sheet as text"
-ABOUT = "Unpacks a sheet: the binary input of mark to the text form. Every file has one, and packing that gives the same file."
+ABOUT = """Unpacks a sheet: the binary input of mark to the text form. Every file has one, and packing that gives the
+same file."""
 EXAMPLE = "revosti unpack examples/square.bin"
 
 
