@@ -174,7 +174,7 @@ class Command(Folder):
         text = NINE.read_text().replace("  pair 5-7: split at 2\n  pair 7-9: split at 2\n", "")
         p = Picture(Run("draw", "--record", 2, data=text.encode()).out)
         self.assertEqual([p.edges("named"), p.edges("due")], [2, 3])
-        self.assertEqual(p.texts("legend")[3:5], ["with a case: 2 pairs", "due: 2 pairs"])
+        self.assertEqual(p.texts("legend")[3:5], ["with a case: 1-7, 2-7", "due: 5-7, 7-9"])
 
     def test_case_with_a_crossing(self):
         p = Picture(Run("draw", NINE, "--record", 10).out)

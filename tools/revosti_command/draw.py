@@ -14,7 +14,7 @@ from .marks import NAMES, marked
 from .words import counted
 
 WIDTH, MARGIN, MIN_HEIGHT = 1200, 50, 240
-COLUMNS, ROW = 3, 34  # of the legend
+COLUMNS, ROW, FEW = 3, 34, 3  # of the legend
 # Okabe and Ito's colours: they differ for colour-blind readers too.
 PAPER, INK, SLATE, ORANGE, GREEN, BLUE, PURPLE, RED = (
     "#fcfbf7", "#1a1a1a", "#3f4f5f", "#d55e00", "#009e73", "#0072b2", "#cc79a7", "#c1121f")
@@ -191,8 +191,13 @@ def case_rows(scene):
         return [*rows, ("crossed", f"crossed: {case.crossed[0]}-{case.crossed[1]}"),
                 ("ring", f"centres {case.points[0]} and {case.points[1]}")]
     rows += [("ring", f"split at {case.points[0]}")]
-    rows += [("named", f"with a case: {counted(len(case.pairs) - len(case.due), 'pair')}")] if len(case.due) < len(case.pairs) else []
-    return rows + ([("due", f"due: {counted(len(case.due), 'pair')}")] if case.due else [])
+    named = [pair for pair in case.pairs if pair not in case.due]
+    return rows + [(name, f"{words}: {few(pairs)}") for name, words, pairs in (("named", "with a case", named), ("due", "due", case.due)) if pairs]
+
+
+def few(pairs):
+    """Pairs by name where they are few, or their number."""
+    return ", ".join(f"{a}-{b}" for a, b in pairs) if len(pairs) <= FEW else counted(len(pairs), "pair")
 
 
 def tour_rows(scene, broken):

@@ -39,9 +39,9 @@ def add_form(command):
                          help="the form of the file; else a file without control characters is a text")
 
 
-def add_sheet(command, board="by coordinates or weights"):
+def add_sheet(command, board="by coordinates or weights", sheet="the sheet, text or binary"):
     """A sheet, alone or beside its board."""
-    command.add_argument("file", nargs="?", metavar="FILE", help="the sheet, text or binary; standard input if none is named")
+    command.add_argument("file", nargs="?", metavar="FILE", help=f"{sheet}; standard input if none is named")
     source = command.add_mutually_exclusive_group()
     add_form(source)
     source.add_argument("--board", metavar=f"FILE{TSPLIB}", help=f"a TSPLIB text with the board, {board}; the sheet is a text without one")

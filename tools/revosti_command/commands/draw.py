@@ -22,7 +22,7 @@ EXAMPLE = "revosti draw examples/square.tsp --tour 1,2,3,4 -o square.svg"
 
 def add(command):
     """The options."""
-    add_sheet(command, "by coordinates")
+    add_sheet(command, "by coordinates", f"the sheet, text or binary, or FILE{TSPLIB}, a board alone")
     add_set(command, "draw the packed set in this file, not the marks that marking leaves")
     command.add_argument("--tour", metavar="TOUR", help="a tour to draw: 1,2,3,.. or a file")
     command.add_argument("--record", metavar="NUMBER", type=record, help="show the case of this record, over the marks that its line finds")
