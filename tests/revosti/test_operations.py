@@ -10,12 +10,10 @@ from support import LINES, N, POINTS, ROOT, TABLE
 
 import revosti
 from packing import packed, unpacked
-from sheetlib.answer import Answer
-from sheetlib.board import Board, length_of
-from sheetlib.explain import explain
-from sheetlib.marks import marked, read_marks
-from sheetlib.parts import Parts, Record, split
-from sheetlib.read import pack
+from plain import Board, length_of
+from revosti_command.marks import marked, read_marks
+from revosti_command.parts import Record, split
+from revosti_command.read import pack
 
 HAND_IN = (revosti.mark_sheet, revosti.ask_sheet)
 SETTLE = (revosti.confirm, revosti.withdraw)
@@ -33,7 +31,7 @@ def verdict(call, *arguments):
 
 def nine():
     """A board of nine points with a sheet that strikes 27 edges: n, table, sheet."""
-    parts = pack((ROOT / "tests/sheet/nine.txt").read_text()).parts
+    parts = pack((ROOT / "tests/command/nine.txt").read_text()).parts
     return parts.n, revosti.measure(parts.n, parts.rule, parts.points), parts.records
 
 
@@ -352,12 +350,10 @@ class Refusals(Operations):
             found = self.refused(number, call)
             self.assertEqual((found.words, str(found)), (words, f"Refused, number {number}: {words}"))
 
-    def test_record_and_the_words_of_explain(self):
+    def test_record(self):
         sheet = [[1, 1, 2, 0, 0, 3, 0, 0]]
         found = self.refused(14, revosti.mark_sheet, N, TABLE, revosti.fresh_marks(N), sheet, record=1)
         self.assertEqual(str(found), f"Refused, number 14, record 1: {found.words}")
-        parts = Parts(1, N, POINTS, [Record(*sheet[0])], b"")
-        self.assertIn(f"Refused, number 14: {found.words}\n", explain(parts, Answer(N, 6, [], 14, 1, 6)))
 
     def test_goes_through_pickle(self):
         found = pickle.loads(pickle.dumps(revosti.Refusal(16, 7, 3)))

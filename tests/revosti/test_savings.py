@@ -10,7 +10,7 @@ from support import N, TABLE
 import revosti
 from revosti.library import library
 from revosti.operations import lend
-from sheetlib.board import Board, degree, edge, ends, fits_tour
+from plain import Board, degree, edge, ends, fits_tour
 
 MOST = 2_000_000
 P, Q, R, S, X, Y, Z, W = range(1, 9)
