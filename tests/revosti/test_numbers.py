@@ -97,7 +97,7 @@ class Names(unittest.TestCase):
     """What is wrong is told with the argument's name."""
 
     def test_each_argument(self):
-        marks, text = revosti.fresh_marks(N), bytes(25)
+        marks, text, desks = revosti.fresh_marks(N), bytes(25), revosti.open_desks()
         calls = {revosti.measure: (N, 1, POINTS), revosti.read_tsplib: (b"",), revosti.tsplib_points: (b"",), revosti.fresh_marks: (N,),
                  revosti.pack_marks: (N, bytes(6)), revosti.unpack_marks: (N, marks), revosti.mark_sheet: (N, TABLE, marks, LINES),
                  revosti.ask_sheet: (N, TABLE, marks, LINES), revosti.mark_between: (N, TABLE, TABLE, marks, LINES),
@@ -108,7 +108,9 @@ class Names(unittest.TestCase):
                  revosti.marks_size: (N,), revosti.page_count: (N,), revosti.write_page: (N, TABLE, marks, 1),
                  revosti.read_page: (N, 1, text, TABLE, marks), revosti.new_slip: (N, TABLE, marks, LINES),
                  revosti.new_slip_between: (N, TABLE, TABLE, marks, LINES), revosti.release: (0,), revosti.examiner_view: (0,),
-                 revosti.candidate_view: (0,)}
+                 revosti.candidate_view: (0,), revosti.open_desks: (), revosti.hand_in: (desks, 1, N, TABLE, marks, LINES),
+                 revosti.next_desk: (desks,), revosti.turn: (desks, N, TABLE, marks, LINES), revosti.last_served: (desks,),
+                 revosti.desk_of: (desks, 1)}
         self.assertEqual({call.__name__ for call in calls} | {"meaning"},
                          {name for name in revosti.__all__ if inspect.isfunction(getattr(revosti, name))})
         for call, arguments in calls.items():

@@ -24,6 +24,10 @@ examiner_view, candidate_view
              the six bytes that each of them sees of a slip
 write_page   a page of the wall list, 60 edges a page, as text
 read_page    a page's lengths and marks again; `page_count` gives how many pages there are
+open_desks   the state of eight desks
+hand_in      hands in a sheet at a desk: its first line waits
+next_desk    the desk that the next turn serves
+turn         marks one line of that desk, and tells its verdict so far; `desk_of` and `last_served` read the state
 
 A board has n points, 4 to 180. A table is one length an edge, in the order 1-2, 1-3, .., 1-n, 2-3, ..; `place` gives the place of an edge.
 Tables come back as arrays of typecode "I", and such an array is lent to a call as it is. Lists, tuples and generators of
@@ -42,6 +46,7 @@ The first call loads the shared object: that which REVOSTI_SHARED names, the one
 that of the repository, which it has built where it is not up to date. It raises NoLibrary where there is none.
 """
 
+from .desks import DESKS, DESKS_BYTES, Desk, Turn, desk_of, hand_in, last_served, next_desk, open_desks, turn
 from .library import NoLibrary
 from .operations import (LEAST_POINTS, MOST_POINTS, OPEN, PENDING, STRUCK, Instance, Tour, ask_sheet, check_tour, confirm, crossing_saving,
                          exchange_saving, fresh_marks, list_between, list_pairs, mark_between, mark_of, mark_sheet, marks_size, measure,
@@ -52,8 +57,9 @@ from .slips import STOPPED, candidate_view, examiner_view, new_slip, new_slip_be
 
 __version__ = "1.0.0"
 
-__all__ = ["Instance", "LEAST_POINTS", "LINE_BYTES", "MOST_POINTS", "NoLibrary", "OPEN", "PAGE_LINES", "PENDING", "Refusal", "STOPPED",
-           "STRUCK", "Tour", "ask_sheet", "candidate_view", "check_tour", "confirm", "crossing_saving", "examiner_view", "exchange_saving",
-           "fresh_marks", "list_between", "list_pairs", "mark_between", "mark_of", "mark_sheet", "marks_size", "meaning", "measure",
-           "move_saving", "new_slip", "new_slip_between", "pack_marks", "page_count", "place", "read_page", "read_tsplib", "release",
-           "tsplib_points", "unpack_marks", "withdraw", "write_page"]
+__all__ = ["DESKS", "DESKS_BYTES", "Desk", "Instance", "LEAST_POINTS", "LINE_BYTES", "MOST_POINTS", "NoLibrary", "OPEN", "PAGE_LINES",
+           "PENDING", "Refusal", "STOPPED", "STRUCK", "Tour", "Turn", "ask_sheet", "candidate_view", "check_tour", "confirm",
+           "crossing_saving", "desk_of", "examiner_view", "exchange_saving", "fresh_marks", "hand_in", "last_served", "list_between",
+           "list_pairs", "mark_between", "mark_of", "mark_sheet", "marks_size", "meaning", "measure", "move_saving", "new_slip",
+           "new_slip_between", "next_desk", "open_desks", "pack_marks", "page_count", "place", "read_page", "read_tsplib", "release",
+           "tsplib_points", "turn", "unpack_marks", "withdraw", "write_page"]

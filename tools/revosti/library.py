@@ -43,6 +43,10 @@ ARGUMENTS: dict[str, tuple[Any, ...]] = {
     "revosti_candidate_view": (LONG, *BUFFER),
     "revosti_write_page": (WORD, *BUFFER, *BUFFER, WORD, *BUFFER),
     "revosti_read_page": (WORD, WORD, *BUFFER, *BUFFER, *BUFFER),
+    "revosti_open_desks": BUFFER,
+    "revosti_hand_in": (*BUFFER, WORD, WORD, *BUFFER, *BUFFER, *BUFFER),
+    "revosti_next_desk": BUFFER,
+    "revosti_turn": (*BUFFER, WORD, *BUFFER, *BUFFER, *BUFFER),
 }
 SAVINGS: dict[str, tuple[Any, ...]] = {  # their answers have a sign
     "revosti_exchange_saving": (WORD, *BUFFER, *[HALF] * 4),

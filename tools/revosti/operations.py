@@ -77,17 +77,17 @@ def unpack_marks(n: int, marks: Buffer) -> bytearray:
 
 def mark_sheet(n: int, table: Table, marks: bytearray, sheet: Sheet) -> int:
     """The number of lines accepted, where all are. It strikes their edges in `marks`, the bytearray handed in."""
-    return hand_in(library().revosti_mark_sheet, n, {"table": table}, marks, sheet)
+    return accepted(library().revosti_mark_sheet, n, {"table": table}, marks, sheet)
 
 
 def ask_sheet(n: int, table: Table, marks: bytearray, sheet: Sheet) -> int:
     """As `mark_sheet`, but the edges get PENDING, until `confirm` or `withdraw`."""
-    return hand_in(library().revosti_ask_sheet, n, {"table": table}, marks, sheet)
+    return accepted(library().revosti_ask_sheet, n, {"table": table}, marks, sheet)
 
 
 def mark_between(n: int, low: Table, high: Table, marks: bytearray, sheet: Sheet) -> int:
     """As `mark_sheet`, over two tables: what a rule takes out counts low, what it puts in counts high."""
-    return hand_in(library().revosti_mark_between, n, {"low": low, "high": high}, marks, sheet)
+    return accepted(library().revosti_mark_between, n, {"low": low, "high": high}, marks, sheet)
 
 
 def confirm(n: int, marks: bytearray) -> None:
@@ -166,7 +166,7 @@ def marked(function: Function, n: int, tables: dict[str, Table], marks: bytearra
     return function(fit("n", WORD, n), *lend_tables(tables), *lend(marks, "marks"), *lend(records(sheet)))
 
 
-def hand_in(function: Function, n: int, tables: dict[str, Table], marks: bytearray, sheet: Sheet) -> int:
+def accepted(function: Function, n: int, tables: dict[str, Table], marks: bytearray, sheet: Sheet) -> int:
     """The number of lines that a function accepts, where it accepts all."""
     answer = marked(function, n, tables, marks, sheet)
     lines = answer >> 24

@@ -26,16 +26,18 @@ REFUSALS = {
     19: "The text is no TSPLIB text as they are read here (docs/FORMATS.md).",
     20: "Something is pending: confirm or withdraw it first.",
     21: "Nothing is pending: there is nothing to confirm or withdraw.",
-    22: "The buffer is too short: a view has six bytes, a page 25 a line.",
+    22: "The buffer is too short: a view has six bytes, a page 25 a line, the desks 50.",
     25: "A low length is above its high one.",
     26: "The page number is 0 or past the last.",
     27: "The text is not such a page.",
+    28: "The desk is outside 1 to 8.",
+    29: "The sheet of this desk still has a line.",
 }
 
 
 def meaning(number: int) -> str:
     """A refusal's meaning."""
-    return REFUSALS.get(number, "This number is not one of 1 to 22 and 25 to 27.")
+    return REFUSALS.get(number, "This number is not one of 1 to 22 and 25 to 29.")
 
 
 class Refusal(Exception):
