@@ -1,9 +1,9 @@
 -- SERVED WITHIN EIGHT AND OTHERS UNTOUCHED (02, Paper 14), of the functions for C: "A desk with a line left is served
 -- within eight turns, whatever others hand in". Assumes nothing.
-use Prim.Native.Nat.{ℕ, zero, suc, _-_, _≤_, _<_}
+use Prim.Native.Nat.{ℕ, zero, suc, _+_, _≤_, _<_}
 use mathlib.Core.Path.{_≡_, refl, sym, _∙_, ap, subst}
 use mathlib.Core.Bool.{true, false, not, true≢false}
-use mathlib.Core.Logic.{inl}
+use mathlib.Core.Logic.{_⊎_, inl, inr}
 use mathlib.Core.List.{List, [], _∷_}
 use native.Mathlib.Decide.{decLe, ℕ-discrete}
 use native.Mathlib.Omega.{arith}
@@ -193,14 +193,23 @@ pub served-within-eight : (state : List ℕ) → stateBytes ≤ length state →
 served-within-eight state room d low high h calls enough =
     served-ahead 8 (record { room = room; low = low; high = high; left = h }) (omega arith) calls enough
 
--- from x on, e comes before d where it lies no further from d
-around : (x e d : ℕ) → 1 ≤ x → x ≤ deskCount → 1 ≤ e → e ≤ deskCount → 1 ≤ d → d ≤ deskCount → distance e d ≤ distance x d →
-    distance x e ≤ distance x d
-around x e d lx hx le he ld hd h =
-    elim (decLe x e) [
-      | yes p ↦ elim (decLe x d) [ yes q ↦ elim (decLe e d) [ yes r ↦ omega arith | no r ↦ omega arith ] | no q ↦ omega arith ]
-      | no p ↦ elim (decLe x d) [ yes q ↦ omega arith | no q ↦ elim (decLe e d) [ yes r ↦ omega arith | no r ↦ omega arith ] ]
-    ]
+-- how far d lies ahead of x: upward, or round again
+spread : (x d : ℕ) → 1 ≤ x → x ≤ deskCount → 1 ≤ d → d ≤ deskCount →
+    (distance x d < deskCount) × ((distance x d + x ≡ d) ⊎ (distance x d + x ≡ d + deskCount))
+spread x d lx hx ld hd = elim (decLe x d) [ yes h ↦ (omega arith, inl (omega arith)) | no h ↦ (omega arith, inr (omega arith)) ]
+
+-- from x on, e comes before d where it lies no further from d: a from e to d, b from x to d, c from x to e
+before : (x e d : ℕ) {a b c : ℕ} → 1 ≤ x → e ≤ deskCount →
+    (a < deskCount) × ((a + e ≡ d) ⊎ (a + e ≡ d + deskCount)) → (b < deskCount) × ((b + x ≡ d) ⊎ (b + x ≡ d + deskCount)) →
+    (c < deskCount) × ((c + x ≡ e) ⊎ (c + x ≡ e + deskCount)) → a ≤ b → c ≤ b
+before x e d low high (la, inl p) (lb, inl q) (lc, inl r) h = omega arith
+before x e d low high (la, inl p) (lb, inl q) (lc, inr r) h = omega arith
+before x e d low high (la, inl p) (lb, inr q) (lc, inl r) h = omega arith
+before x e d low high (la, inl p) (lb, inr q) (lc, inr r) h = omega arith
+before x e d low high (la, inr p) (lb, inl q) (lc, inl r) h = omega arith
+before x e d low high (la, inr p) (lb, inl q) (lc, inr r) h = omega arith
+before x e d low high (la, inr p) (lb, inr q) (lc, inl r) h = omega arith
+before x e d low high (la, inr p) (lb, inr q) (lc, inr r) h = omega arith
 
 -- THE ROUND ROBIN takes the nearest: the desk that a turn serves has a line left, and no desk with a line left lies
 -- nearer ahead of the last served
@@ -216,4 +225,6 @@ next-nearest state e g = (next-found state g, nearest)
         let q : next.Desk (n .0) ≡ next.Desk e = sym (n .1) ∙ g in
         let i : n .0 ≡ e = cc in
         let between : distance e d ≤ distance (following (lastServed state)) d = subst (λ (k : ℕ). distance k d ≤ distance (following (lastServed state)) d) i (n .2) in
-        around (following (lastServed state)) e d (a .0) (a .1) (f .low) (f .high) low high between
+        let x : ℕ = following (lastServed state) in
+        before x e d (a .0) (f .high) (spread e d (f .low) (f .high) low high) (spread x d (a .0) (a .1) low high)
+        (spread x e (a .0) (a .1) (f .low) (f .high)) between
