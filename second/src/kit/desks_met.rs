@@ -100,7 +100,7 @@ const NAMES: [(Met, &str); 36] = [
     (AnyStrikes, "strikes from states of any bytes held against all shortest tours"),
 ];
 
-#[derive(Clone, Default)]
+#[derive(Clone)]
 pub struct DesksMet {
     times: [u64; NAMES.len()],
     /// Halls so far.
@@ -109,6 +109,14 @@ pub struct DesksMet {
     handed_in: [u64; Desks::COUNT],
     served: [u64; Desks::COUNT],
     changes: [u64; Change::ALL.len()],
+}
+
+impl Default for DesksMet {
+    /// Nothing met.
+    fn default() -> Self {
+        let (handed_in, served) = ([0; Desks::COUNT], [0; Desks::COUNT]);
+        DesksMet { times: [0; NAMES.len()], halls: 0, turns: 0, handed_in, served, changes: [0; Change::ALL.len()] }
+    }
 }
 
 impl DesksMet {

@@ -1,6 +1,7 @@
 //! Two programs on the same inputs; everything that they show is compared.
 
 mod between;
+mod desks;
 mod limits;
 mod looks;
 mod moves;
@@ -36,7 +37,7 @@ type Checked = Result<(), Difference>;
 pub struct Comparison<'a> {
     one: &'a dyn Checker,
     other: &'a dyn Checker,
-    /// A third program, for savings, for slips, for texts, for pages and for packed sets, which it reads into byte sets.
+    /// A third program, for savings, for slips, for texts, for pages, for desks and for packed sets, which it reads into byte sets.
     naive: &'a dyn Checker,
     seed: u64,
     case: u64,
@@ -91,7 +92,7 @@ impl<'a> Comparison<'a> {
     }
 
     /// One instance with its sheets, listings, tours, files and savings; one whose lengths are known within limits; slips;
-    /// texts; and the pages of a board.
+    /// texts; the pages of a board; and halls of eight desks.
     pub fn run_case(&mut self, case: u64) -> Checked {
         self.case = case;
         let mut rng = Rng::new(self.seed, case);
@@ -112,7 +113,8 @@ impl<'a> Comparison<'a> {
         }
         self.slips()?;
         self.texts(case)?;
-        self.pages()
+        self.pages()?;
+        self.halls()
     }
 
     /// Damaged sheets on copies of the marks; noise, lines for edges that are kept and the valid sheet on the marks
