@@ -218,11 +218,9 @@ pub fn next_desk(desks: &[u8]) -> u64 {
     number(read_desks(desks).map(|read| 65_536 * read.next_desk().unwrap_or(0) as u64))
 }
 
-/// "The answer of marking so far, plus 2⁴⁸ × the desk, plus 2⁵⁶ if it has a line left"; "with nothing left, only zeros".
+/// The answer of marking so far, plus 2⁴⁸ × the desk, plus 2⁵⁶ if it has a line left; "with nothing left, only zeros".
 pub fn turn_number(turn: Option<Turn>) -> u64 {
-    turn.map_or(0, |turn| {
-        marking_number(turn.marked) + ((turn.desk as u64) << 48) + (u64::from(turn.line_left) << 56)
-    })
+    turn.map_or(0, |turn| marking_number(turn.marked) + ((turn.desk as u64) << 48) + (u64::from(turn.line_left) << 56))
 }
 
 /// *Turn* for C.

@@ -300,7 +300,10 @@ fn desks_are_demanded() {
         [0, 22].iter().for_each(|number| demanded(format!("{operation}: {number}")));
     }
     [28, 29, 1, 2, 5, 6, 20, 7].iter().for_each(|number| demanded(format!("hand in: {number}")));
-    [1, 2, 5, 6, 20, 7].iter().chain(&[8, 9, 10, 11, 12, 13, 14, 15, 16]).for_each(|number| demanded(format!("turn: {number}")));
+    [1, 2, 5, 6, 20, 7]
+        .iter()
+        .chain(&[8, 9, 10, 11, 12, 13, 14, 15, 16])
+        .for_each(|number| demanded(format!("turn: {number}")));
     for desk in 1..=8 {
         demanded(format!("a sheet handed in at desk {desk}"));
         demanded(format!("a turn of desk {desk}"));

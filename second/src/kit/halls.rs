@@ -201,8 +201,8 @@ impl Change {
     }
 }
 
-/// A state of any bytes for these folders: of each desk nothing, any numbers, a line that might wait, no line left for its
-/// lines, or an index above the record count.
+/// A state of any bytes for these folders: of each desk nothing, any numbers, a line that might wait, no line left for
+/// its lines, or an index above the record count.
 pub fn damaged_state(rng: &mut Rng, folders: &[Folder]) -> Vec<u8> {
     let any = |rng: &mut Rng| rng.word() as u16;
     let last = any(rng);
@@ -227,7 +227,7 @@ pub fn desk_numbers(state: &[u8], desk: usize) -> [u16; 3] {
     [0, 1, 2].map(|at| u16::from_le_bytes(state[6 * desk - 4 + 2 * at..][..2].try_into().unwrap()))
 }
 
-/// A state with the last desk served, or a desk's three numbers, as in another: what may differ is put aside.
+/// A state without a desk's three numbers, and without the last desk served: what a call may change is put aside.
 pub fn without(state: &[u8], desk: usize, last: bool) -> Vec<u8> {
     let mut rest = state.to_vec();
     rest[6 * desk - 4..6 * desk + 2].fill(0);

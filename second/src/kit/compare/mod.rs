@@ -1,7 +1,7 @@
 //! Two programs on the same inputs; everything that they show is compared.
 
 mod between;
-mod desks;
+mod halls;
 mod limits;
 mod looks;
 mod moves;
@@ -12,6 +12,7 @@ mod savings;
 mod slips;
 mod steps;
 mod texts;
+mod turns;
 
 use std::fmt::{self, Debug, Write};
 use std::path::PathBuf;
@@ -37,7 +38,7 @@ type Checked = Result<(), Difference>;
 pub struct Comparison<'a> {
     one: &'a dyn Checker,
     other: &'a dyn Checker,
-    /// A third program, for savings, for slips, for texts, for pages, for desks and for packed sets, which it reads into byte sets.
+    /// A third program, for savings, slips, texts, pages, desks and packed sets, which it reads into byte sets.
     naive: &'a dyn Checker,
     seed: u64,
     case: u64,

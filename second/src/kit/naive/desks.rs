@@ -1,5 +1,5 @@
-//! Eight desks by the 25 numbers of their state: the last desk served, then of desk d its next index, the record that has it
-//! and its lines, at 3d − 2, 3d − 1 and 3d.
+//! Eight desks by the 25 numbers of their state: the last desk served, then of desk d its next index, the record that has
+//! it and its lines, at 3d − 2, 3d − 1 and 3d.
 
 use super::reader::{Reader, Stop};
 use super::rules::Board;
