@@ -402,11 +402,12 @@ fn found_in_both(slip: Slip) -> String {
     found(slip, false)
 }
 
-/// What the comparison finds where both make the slip, over two tables too or over one alone.
+/// What the comparison finds where both make the slip, over two tables too or over one alone; no hall, where queues tell it.
 fn found(slip: Slip, two_tables: bool) -> String {
     let naive = Naive { slip: Some(slip) };
     let mut comparison = Comparison::new(&naive, &naive, &naive, 7);
     comparison.two_tables = two_tables;
+    comparison.eight_desks = false;
     let Err(difference) = comparison.run(20_000) else { panic!("{slip:?} is not found") };
     let what = difference.0.split(" differs").next().unwrap();
     println!("{slip:?}: {what} after {} sheets", comparison.sheets);

@@ -51,6 +51,8 @@ pub struct Comparison<'a> {
     last_slip: Option<u64>,
     /// Whether operations over two tables are compared, too.
     pub two_tables: bool,
+    /// Whether halls of eight desks are, which the second program's queues are held against.
+    pub eight_desks: bool,
     completions: Completions,
     pub coverage: Coverage,
 }
@@ -77,6 +79,7 @@ impl<'a> Comparison<'a> {
             saved: 0,
             last_slip: None,
             two_tables: true,
+            eight_desks: true,
             completions: Completions::default(),
             coverage: Coverage::default(),
         }
@@ -115,7 +118,10 @@ impl<'a> Comparison<'a> {
         self.slips()?;
         self.texts(case)?;
         self.pages()?;
-        self.halls()
+        if self.eight_desks {
+            self.halls()?;
+        }
+        Ok(())
     }
 
     /// Damaged sheets on copies of the marks; noise, lines for edges that are kept and the valid sheet on the marks
