@@ -4,7 +4,8 @@
  * crossing saves; convert sets of marks; show a marked sheet's slip to examiner and candidate; write the wall list of edges page by page,
  * and read it again; mark the sheets of eight desks in turns, one line a turn.
  *
- * Link with librevosti.a (`rt staticlib revosti` writes target/staticlib/librevosti.a).
+ * Link with librevosti.a (`tools/build archive` writes target/staticlib/librevosti.a), or install it: `tools/install PREFIX`, and then
+ * `pkg-config --cflags --libs revosti`.
  *
  * Points are numbered 1 to n, n from REVOSTI_LEAST_POINTS to REVOSTI_MOST_POINTS. Edges stand in the order 1-2, 1-3, .., 1-n, 2-3, ..;
  * there are n(n - 1)/2 of them, and revosti_place gives the place of one. All numbers in buffers are little-endian.
@@ -62,6 +63,11 @@
 
 #include <stddef.h>
 #include <stdint.h>
+
+#define REVOSTI_VERSION "1.0.0"
+#define REVOSTI_VERSION_MAJOR 1
+#define REVOSTI_VERSION_MINOR 0
+#define REVOSTI_VERSION_PATCH 0
 
 #ifdef __cplusplus
 extern "C" {

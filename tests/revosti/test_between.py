@@ -14,8 +14,8 @@ import revosti
 from packing import packed
 from revosti.library import library
 from revosti.operations import HALF, WORD, lend, records
-from sheetlib.board import Board, edge
-from sheetlib.read import pack
+from plain import Board, edge
+from revosti_command.read import pack
 
 # The square's limits where its side is 10 to 13, and 10 to 14: diagonals are 14 to 18, and 14 to 20.
 NARROW, WIDE = [13, 18, 13, 13, 18, 13], [14, 20, 14, 14, 20, 14]
@@ -66,7 +66,7 @@ class Agreement(unittest.TestCase):
 
     def test_sheets(self):
         six = re.search(r"^```\n(# six points.*?)^```$", PAGE, re.S | re.M)[1]
-        for n, table, sheet in (sheet_of((ROOT / "tests/sheet/nine.txt").read_text()), sheet_of(six), (N, TABLE, LINES)):
+        for n, table, sheet in (sheet_of((ROOT / "tests/command/nine.txt").read_text()), sheet_of(six), (N, TABLE, LINES)):
             for last in range(1, len(sheet) + 1):  # most of them stop at an index above the record count
                 one, two = revosti.fresh_marks(n), revosti.fresh_marks(n)
                 found = verdict(revosti.mark_between, n, table, table, two, sheet[:last])

@@ -1,12 +1,16 @@
-"""The shared object: when it is made, from what, and what is told. Stand-ins for rt and gcc write files that say what they are of."""
+"""The shared object: which one is loaded, when it is built, and what is told. A stand-in for tools/build says what it
+is of."""
 
 import contextlib
 import inspect
 import io
 import os
 import re
+import signal
 import subprocess
+import sys
 import tempfile
+import time
 import unittest
 from pathlib import Path
 from unittest import mock
@@ -15,134 +19,106 @@ from support import ROOT
 
 import revosti
 from revosti import library, slips
-from revosti.library import NoLibrary, make
+from revosti.library import NoLibrary, shared_object
 from revosti.refusal import REFUSALS
 
-RT = """#!/bin/sh
-[ "$*" = "staticlib revosti" ] && [ "$PWD" = "{root}" ] || exit 2
-echo rt >>{root}/calls
-mkdir -p target/staticlib
-echo proved >target/staticlib/librevosti.a
-"""
 
-# The last word is the file to write, the third the archive.
-GCC = """#!/bin/sh
-echo gcc >>{root}/calls
-for out; do :; done
-sed 's/^/shared of /' "$3" >"$out"
-"""
+class Find(unittest.TestCase):
+    ASKS = "import sys; from pathlib import Path; from revosti import library; library.build(Path(sys.argv[1]))"
+    ENDLESS = ("trap 'echo ended >\"$0.ended\"; exit 143' TERM INT\ntouch \"$0.began\"\n"
+               "while [ ! -e \"$0.over\" ]; do sleep 0.02; done\n")
 
-SECOND = 1_000_000_000
-
-
-class Make(unittest.TestCase):
     def setUp(self):
         holder = tempfile.TemporaryDirectory()
         self.addCleanup(holder.cleanup)
         self.root = Path(holder.name).resolve()
-        self.archive, self.shared = self.root / library.ARCHIVE, self.root / library.SHARED
-        self.put("rt", RT)
-        self.put("gcc", GCC)
-        path = mock.patch.dict(os.environ, PATH=f"{self.root / 'kit'}:{os.environ['PATH']}")
-        path.start()
-        self.addCleanup(path.stop)
+        for patch in (mock.patch.object(library, "ROOT", self.root), mock.patch.object(library, "INSTALLED", self.root / "installed.so"),
+                      mock.patch.dict(os.environ)):
+            patch.start()
+            self.addCleanup(patch.stop)
+        os.environ.pop(library.VARIABLE, None)
 
-    def put(self, name, text):
-        """A stand-in in front of the path."""
-        file = self.root / "kit" / name
-        file.parent.mkdir(exist_ok=True)
-        file.write_text(text.format(root=self.root))
-        file.chmod(0o755)
+    def put(self, text):
+        """A stand-in for the build."""
+        script = self.root / library.BUILD
+        script.parent.mkdir(exist_ok=True)
+        script.write_text("#!/bin/sh\n" + text)
+        script.chmod(0o755)
 
-    def write(self, text, later=0):
-        """An archive, so many seconds later than the shared object."""
-        self.archive.parent.mkdir(parents=True, exist_ok=True)
-        self.archive.write_text(text)
-        if self.shared.exists():
-            time = self.shared.stat().st_mtime_ns + later * SECOND
-            os.utime(self.archive, ns=(time, time))
-
-    def make(self):
-        """Makes what is to be made: the content of the shared object, who was called, what was told."""
-        (self.root / "calls").write_text("")
+    def found(self):
+        """The path, and what is told."""
         told = io.StringIO()
         with contextlib.redirect_stderr(told):
-            self.assertEqual(make(self.root), self.shared)
-        return self.shared.read_text(), (self.root / "calls").read_text().split(), told.getvalue()
+            return shared_object(), told.getvalue()
 
     def fails(self):
-        """What is said where nothing can be made."""
-        with contextlib.redirect_stderr(io.StringIO()), self.assertRaises(NoLibrary) as caught:
-            make(self.root)
-        return str(caught.exception)
+        """What is said where there is none, and what is told before."""
+        told = io.StringIO()
+        with contextlib.redirect_stderr(told), self.assertRaises(NoLibrary) as caught:
+            shared_object()
+        return str(caught.exception), told.getvalue()
 
-    def test_nothing_is_there(self):
-        content, calls, told = self.make()
-        self.assertEqual((content, calls), ("shared of proved\n", ["rt", "gcc"]))
-        self.assertEqual(told, "revosti: proving and building target/staticlib/librevosti.a, some minutes\n")
+    def test_the_one_that_is_named(self):
+        self.put("exit 3\n")
+        (self.root / "installed.so").touch()
+        os.environ[library.VARIABLE] = "/some/where.so"
+        self.assertEqual(self.found(), (Path("/some/where.so"), ""))
 
-    def test_the_archive_is_there(self):
-        self.write("mine\n")
-        self.assertEqual(self.make(), ("shared of mine\n", ["gcc"], ""))
+    def test_the_one_that_is_installed(self):
+        self.put("exit 3\n")
+        (self.root / "installed.so").touch()
+        self.assertEqual(self.found(), (self.root / "installed.so", ""))
 
-    def test_both_are_there(self):
-        self.write("mine\n")
-        self.make()
-        self.assertEqual(self.make(), ("shared of mine\n", [], ""))
+    def test_that_of_the_repository(self):
+        self.put('[ "$*" = library ] && echo no progress && echo "1 of 2: left" >&2 && echo gcc warns >&2 && echo "2 of 2: revosti" >&2\n')
+        self.assertEqual(self.found(), (self.root / library.SHARED, "1 of 2: left\n2 of 2: revosti\n"))
 
-    def test_older_than_the_archive(self):
-        self.write("mine\n")
-        self.make()
-        self.write("new\n", later=1)
-        self.assertEqual(self.make(), ("shared of new\n", ["gcc"], ""))
-        self.assertEqual(self.make(), ("shared of new\n", [], ""))
+    def test_it_waits_for_another_build(self):
+        self.put("echo waiting for another build >&2\n")
+        self.assertEqual(self.found()[1], "waiting for another build\n")
 
-    def test_newer_than_the_archive(self):
-        self.write("mine\n")
-        self.make()
-        self.write("old\n", later=-1)
-        self.assertEqual(self.make(), ("shared of mine\n", [], ""))
+    def test_it_cannot_be_built(self):
+        self.put('echo "1 of 2: left" >&2\necho there is no kit >&2\nexit 3\n')
+        self.assertEqual(self.fails(), ("there is no kit", "1 of 2: left\n"))
+        self.put("exit 4\n")
+        self.assertEqual(self.fails(), (f"{self.root}/tools/build ends with status 4", ""))
 
-    def test_archive_written_while_gcc_runs(self):
-        self.write("mine\n")
-        self.put("gcc", GCC + 'echo new >"$3"\ntouch -d "1 hour" "$3"\n')
-        self.assertEqual(self.make(), ("shared of mine\n", ["gcc"], ""))
-        self.put("gcc", GCC)
-        self.assertEqual(self.make(), ("shared of new\n", ["gcc"], ""))
+    def test_no_repository(self):
+        self.assertEqual(self.fails(), (f"there is no shared object: REVOSTI_SHARED names none, {self.root}/installed.so is missing, "
+                                        "and this is no repository of Revosti", ""))
 
-    def test_gcc_fails(self):
-        self.write("mine\n")
-        self.make()
-        self.write("new\n", later=1)
-        self.put("gcc", "#!/bin/sh\necho no such option >&2\nexit 3\n")
-        self.assertEqual(self.fails(), "gcc fails with status 3:\nno such option\n")
-        self.assertEqual(self.shared.read_text(), "shared of mine\n")
-        self.assertEqual(sorted(p.name for p in self.shared.parent.iterdir()), ["librevosti.so", "staticlib"])
+    def test_the_build_ends_with_who_asked_for_it(self):
+        self.put(self.ENDLESS)
+        script = self.root / library.BUILD
+        for number in (signal.SIGINT, signal.SIGTERM, signal.SIGKILL):
+            with self.subTest(number):
+                for name in ("began", "ended"):
+                    Path(f"{script}.{name}").unlink(missing_ok=True)
+                with subprocess.Popen([sys.executable, "-B", "-c", self.ASKS, self.root], stderr=subprocess.DEVNULL,
+                                      env={**os.environ, "PYTHONPATH": str(ROOT / "tools")}) as started:
+                    self.wait_for(Path(f"{script}.began"))
+                    started.send_signal(number)
+                self.wait_for(Path(f"{script}.ended"))
+                self.assertIn(started.returncode, (-number, 1))
 
-    def test_rt_fails(self):
-        self.put("rt", "#!/bin/sh\necho NOT PROVED\nexit 1\n")
-        self.assertRegex(self.fails(), r"rt fails with status 1:\nNOT PROVED\n")
-        self.assertFalse(self.shared.exists())
-
-    def test_no_gcc(self):
-        self.write("mine\n")
-        (self.root / "kit/gcc").unlink()
-        with mock.patch.dict(os.environ, PATH=str(self.root / "kit")):
-            self.assertRegex(self.fails(), "cannot run gcc: No such file")
+    def wait_for(self, file):
+        """Waits until a file is there."""
+        end = time.monotonic() + 20
+        while not file.exists():
+            self.assertLess(time.monotonic(), end, file)
+            time.sleep(0.01)
 
 
 class Load(unittest.TestCase):
-    """The real gcc, and archives of functions that answer what their place says."""
+    """Functions that answer what their place says, in a shared object that is named."""
 
     def load(self, source):
         """The library of these functions."""
         holder = tempfile.TemporaryDirectory()
         self.addCleanup(holder.cleanup)
-        root = Path(holder.name)
-        (root / library.ARCHIVE).parent.mkdir(parents=True)
-        subprocess.run(["gcc", "-fPIC", "-c", "-x", "c", "-", "-o", root / "a.o"], input=source.encode(), check=True)
-        subprocess.run(["ar", "rc", root / library.ARCHIVE, root / "a.o"], check=True)
-        with mock.patch.object(library, "ROOT", root):
+        shared = Path(holder.name) / "librevosti.so"
+        subprocess.run(["gcc", "-shared", "-fPIC", "-x", "c", "-", "-o", shared], input=source.encode(), check=True)
+        with mock.patch.dict(os.environ, {library.VARIABLE: str(shared)}):
             return library.library.__wrapped__()
 
     def test_answers_of_64_bits(self):
@@ -156,6 +132,11 @@ class Load(unittest.TestCase):
     def test_a_function_is_missing(self):
         with self.assertRaisesRegex(NoLibrary, "cannot load .*librevosti.so: .*undefined symbol: revosti_read_tsplib"):
             self.load("unsigned long revosti_measure() { return 0; }\n")
+
+    def test_no_such_file(self):
+        with mock.patch.dict(os.environ, {library.VARIABLE: "/nowhere/some.so"}), \
+                self.assertRaisesRegex(NoLibrary, "cannot load /nowhere/some.so: .*No such file"):
+            library.library.__wrapped__()
 
 
 class Header(unittest.TestCase):
@@ -189,6 +170,11 @@ class Header(unittest.TestCase):
             self.assertEqual(getattr(revosti, name), limits[name], name)
         self.assertEqual((slips.VIEW, revosti.STOPPED), (limits["VIEW_BYTES"], limits["STOPPED"]))
         self.assertEqual(sorted(refusals.values()), [0, *sorted(REFUSALS)])
+
+    def test_version(self):
+        self.assertEqual(re.findall(r'^#define REVOSTI_VERSION "(.*)"$', self.TEXT, re.M), [revosti.__version__])
+        parts = [re.search(rf"^#define REVOSTI_VERSION_{name} (\d+)$", self.TEXT, re.M)[1] for name in ("MAJOR", "MINOR", "PATCH")]
+        self.assertEqual(".".join(parts), revosti.__version__)
 
 
 if __name__ == "__main__":

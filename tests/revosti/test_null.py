@@ -13,7 +13,7 @@ from revosti.operations import WORD, lend
 
 POINTER = BUFFER[0]
 FUNCTIONS = {name: arguments for name, arguments in (ARGUMENTS | SAVINGS).items() if POINTER in arguments}
-SIZE, MARKS, TEXT, VIEW = 2, 6, 19 + 256, 22  # how an empty buffer is refused: a table, marks, a text at its line 1, a view
+SIZE, MARKS, TEXT, VIEW = 2, 6, 19 + 256, 22  # how an empty buffer is refused: a table, marks, a text at its line 1, a view or a state
 
 
 def call(name, number, pointer):
@@ -32,7 +32,8 @@ class Null(unittest.TestCase):
         for name, number in {"measure": SIZE, "mark_sheet": SIZE, "ask_sheet": SIZE, "list_pairs": SIZE, "check_tour": SIZE,
                              "mark_between": SIZE, "list_between": SIZE, "write_page": SIZE, "read_page": SIZE, "move_saving": SIZE,
                              "fresh_marks": MARKS, "pack_marks": MARKS, "unpack_marks": MARKS, "confirm": MARKS, "withdraw": MARKS,
-                             "read_tsplib": TEXT, "tsplib_points": TEXT, "examiner_view": VIEW, "candidate_view": VIEW}.items():
+                             "read_tsplib": TEXT, "tsplib_points": TEXT, "examiner_view": VIEW, "candidate_view": VIEW,
+                             "open_desks": VIEW, "hand_in": VIEW, "next_desk": VIEW, "turn": VIEW}.items():
             with self.subTest(name):
                 self.assertEqual(call("revosti_" + name, 4, lambda: None), number)
 

@@ -10,12 +10,10 @@ from support import LINES, N, POINTS, ROOT, TABLE
 
 import revosti
 from packing import packed, unpacked
-from sheetlib.answer import Answer
-from sheetlib.board import Board, length_of
-from sheetlib.explain import explain
-from sheetlib.marks import marked, read_marks
-from sheetlib.parts import Parts, Record, split
-from sheetlib.read import pack
+from plain import Board, length_of
+from revosti_command.marks import marked, read_marks
+from revosti_command.parts import Record, split
+from revosti_command.read import pack
 
 HAND_IN = (revosti.mark_sheet, revosti.ask_sheet)
 SETTLE = (revosti.confirm, revosti.withdraw)
@@ -33,7 +31,7 @@ def verdict(call, *arguments):
 
 def nine():
     """A board of nine points with a sheet that strikes 27 edges: n, table, sheet."""
-    parts = pack((ROOT / "tests/sheet/nine.txt").read_text()).parts
+    parts = pack((ROOT / "tests/command/nine.txt").read_text()).parts
     return parts.n, revosti.measure(parts.n, parts.rule, parts.points), parts.records
 
 
@@ -65,14 +63,14 @@ class Measure(Operations):
         points = [(0, 0), (1, 1), (1, 3), (5, 0)]
         for rule, table in ((1, [1, 3, 5, 2, 4, 5]), (2, [2, 4, 5, 2, 5, 5]), (3, [1, 1, 2, 1, 2, 2]), (4, [2, 4, 5, 2, 5, 7]),
                             (5, [1, 3, 5, 2, 4, 4])):
-            self.assertEqual(revosti.measure(N, rule, points), table, rule)
+            self.assertEqual(revosti.measure(N, rule, points).tolist(), table, rule)
 
     def test_rules_against_a_plain_reading(self):
         r, n = random.Random(5), 20
         for most in (4, 40, 10**6):
             points = [(r.randint(0, most), r.randint(0, most)) for _ in range(n)]
             for rule in range(1, 6):
-                self.assertEqual(revosti.measure(n, rule, points), [length_of(rule, p, q) for p, q in combinations(points, 2)], rule)
+                self.assertEqual(revosti.measure(n, rule, points).tolist(), [length_of(rule, p, q) for p, q in combinations(points, 2)], rule)
 
     def test_largest(self):
         corners = [(0, 0), (10**6, 10**6)] * 90
@@ -352,12 +350,10 @@ class Refusals(Operations):
             found = self.refused(number, call)
             self.assertEqual((found.words, str(found)), (words, f"Refused, number {number}: {words}"))
 
-    def test_record_and_the_words_of_explain(self):
+    def test_record(self):
         sheet = [[1, 1, 2, 0, 0, 3, 0, 0]]
         found = self.refused(14, revosti.mark_sheet, N, TABLE, revosti.fresh_marks(N), sheet, record=1)
         self.assertEqual(str(found), f"Refused, number 14, record 1: {found.words}")
-        parts = Parts(1, N, POINTS, [Record(*sheet[0])], b"")
-        self.assertIn(f"Refused, number 14: {found.words}\n", explain(parts, Answer(N, 6, [], 14, 1, 6)))
 
     def test_goes_through_pickle(self):
         found = pickle.loads(pickle.dumps(revosti.Refusal(16, 7, 3)))

@@ -1,22 +1,17 @@
 """Edge pages over the library: every page of many boards against lines made here, pages read again, each damage with its line, each refusal in
-its order, and the commands `sheet pages` and `sheet read-pages`."""
+its order."""
 
 import random
-import subprocess
-import sys
-import tempfile
 import unittest
 from array import array
 from itertools import combinations
-from pathlib import Path
 
-from support import LINES, N, POINTS, ROOT, TABLE
+from support import N, TABLE
 
 import revosti
 from packing import packed, some
 from revosti.library import library
 from revosti.operations import lend
-from sheetlib.parts import Parts, Record, join
 
 WORDS = {0: "struck", 1: "open", 2: "pending"}
 SIZES = (*range(4, 21), 25, 40, 41, 160, 177, 180)  # 16, 25, 40 and 160 have a last page of 60 lines
@@ -138,7 +133,7 @@ class Read(unittest.TestCase):
             lengths, left = array("I", table), packed(marks) if marks else bytearray()
             before = bytes(left)
             self.assertEqual(library().revosti_read_page(n, page, *lend(bytearray(b"x" + text)), *lend(lengths), *lend(left)), number)
-            self.assertEqual((lengths.tolist(), bytes(left)), (table, before))
+            self.assertEqual((lengths.tolist(), bytes(left)), (list(table), before))
         with self.assertRaises(revosti.Refusal) as caught:
             revosti.read_page(N, 1, text + b"x", list(TABLE), packed([1] * 6))
         self.assertEqual((caught.exception.number, caught.exception.text_line, str(caught.exception)),
@@ -153,41 +148,6 @@ def line_of(text, line, n, page):
     if not digits.isdigit() or int(digits) > 2_000_000:
         return None
     return f"{a:>3} {b:>3} {int(digits):>7} ".encode() + found[16:]
-
-
-class Command(unittest.TestCase):
-    def sheet(self, *words):
-        """What the command prints."""
-        return subprocess.run([sys.executable, ROOT / "tools/sheet", *map(str, words)], capture_output=True, check=False)
-
-    def test_there_and_back(self):
-        with tempfile.TemporaryDirectory() as folder:
-            board_file, marks_file, list_file = (Path(folder) / name for name in ("board", "marks", "list"))
-            board_file.write_bytes(join(Parts(1, N, POINTS, [Record(*r) for r in LINES], b"")))
-            marks_file.write_bytes(packed([1, 0, 2, 1, 0, 1]))
-            done = self.sheet("pages", board_file, "--marks", marks_file, "-o", list_file)
-            self.assertEqual((done.returncode, done.stderr), (0, b""))
-            self.assertEqual(list_file.read_bytes(), b"".join(lines(N, TABLE, [1, 0, 2, 1, 0, 1])))
-            self.assertEqual(self.sheet("read-pages", list_file).stdout, bytes(packed([1, 0, 2, 1, 0, 1])))
-            self.assertEqual(self.sheet("pages", board_file).stdout, b"".join(lines(N, TABLE, [1] * 6)))
-
-    def test_faulty_lists_in_words(self):
-        every = b"".join(lines(12, *board(12)))
-        first, last = every[:25], every[-25:]
-        expected = "expected the line of"
-        for text, words in ((every[:50] + b"x" + every[51:], f"page 1, line 3: {expected} 1-4 with a length up to 2,000,000, found 'x"),
-                            (every[25:], f"page 1, line 1: {expected} 1-2 with a length up to 2,000,000, found '  1   3 "),
-                            (every[:-30], f"page 2, line 5: {expected} 10-12 with a length up to 2,000,000, found ' 10  12 "),
-                            (every[:1500], f"page 2, line 1: {expected} 9-10 with a length up to 2,000,000, found the end\n"),
-                            (every[:-25], f"page 2, line 6: {expected} 11-12 with a length up to 2,000,000, found the end\n"),
-                            (every + last, "page 2, line 7: expected the end after 6 lines, found 25 bytes more\n"),
-                            (every + b"\n", "page 2, line 7: expected the end after 6 lines, found 1 byte more\n"),
-                            (every[:1500] + first + every[1500:], f"page 2, line 1: {expected} 9-10 with a length up to 2,000,000, found '  1   2 ")):
-            done = subprocess.run([sys.executable, ROOT / "tools/sheet", "read-pages", "--points", "12"], input=text, capture_output=True, check=False)
-            self.assertEqual((done.returncode, done.stdout), (2, b""))
-            self.assertIn(f"sheet: standard input: {words}", done.stderr.decode())
-        done = subprocess.run([sys.executable, ROOT / "tools/sheet", "read-pages", "--points", "12"], input=every, capture_output=True, check=False)
-        self.assertEqual((done.returncode, done.stdout, done.stderr), (0, bytes(packed(board(12)[1])), b""))
 
 
 if __name__ == "__main__":

@@ -10,7 +10,7 @@ from support import N, TABLE
 import revosti
 from revosti.library import library
 from revosti.operations import lend
-from sheetlib.board import Board, degree, edge, ends, fits_tour
+from plain import Board, degree, edge, ends, fits_tour
 
 MOST = 2_000_000
 P, Q, R, S, X, Y, Z, W = range(1, 9)
@@ -134,7 +134,7 @@ class Formulas(unittest.TestCase):
                                      ("crossing", (1, 2, 3, 4, 1, 2, 2, 1), 20)):
             lent = array("I", TABLE)
             self.assertEqual(getattr(library(), f"revosti_{name}_saving")(N, *lend(lent), *points), 65536 * saving, (name, points))
-            self.assertEqual(lent.tolist(), TABLE)
+            self.assertEqual(lent, TABLE)
 
 
 class Margins(unittest.TestCase):

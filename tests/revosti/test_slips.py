@@ -1,25 +1,18 @@
-"""Slips over the library: those of sheets, every kind of number, a plain reading of both views, 22, and the command `sheet slip`."""
+"""Slips over the library: those of sheets, every kind of number, a plain reading of both views, and 22."""
 
 import random
-import subprocess
-import sys
-import tempfile
 import unittest
-from pathlib import Path
 from struct import pack
 
-from support import LINES, N, POINTS, ROOT, TABLE
+from support import LINES, N, ROOT, TABLE
 
 import revosti
 from packing import packed
 from revosti.library import library
 from revosti.operations import lend
-from sheetlib.parts import Parts, Record, join
-from sheetlib.slip import tell_slip
 
 STOPS = [[1, 1, 3, 0, 0, 2, 0, 2], [1, 1, 2, 0, 0, 3, 0, 0]]  # its second line is refused by 14
 RELEASED, ABOVE = 1 << 40, 1 << 41
-PAGE = (ROOT / "docs/FORMATS.md").read_text(encoding="utf-8")
 RULES = (ROOT / "docs/RULES.md").read_text(encoding="utf-8")
 
 
@@ -128,61 +121,6 @@ class Views(unittest.TestCase):
         for call in (revosti.release, revosti.examiner_view, revosti.candidate_view):
             for slip in (-1, 2**64):
                 self.assertRaises(OverflowError, call, slip)
-
-
-class Command(unittest.TestCase):
-    def setUp(self):
-        holder = tempfile.TemporaryDirectory()
-        self.addCleanup(holder.cleanup)
-        self.file = Path(holder.name) / "a.sheet"
-
-    def run_slip(self, *words, data=b""):
-        """Status, output and complaint of the command."""
-        run = subprocess.run([sys.executable, "-B", ROOT / "tools/sheet", "slip", *map(str, words)], input=data, capture_output=True,
-                             check=False)
-        return run.returncode, run.stdout.decode(), run.stderr.decode()
-
-    def sheet(self, lines, tail=b""):
-        """The bytes of a sheet on the square."""
-        return join(Parts(1, N, POINTS, [Record(*line) for line in lines], tail))
-
-    def test_a_sheet(self):
-        self.file.write_bytes(self.sheet(STOPS))
-        slip = number(14, 2, 1)
-        for words, told in (((self.file,), slip), ((self.file, "--release"), slip | RELEASED), (("--number", slip), slip),
-                            (("--number", f"00{slip}", "--release"), slip | RELEASED)):
-            self.assertEqual(self.run_slip(*words), (0, tell_slip(told) + "\n", ""))
-        self.assertEqual(self.run_slip(data=self.sheet(STOPS)), (0, tell_slip(slip) + "\n", ""))
-
-    def test_words(self):
-        told = f"refused by 14, record 4000, 1 line accepted. {revosti.meaning(14)}"
-        self.assertEqual(tell_slip(number(14, 4000, 1)).splitlines(),
-                         ["Slip 17801230 is not released.", f"The examiner sees 14 0 160 15 1 0: {told}",
-                          "The candidate sees 255 0 0 0 1 0: the sheet stopped, 1 line accepted."])
-        self.assertEqual(tell_slip(number(14, 4000, 1, True)).splitlines(),
-                         ["Slip 1099529429006 is released.", f"The examiner sees 14 1 160 15 1 0: {told}",
-                          "The candidate sees 14 1 160 15 1 0: the same."])
-        self.assertEqual(tell_slip(2 << 24).splitlines(),
-                         ["Slip 33554432 is not released.", "The examiner sees 0 0 0 0 2 0: no refusal, 2 lines accepted.",
-                          "The candidate sees 0 0 0 0 2 0: the same."])
-        self.assertEqual(tell_slip(768).splitlines()[1:],
-                         ["The examiner sees 0 0 3 0 0 0: no refusal, record 3, 0 lines accepted.",
-                          "The candidate sees 0 0 0 0 0 0: no refusal, 0 lines accepted."])
-
-    def test_page(self):
-        self.file.write_bytes(self.sheet(STOPS))
-        self.assertTrue(f"\n```\n{self.run_slip(self.file)[1]}```\n" in PAGE)
-
-    def test_a_broken_sheet_has_a_slip(self):
-        for data in (self.sheet([]), self.sheet(LINES, b"\1")):
-            self.assertEqual(self.run_slip("--form", "binary", data=data), (0, tell_slip(7) + "\n", ""))
-
-    def test_a_board_that_is_refused_has_none(self):
-        whole = self.sheet(LINES)
-        for data, refusal in ((whole[:20], 7), (b"", 7), (b"\6" + whole[1:], 3), (whole[:4] + b"\3" + whole[5:], 1)):
-            status, said, complaint = self.run_slip("--form", "binary", data=data)
-            self.assertEqual((status, said), (1, ""))
-            self.assertIn(f"sheet: Refused, number {refusal}: ", complaint)
 
 
 if __name__ == "__main__":

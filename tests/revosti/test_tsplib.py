@@ -1,22 +1,18 @@
-"""TSPLIB texts over the library: tables, lines of faults, every refusal and their order, and boards as tools/sheet takes them."""
+"""TSPLIB texts over the library: tables, lines of faults, every refusal and their order."""
 
 import random
-import subprocess
-import sys
-import tempfile
 import unittest
 from array import array
-from pathlib import Path
 
 from support import N, POINTS, ROOT, TABLE
 
 import revosti
 from revosti.library import library
 from revosti.operations import copy, lend
-from sheetlib.board import RULES
-from sheetlib.parts import Parts
-from sheetlib.tsplib import BadBoard, read_board, write_board
-from texts import FAULTS, NODES, SQUARES, WEIGHTS, changed, put, text
+from revosti_command.edges import RULES
+from revosti_command.parts import Parts
+from revosti_command.tsplib import BadBoard, read_board, write_board
+from texts import FAULTS, NODES, SQUARES, WEIGHTS, put, text
 
 MOST = 2**32 - 1
 
@@ -75,12 +71,12 @@ class Read(unittest.TestCase):
         for n in (4, 5, 9, 180):
             table = [r.choice([0, 1, 2_000_000, r.randint(0, 2_000_000)]) for _ in range(n * (n - 1) // 2)]
             for width in (1, 2, 7, len(table)):
-                self.assertEqual(revosti.read_tsplib(weights(n, table, width)), (n, table))
+                self.assertEqual(revosti.read_tsplib(weights(n, table, width)), (n, array("I", table)))
 
     def test_answers(self):
         for data in (text(NODES), text(WEIGHTS)):
             answer, table = read_into(data, array("I", [7]) * 6)
-            self.assertEqual((answer, table.tolist()), (65536 * 4, TABLE))
+            self.assertEqual((answer, table), (65536 * 4, TABLE))
             self.assertEqual(library().revosti_tsplib_points(*lend(copy(data))), 65536 * 4)
 
 
@@ -132,7 +128,7 @@ class Refusals(unittest.TestCase):
     def test_weight(self):
         for at in range(6):
             for weight, wanted in ((2_000_000, None), (2_000_001, (5, 0)), (MOST, (5, 0))):
-                table = [*TABLE[:at], weight, *TABLE[at + 1:]]
+                table = TABLE[:at] + array("I", [weight]) + TABLE[at + 1:]
                 self.assertEqual(refusal(revosti.read_tsplib, weights(4, table)), wanted or (4, table))
 
     def test_order_and_sizes(self):
@@ -205,33 +201,7 @@ class Damaged(unittest.TestCase):
             self.check(bytes(r.choice(b" \n:0EOF") for _ in range(length)))
 
 
-class Command(unittest.TestCase):
-    """tools/sheet pack beside a board, with the library."""
-
-    def run_pack(self, board):
-        """Status, output and complaint."""
-        with tempfile.TemporaryDirectory() as folder:
-            file = Path(folder) / "a.tsp"
-            file.write_bytes(board)
-            run = subprocess.run([sys.executable, "-B", ROOT / "tools/sheet", "pack", "--board", file, ROOT / "examples/square.txt"],
-                                 capture_output=True, check=False)
-            return run.returncode, run.stdout, run.stderr.decode().replace(str(file), "FILE")
-
-    def test_square(self):
-        self.assertEqual(self.run_pack((ROOT / "examples/square.tsp").read_bytes()),
-                         (0, (ROOT / "examples/square.bin").read_bytes(), ""))
-
-    def test_refused(self):
-        status, out, said = self.run_pack(changed(NODES, 8, "2 1.11630e+03 0"))
-        self.assertEqual((status, out), (2, b""))
-        self.assertEqual(said, 'sheet: FILE, line 8: expected node 2 of 4, its number and two whole coordinates, found "2 1.11630e+03 0"; '
-                               'whole coordinates are asked for, in digits alone, and "1.11630e+03" is none\n')
-
-    def test_weights(self):
-        status, out, said = self.run_pack((ROOT / "examples/square_weights.tsp").read_bytes())
-        self.assertEqual((status, out), (2, b""))
-        self.assertIn("sheet: FILE: the board has weights (EXPLICIT)", said)
-
+class Examples(unittest.TestCase):
     def test_examples(self):
         for name in ("square.tsp", "square_weights.tsp"):
             self.assertEqual(revosti.read_tsplib((ROOT / "examples" / name).read_bytes()), (N, TABLE))

@@ -1,21 +1,29 @@
-"""The shared object that Python loads, made from the archive of the proved functions."""
+"""The shared object that Python loads: one that is named, the one that is installed with this package, or that of the
+repository."""
 
 import ctypes
 import os
-import shutil
+import re
+import signal
 import subprocess
 import sys
-import tempfile
+from collections.abc import Mapping
 from functools import cache
 from pathlib import Path
+from typing import Any
 
+VARIABLE = "REVOSTI_SHARED"  # the path of a shared object
+INSTALLED = Path(__file__).resolve().parent / "librevosti.so"
 ROOT = Path(__file__).resolve().parents[2]
-ARCHIVE = "target/staticlib/librevosti.a"
-SHARED = "target/librevosti.so"
+BUILD, SHARED = "tools/build", "target/librevosti.so"
+
+PROGRESS = re.compile(r"\d+ of \d+: \w+|waiting for another build")
+PR_SET_PDEATHSIG = 1
+LIBC = ctypes.CDLL(None)
 
 BUFFER = (ctypes.POINTER(ctypes.c_uint8), ctypes.c_size_t)
 WORD, HALF, LONG = ctypes.c_uint32, ctypes.c_uint16, ctypes.c_uint64
-ARGUMENTS = {
+ARGUMENTS: dict[str, tuple[Any, ...]] = {
     "revosti_measure": (WORD, WORD, *BUFFER, *BUFFER),
     "revosti_read_tsplib": (*BUFFER, *BUFFER),
     "revosti_tsplib_points": BUFFER,
@@ -35,8 +43,12 @@ ARGUMENTS = {
     "revosti_candidate_view": (LONG, *BUFFER),
     "revosti_write_page": (WORD, *BUFFER, *BUFFER, WORD, *BUFFER),
     "revosti_read_page": (WORD, WORD, *BUFFER, *BUFFER, *BUFFER),
+    "revosti_open_desks": BUFFER,
+    "revosti_hand_in": (*BUFFER, WORD, WORD, *BUFFER, *BUFFER, *BUFFER),
+    "revosti_next_desk": BUFFER,
+    "revosti_turn": (*BUFFER, WORD, *BUFFER, *BUFFER, *BUFFER),
 }
-SAVINGS = {  # their answers have a sign
+SAVINGS: dict[str, tuple[Any, ...]] = {  # their answers have a sign
     "revosti_exchange_saving": (WORD, *BUFFER, *[HALF] * 4),
     "revosti_move_saving": (WORD, *BUFFER, *[HALF] * 5),
     "revosti_crossing_saving": (WORD, *BUFFER, *[HALF] * 8),
@@ -48,9 +60,9 @@ class NoLibrary(Exception):
 
 
 @cache
-def library():
+def library() -> ctypes.CDLL:
     """The functions, loaded once."""
-    path = make(ROOT)
+    path = shared_object()
     try:
         loaded = ctypes.CDLL(str(path))
         declare(loaded, ARGUMENTS, ctypes.c_uint64)
@@ -60,46 +72,48 @@ def library():
     return loaded
 
 
-def declare(loaded, functions, answer):
+def declare(loaded: ctypes.CDLL, functions: Mapping[str, tuple[Any, ...]], answer: Any) -> None:
     """Says what these functions take, and how they answer."""
     for name, arguments in functions.items():
         function = getattr(loaded, name)
         function.argtypes, function.restype = arguments, answer
 
 
-def make(root):
-    """The path of the shared object below a root. It is made where it is missing or older than the archive."""
-    archive, shared = root / ARCHIVE, root / SHARED
-    if not archive.exists():
-        prove(root)
-    time = archive.stat().st_mtime_ns
-    if not shared.exists() or shared.stat().st_mtime_ns < time:
-        link(archive, shared, time)
-    return shared
+def shared_object() -> Path:
+    """The path of the shared object. That of the repository is built where it is not up to date."""
+    named = os.environ.get(VARIABLE)
+    if named:
+        return Path(named)
+    if INSTALLED.exists():
+        return INSTALLED
+    if not (ROOT / BUILD).exists():
+        raise NoLibrary(f"there is no shared object: {VARIABLE} names none, {INSTALLED} is missing, and this is no repository of Revosti")
+    build(ROOT)
+    return ROOT / SHARED
 
 
-def prove(root):
-    """Makes the archive."""
-    print(f"revosti: proving and building {ARCHIVE}, some minutes", file=sys.stderr, flush=True)
-    run([shutil.which("rt") or "/opt/rattle/bin/rt", "staticlib", "revosti"], cwd=root)
+def build(root: Path) -> None:
+    """Has the library of a repository built, and tells where the build is. The build ends with this process, however
+    that ends."""
+    said = []
+    parent = os.getpid()
+    with subprocess.Popen([root / BUILD, "library"], stdin=subprocess.DEVNULL, stdout=subprocess.DEVNULL, stderr=subprocess.PIPE, text=True,
+                          errors="replace", preexec_fn=lambda: end_with(parent)) as builder:
+        try:
+            for line in builder.stderr or ():
+                if PROGRESS.fullmatch(line.rstrip("\n")):
+                    print(line, end="", file=sys.stderr, flush=True)
+                else:
+                    said.append(line)
+        except BaseException:
+            builder.terminate()
+            raise
+    if builder.returncode:
+        raise NoLibrary("".join(said).rstrip("\n") or f"{root / BUILD} ends with status {builder.returncode}")
 
 
-def link(archive, shared, time):
-    """Makes the shared object of an archive of this time. It gets the archive's time, so that an archive written meanwhile is newer, and
-    takes its place at once, so that nobody loads half of it."""
-    with tempfile.TemporaryDirectory(dir=shared.parent) as folder:
-        made = Path(folder) / shared.name
-        run(["gcc", "-shared", "-Wl,--whole-archive", str(archive), "-Wl,--no-whole-archive", "-o", str(made)])
-        os.utime(made, ns=(time, time))
-        made.replace(shared)
-
-
-def run(words, cwd=None):
-    """Runs a command, or raises NoLibrary with what it says."""
-    try:
-        done = subprocess.run(words, cwd=cwd, stdin=subprocess.DEVNULL, stdout=subprocess.PIPE, stderr=subprocess.STDOUT, text=True,
-                              errors="replace", check=False)
-    except OSError as error:
-        raise NoLibrary(f"cannot run {words[0]}: {error.strerror}") from error
-    if done.returncode:
-        raise NoLibrary(f"{words[0]} fails with status {done.returncode}:\n{done.stdout}")
+def end_with(parent: int) -> None:
+    """Lets this process be told to end when its parent does."""
+    LIBC.prctl(PR_SET_PDEATHSIG, signal.SIGTERM)
+    if os.getppid() != parent:
+        os.kill(os.getpid(), signal.SIGTERM)

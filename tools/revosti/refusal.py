@@ -26,31 +26,33 @@ REFUSALS = {
     19: "The text is no TSPLIB text as they are read here (docs/FORMATS.md).",
     20: "Something is pending: confirm or withdraw it first.",
     21: "Nothing is pending: there is nothing to confirm or withdraw.",
-    22: "The buffer is too short: a view has six bytes, a page 25 a line.",
+    22: "The buffer is too short: a view has six bytes, a page 25 a line, the desks 50.",
     25: "A low length is above its high one.",
     26: "The page number is 0 or past the last.",
     27: "The text is not such a page.",
+    28: "The desk is outside 1 to 8.",
+    29: "The sheet of this desk still has a line.",
 }
 
 
-def meaning(number):
+def meaning(number: int) -> str:
     """A refusal's meaning."""
-    return REFUSALS.get(number, "This number is not one of 1 to 22 and 25 to 27.")
+    return REFUSALS.get(number, "This number is not one of 1 to 22 and 25 to 29.")
 
 
 class Refusal(Exception):
-    """A call that is refused: the number, the record at fault (0 where none is), the lines of a sheet that are accepted before it, and the
-    line at fault of a TSPLIB text or a page (0 but for 19 and 27)."""
+    """A call that is refused: the number, the record at fault (0 where none is), the lines of a sheet that are accepted
+    before it, and the line at fault of a TSPLIB text or a page (0 but for 19 and 27)."""
 
-    def __init__(self, number, record=0, lines=0, text_line=0):
+    def __init__(self, number: int, record: int = 0, lines: int = 0, text_line: int = 0) -> None:
         super().__init__(number, record, lines, text_line)
         self.number, self.record, self.lines, self.text_line = number, record, lines, text_line
 
     @property
-    def words(self):
+    def words(self) -> str:
         """What the number means."""
         return meaning(self.number)
 
-    def __str__(self):
+    def __str__(self) -> str:
         place = (f", record {self.record}" if self.record else "") + (f", line {self.text_line}" if self.text_line else "")
         return f"Refused, number {self.number}{place}: {self.words}"

@@ -1,0 +1,223 @@
+"""The board as SVG: holes, open, pending and struck edges; a tour, or one case of a sheet, if that is asked for.
+
+The picture has a fixed width; the second coordinate grows upward. The edges
+of one hole form one path, so that its fan does not darken around the hole.
+"""
+
+from html import escape
+from typing import NamedTuple
+
+from .case import Case
+from .edges import edge
+from .labels import place_labels
+from .marks import NAMES, marked
+from .words import counted
+
+WIDTH, MARGIN, MIN_HEIGHT = 1200, 50, 240
+COLUMNS, ROW, FEW = 3, 34, 3  # of the legend
+# Okabe and Ito's colours: they differ for colour-blind readers too.
+PAPER, INK, SLATE, ORANGE, GREEN, BLUE, PURPLE, RED = (
+    "#fcfbf7", "#1a1a1a", "#3f4f5f", "#d55e00", "#009e73", "#0072b2", "#cc79a7", "#c1121f")
+
+
+class Scene(NamedTuple):
+    """What a picture shows: the points and the name of their rule, the marks, the edges of a tour and its length, a
+    case and its record, and the marks that are left out."""
+
+    points: list
+    rule: str
+    marks: list
+    legs: list = []
+    length: int = 0
+    case: Case | None = None
+    record: int = 0
+    without: tuple = ()
+
+
+def draw(scene):
+    """The SVG of a scene. A pending leg of the tour counts as open; it is drawn as tour with a light core, and pending
+    edges lie above that."""
+    case, by_name = scene.case, {name: marked(len(scene.points), scene.marks, mark) for mark, name in NAMES.items()}
+    shown = {name: [] if name in scene.without else found for name, found in by_name.items()}
+    broken = sorted(set(scene.legs) & set(by_name["struck"]))
+    rows = [hole_row(scene), *(case_rows(scene) if case else []), *edge_rows(by_name, scene.without), *tour_rows(scene, broken)]
+    view = View(scene.points, len(rows))
+    body = [
+        edge_group("open", view, shown["open"]),
+        edge_group("struck", view, shown["struck"]),
+        edge_group("tour", view, [e for e in scene.legs if e not in set(broken)]),
+        edge_group("broken", view, broken),
+        edge_group("core", view, sorted(set(scene.legs) & set(by_name["pending"]))),
+        edge_group("pending", view, shown["pending"]),
+        *(case_groups(view, case) if case else []),
+        hole_group(view), *([ring_group(view, case.points)] if case else []),
+        label_group(view, [*scene.legs, *(case.k if case else [])]),
+        legend_group(view, rows),
+    ]
+    return page(view, style(view, shown, bool(case)), body)
+
+
+class View:
+    """Where the points lie in the picture, and how large marks are drawn."""
+
+    def __init__(self, points, rows):
+        xs, ys = [p[0] for p in points], [p[1] for p in points]
+        span = max(max(xs) - min(xs), max(ys) - min(ys), 1)
+        scale = (WIDTH - 2 * MARGIN) / span
+        wide, high = (max(xs) - min(xs)) * scale, (max(ys) - min(ys)) * scale
+        self.board = max(MIN_HEIGHT, round(high + 2 * MARGIN))
+        left, base = (WIDTH - wide) / 2, (self.board + high) / 2
+        self.spots = [(round(left + (x - min(xs)) * scale), round(base - (y - min(ys)) * scale))
+                      for x, y in points]
+        self.height = self.board + ROW * -(-rows // COLUMNS) + 28
+        crowd = min(1, len(points) / 180)
+        self.radius = round(8 - 4 * crowd, 1)
+        self.font = round(26 - 12 * crowd)
+
+    def at(self, point):
+        """The spot of a point."""
+        return self.spots[point - 1]
+
+
+def page(view, css, body):
+    """The whole SVG."""
+    return "\n".join([
+        f'<svg xmlns="http://www.w3.org/2000/svg" viewBox="0 0 {WIDTH} {view.height}" '
+        f'width="{WIDTH}" height="{view.height}">',
+        f"<style>{css}</style>",
+        f'<rect width="{WIDTH}" height="{view.height}" fill="{PAPER}"/>',
+        *body, "</svg>", ""])
+
+
+def style(view, shown, case):
+    """The look of each class. The more edges, the lighter each of them; a struck edge has less ink than an open one,
+    and around a case all of them step back."""
+    opened, pending, struck = (len(shown[name]) for name in ("open", "pending", "struck"))
+    back = 0.35 if case else 1
+    return "\n".join([
+        "",
+        "path, .key line { fill: none; stroke-linecap: round; }",
+        f".open {{ stroke: {SLATE}; stroke-width: 1.4; opacity: {faint(opened, 0.85 * back, 0.055 * back)}; }}",
+        f".struck {{ stroke: {ORANGE}; stroke-width: 1; stroke-dasharray: 4 7; opacity: {faint(struck, 0.75 * back, 0.15 * back)}; }}",
+        f".pending {{ stroke: {GREEN}; stroke-width: 3; stroke-dasharray: 1 7; "
+        f"opacity: {faint(pending, 1, 0.3)}; }}",
+        f".tour {{ stroke: {BLUE}; stroke-width: 5; }}",
+        f".broken {{ stroke: {PURPLE}; stroke-width: 5; stroke-dasharray: 10 8; }}",
+        f".core {{ stroke: {PAPER}; stroke-width: 3; }}",
+        *(case_style() if case else []),
+        f".hole {{ fill: {INK}; stroke: {PAPER}; stroke-width: 1.2; }}",
+        "text { font-family: 'DejaVu Sans', Verdana, Arial, sans-serif; }",
+        f".label {{ font-size: {view.font}px; fill: {INK}; text-anchor: middle; "
+        f"stroke: {PAPER}; stroke-width: {3 if view.font < 20 else 4}; paint-order: stroke; }}",
+        f".key text {{ font-size: 19px; fill: {INK}; }}",
+        ".key .open { stroke-width: 2.5; }", ".key .struck { stroke-width: 2; }", ".key .pending { stroke-width: 4; }",
+        ".key .open, .key .struck, .key .pending { opacity: 1; }",
+        ""])
+
+
+def case_style():
+    """The look of a case: K thick, the edges of standing pairs dashed, darker where no case names the pair, split point
+    or centres ringed."""
+    return [f".k {{ stroke: {INK}; stroke-width: 7; }}", f".crossed {{ stroke: {BLUE}; stroke-width: 7; }}",
+            f".named {{ stroke: {PURPLE}; stroke-width: 3.5; stroke-dasharray: 12 7; }}",
+            f".due {{ stroke: {RED}; stroke-width: 3.5; stroke-dasharray: 12 7; }}",
+            f".ring {{ fill: none; stroke: {RED}; stroke-width: 4; }}"]
+
+
+def faint(count, most, least):
+    """An opacity that falls as the number of edges grows."""
+    return round(max(least, min(most, most * (60 / max(count, 1)) ** 0.5)), 3)
+
+
+def edge_group(name, view, edges):
+    """Edges of one class: one path for each lower point."""
+    fans = {}
+    for a, b in edges:
+        fans.setdefault(a, []).append(segment(view.at(a), view.at(b)))
+    paths = [f'<path class="{name}" d="{"".join(fan)}"/>' for fan in fans.values()]
+    return "\n".join([f'<g id="{name}">', *paths, "</g>"])
+
+
+def segment(p, q):
+    """A straight piece of a path."""
+    return f"M{p[0]} {p[1]}L{q[0]} {q[1]}"
+
+
+def hole_group(view):
+    """A dot for each hole."""
+    dots = [f'<circle class="hole" cx="{x}" cy="{y}" r="{view.radius}"/>' for x, y in view.spots]
+    return "\n".join(['<g id="holes">', *dots, "</g>"])
+
+
+def label_group(view, legs):
+    """The number of each hole beside it."""
+    track = [(view.at(a), view.at(b)) for a, b in legs]
+    spots = place_labels(view.spots, view.radius, view.font, (WIDTH, view.board), track)
+    texts = [f'<text class="label" x="{x:.0f}" y="{y:.0f}">{i}</text>'
+             for i, (x, y) in enumerate(spots, 1)]
+    return "\n".join(['<g id="labels">', *texts, "</g>"])
+
+
+def case_groups(view, case):
+    """K, the edge that is crossed, and the edges of the standing pairs at the split point."""
+    due, pairs = (sorted({edge(case.points[0], x) for pair in some for x in pair} - set(case.k)) for some in (case.due, case.pairs))
+    return [edge_group("k", view, [e for e in case.k if not (case.crossed and e == edge(*case.crossed))]),
+            edge_group("crossed", view, [edge(*case.crossed)] if case.crossed else []),
+            edge_group("named", view, [e for e in pairs if e not in due]), edge_group("due", view, due)]
+
+
+def ring_group(view, points):
+    """A ring around each of some holes."""
+    rings = [f'<circle class="ring" cx="{x}" cy="{y}" r="{view.radius + 7}"/>' for x, y in map(view.at, points)]
+    return "\n".join(['<g id="rings">', *rings, "</g>"])
+
+
+def hole_row(scene):
+    """The legend's row for the holes: class of the sample and its words."""
+    return "hole", f"{counted(len(scene.points), 'hole')} ({scene.rule})"
+
+
+def edge_rows(by_name, without):
+    """The legend's rows for the edges; pending ones have a row where there are any."""
+    names = ["open", *(["pending"] if by_name["pending"] else []), "struck"]
+    return [(name, f"{name}: {counted(len(by_name[name]), 'edge')}") for name in names if name not in without]
+
+
+def case_rows(scene):
+    """The legend's rows for a case."""
+    case = scene.case
+    rows = [("k", f"record {scene.record}: K, {counted(len(case.k), 'edge')}")]
+    if case.crossed:
+        return [*rows, ("crossed", f"crossed: {case.crossed[0]}-{case.crossed[1]}"),
+                ("ring", f"centres {case.points[0]} and {case.points[1]}")]
+    rows += [("ring", f"split at {case.points[0]}")]
+    named = [pair for pair in case.pairs if pair not in case.due]
+    return rows + [(name, f"{words}: {few(pairs)}") for name, words, pairs in (("named", "with a case", named), ("due", "due", case.due)) if pairs]
+
+
+def few(pairs):
+    """Pairs by name where they are few, or their number."""
+    return ", ".join(f"{a}-{b}" for a, b in pairs) if len(pairs) <= FEW else counted(len(pairs), "pair")
+
+
+def tour_rows(scene, broken):
+    """The legend's rows for the tour, if there is one."""
+    rows = [("tour", f"tour: length {scene.length:,}")] if scene.legs else []
+    return rows + ([("broken", f"struck, in the tour: {len(broken):,}")] if broken else [])
+
+
+def legend_group(view, rows):
+    """The legend below the board."""
+    top = view.board
+    items = [f'<line x1="{MARGIN}" y1="{top}" x2="{WIDTH - MARGIN}" y2="{top}" stroke="#d8d4c8"/>']
+    for i, (name, words) in enumerate(rows):
+        x, y = MARGIN + 370 * (i % COLUMNS), top + 36 + ROW * (i // COLUMNS)
+        items += [sample(name, x, y), f'<text x="{x + 62}" y="{y + 6}">{escape(words)}</text>']
+    return "\n".join(['<g id="legend" class="key">', *items, "</g>"])
+
+
+def sample(name, x, y):
+    """A piece of a class, beside its words."""
+    if name in ("hole", "ring"):
+        return f'<circle class="{name}" cx="{x + 25}" cy="{y}" r="{6 if name == "hole" else 9}"/>'
+    return f'<line class="{name}" x1="{x}" y1="{y}" x2="{x + 50}" y2="{y}"/>'

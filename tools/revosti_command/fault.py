@@ -1,0 +1,291 @@
+"""What a sheet lacks, where it is refused: a sentence or two, or none where file and library do not settle it. Nothing
+here is a guess.
+
+The pairs that are due come from the proved marker (`standing`), what a crossing saves from the library.
+"""
+
+from typing import NamedTuple
+
+from revosti import LEAST_POINTS, MOST_POINTS, Refusal, crossing_saving
+
+from .edges import RULES, degree, edge, ends
+from .nest import holds_split, nest
+from .parts import CROSSING, LINE, MAX_COORDINATE, MAX_FILE, MAX_RECORDS, RECORD, Beside, join
+from .standing import edges_of, standing
+from .words import counted
+
+MOST_DUE = 12  # pairs that a sentence names
+
+
+class Detail(NamedTuple):
+    """A sentence about a fault, or None, and the pairs that are due, where they are known."""
+
+    words: str | None = None
+    due: list | None = None
+
+
+def detail(parts, verdict):
+    """What is known about a refusal."""
+    if verdict.record == 0:
+        return Detail(file_words(parts, verdict.refusal))
+    if not 1 <= verdict.record <= len(parts.records):
+        return Detail()
+    sight = Sight(parts.records, verdict.lengths, verdict.closed(), verdict.record)
+    if verdict.refusal == 14:
+        return due_pairs(sight)
+    find = {8: above_count, 9: not_rising, 10: wrong_shape, 11: wrong_points, 12: struck_before, 13: open_splits,
+            15: broken_conditions, 16: best_saving}.get(verdict.refusal)
+    return Detail(find(sight) if find else None)
+
+
+def file_words(parts, refusal):
+    """A sentence about a fault outside the records, or None."""
+    find = {1: wrong_count, 3: wrong_rule, 4: wrong_coordinate, 7: wrong_size}.get(refusal)
+    return find(parts) if find else None
+
+
+def wrong_count(parts):
+    """Refusal 1."""
+    if parts.n is None or LEAST_POINTS <= parts.n <= MOST_POINTS:
+        return None
+    return f"Here n is {parts.n}."
+
+
+def wrong_rule(parts):
+    """Refusal 3."""
+    return f"Here the rule is {parts.rule}." if parts.rule not in (None, *RULES) else None
+
+
+def wrong_coordinate(parts):
+    """Refusal 4, the first such point. In a TSPLIB text it is told by its line elsewhere."""
+    for number, (x, y) in enumerate([] if isinstance(parts, Beside) else parts.points, 1):
+        if max(x, y) > MAX_COORDINATE:
+            return f"Point {number} is at {x} {y}."
+    return None
+
+
+def wrong_size(parts):
+    """Refusal 7."""
+    count, left = len(parts.records), len(parts.tail)
+    if not isinstance(parts, Beside):
+        size = len(join(parts))
+        if parts.rule is None:
+            return f"The file has {counted(size, 'byte')} and no whole header."
+        if parts.cut:
+            return f"The file ends after {len(parts.points)} of {counted(parts.n, 'point')} and {counted(left, 'byte')}."
+        if size > MAX_FILE:
+            return f"The file has {counted(size, 'byte')}."
+    if left:
+        return f"{counted(left, 'byte')} {'follows' if left == 1 else 'follow'} the last whole record; a record has {RECORD.size}."
+    if count == 0:
+        return "The file has no records."
+    return f"The sheet has {counted(count, 'record')}." if count > MAX_RECORDS else None
+
+
+class Sight:
+    """A record of a sheet among the others and with its place. The place is None if the nesting does not reach the
+    record."""
+
+    def __init__(self, records, lengths, marks, number):
+        self.records, self.lengths, self.marks, self.number = records, lengths, marks, number
+        self.n, self.record = lengths.n, records[number - 1]
+        self.places = nest(records)
+        self.place = self.places.get(number)
+
+    def get(self, number):
+        """The record with a number."""
+        return self.records[number - 1]
+
+    def owners(self, number):
+        """The records whose splits a record lies in, outermost first."""
+        found = []
+        while self.places[number].owner:
+            number = self.places[number].owner
+            found.insert(0, number)
+        return found
+
+    def siblings(self, number):
+        """The records before a record in its chain, first to last."""
+        found = []
+        while self.places[number].before:
+            number = self.places[number].before
+            found.insert(0, number)
+        return found
+
+    def chain(self, owner):
+        """The records of the chain of a split, first to last."""
+        return [number for number, place in self.places.items() if place.owner == owner]
+
+    def way(self, number):
+        """The records from the line to a record, or None if one of them is not in order."""
+        way = [self.get(k) for k in self.owners(number) + [number]]
+        shaped = all(self.places[k].shaped for k in self.owners(number) + [number])
+        return way if shaped and all(self.sound(r) for r in way) else None
+
+    def edges(self, number):
+        """K once a record's own edge or pair is in it, or None if the way to the record is not in order."""
+        way = self.way(number)
+        return edges_of(way) if way else None
+
+    def sound(self, record):
+        """Whether a record passes 01's test 11."""
+        fields = [record.a, record.b, record.c]
+        fields += [record.u, record.v, record.d] if record.kind == CROSSING else []
+        return record.a != record.b and all(1 <= p <= self.n for p in fields)
+
+    def standing(self, owner):
+        """The pairs that stand at the split of a record, or None."""
+        way = self.way(owner)
+        return standing(self.lengths, self.marks, way) if way else None
+
+
+def above_count(sight):
+    """Refusal 8: the index above the count, the first in the order followed."""
+    record, count = sight.record, len(sight.records)
+    has = f"the sheet has {counted(count, 'record')}."
+    if holds_split(record) and record.d > count:
+        return f"Its first index is {record.d}; {has}"
+    return f"Its next index is {record.next}; {has}" if record.next > count else None
+
+
+def not_rising(sight):
+    """Refusal 9: a first index up to its own record, or else the next index."""
+    record = sight.record
+    if holds_split(record) and 0 < record.d <= sight.number:
+        return f"Its first index is {record.d}."
+    return f"Its next index is {record.next}." if record.next else None
+
+
+def wrong_shape(sight):
+    """Refusal 10."""
+    place, record = sight.place, sight.record
+    if place is None:
+        return None
+    if not place.shaped:
+        wanted = "1" if place.depth == 0 else "2 or 3"
+        return f"Its kind is {record.kind}; its chain takes kind {wanted}."
+    if holds_split(record) and (record.u or record.v):
+        return f"Here u is {record.u} and v is {record.v}."
+    return None
+
+
+def wrong_points(sight):
+    """Refusal 11."""
+    record = sight.record
+    fields = [(name, getattr(record, name)) for name in ("abcuvd" if record.kind == CROSSING else "abc")]
+    return outside(fields, sight.n) or (f"Here a and b are both {record.a}." if record.a == record.b else None)
+
+
+def outside(fields, n):
+    """Which of some points, each with its name, the board has not; None where it has all."""
+    wrong = [f"{name} is {point}" for name, point in fields if not 1 <= point <= n]
+    return f"Here {' and '.join(wrong)}; n is {n}." if wrong else None
+
+
+def struck_before(sight):
+    """Refusal 12: the line that strikes the same edge, or the set that has it struck."""
+    wanted = edge(sight.record.a, sight.record.b)
+    if sight.place is None or sight.place.depth:
+        return None
+    for number in sight.siblings(sight.number):
+        line = sight.get(number)
+        if line.kind == LINE and edge(line.a, line.b) == wanted:
+            return f"Record {number} strikes it."
+    return "It was struck before this sheet."
+
+
+def open_splits(sight):
+    """Refusal 13: the splits that the case lies in."""
+    if sight.place is None:
+        return None
+    return f"It lies in the splits of records {', '.join(map(str, sight.owners(sight.number)))}."
+
+
+def due_pairs(sight):
+    """Refusal 14: the pairs that are due, if they can be told."""
+    if sight.place is None or not sight.place.shaped:
+        return Detail()
+    record, rest = sight.record, []
+    if sight.place.owner:
+        stand = sight.standing(sight.place.owner)
+        named = [sight.get(k)[1:3] for k in sight.siblings(sight.number)]
+        if stand is None or named != stand[:len(named)]:
+            return Detail()
+        rest = stand[len(named):]
+        if not rest:
+            return Detail("No pair is due any more: the chain has named all standing pairs.", [])
+        if rest[0] != (record.a, record.b):
+            return Detail(due(rest), rest)
+    return missing_pairs(sight, rest[1:])
+
+
+def missing_pairs(sight, rest):
+    """The pairs due after a record whose own pair is right: those of its empty chain, or the rest of the chain that it
+    ends."""
+    record = sight.record
+    if holds_split(record) and record.d == 0:
+        inner = sight.standing(sight.number)
+        if inner is None:
+            return Detail()
+        if inner:
+            return Detail(due(inner) + " Its split has no cases.", inner)
+    if record.next == 0 and rest:
+        return Detail(due(rest) + " The chain ends before it.", rest)
+    return Detail()
+
+
+def due(pairs):
+    """The pairs that are due, the first few of them by name."""
+    names = [f"{a}-{b}" for a, b in pairs]
+    first = f"The pair {names[0]} is due"
+    if len(names) == 1:
+        return f"{first}."
+    shown = ", ".join(names[1:MOST_DUE]) + (" and so on" if len(names) > MOST_DUE else "")
+    return f"{first}, and {len(names) - 1:,} more after it: {shown}."
+
+
+def broken_conditions(sight):
+    """Refusal 15: the conditions that are broken."""
+    k = crossed(sight)
+    wrong = broken(sight.record, k) if k else []
+    return f"Here {'; '.join(wrong)}." if wrong else None
+
+
+def best_saving(sight):
+    """Refusal 16: what the best labelling saves, over one table."""
+    saving = saving_of(sight)
+    return None if saving is None or saving > 0 else f"Its best labelling saves {saving}."
+
+
+def saving_of(sight):
+    """What a crossing saves, or None: it breaks a condition, or there are two tables, over which no saving is told."""
+    k = crossed(sight)
+    if not k or broken(sight.record, k) or sight.lengths.high is not None:
+        return None
+    _, _, _, u, v, c, d, _ = sight.record
+    try:
+        return crossing_saving(sight.n, sight.lengths.table, u, v, c, d, *ends(k, c), *ends(k, d))
+    except Refusal:
+        return None
+
+
+def crossed(sight):
+    """K at a crossing, its own pair in it, or None."""
+    if sight.place is None or sight.record.kind != CROSSING or not sight.place.shaped:
+        return None
+    return sight.edges(sight.number)
+
+
+def broken(record, k):
+    """The conditions of a crossing that are broken."""
+    _, _, _, u, v, c, d, _ = record
+    tests = [
+        (edge(u, v) not in k, f"{u}-{v} is not in K"),
+        (c == d, "the centres are the same point"),
+        (c in (u, v), f"centre {c} is an end of {u}-{v}"),
+        (d in (u, v), f"centre {d} is an end of {u}-{v}"),
+        (degree(k, c) != 2, f"centre {c} has {counted(degree(k, c), 'edge')} in K"),
+        (degree(k, d) != 2, f"centre {d} has {counted(degree(k, d), 'edge')} in K"),
+        (edge(c, d) in k, f"{c}-{d} is in K"),
+    ]
+    return list(dict.fromkeys(text for wrong, text in tests if wrong))

@@ -1,0 +1,301 @@
+"""Text to the pieces of a sheet (pack)."""
+
+from typing import NamedTuple
+
+from .edges import RULES
+from .parts import CROSSING, LINE, MAX_16, MAX_32, POINT, SPLIT, Beside, Parts, Record
+from .scan import scan
+
+NUMBERS = {name: rule for rule, name in RULES.items()}  # of the rules, by name
+
+
+class Sheet(NamedTuple):
+    """The pieces that a text gives, and the line of text of each record."""
+
+    parts: Parts | Beside
+    lines: list
+
+
+def pack(text):
+    """The sheet that a text describes. Raises BadText."""
+    lines = scan(text)
+    if lines[0].peek() == "bytes":
+        tail = read_bytes(lines)
+        close(lines, '"bytes" or the end of the text')
+        return Sheet(Parts(None, None, [], [], tail), [])
+    rule = read_rule(lines)
+    n, cut = read_count(lines)
+    if cut:
+        return Sheet(read_cut(lines, rule, n), [])
+    return read_rest(lines, Parts(rule, n, [read_point(lines, i, n) for i in range(1, n + 1)], [], b""))
+
+
+def pack_beside(board, text):
+    """The sheet of a board and of a text that has no board. Raises BadText."""
+    lines = scan(text)
+    if lines[0].peek() in ("rule", "points"):
+        lines[0].fail(f'expected "strike", found {lines[0].found()}; the board is that of --board')
+    return read_rest(lines, board)
+
+
+def read_rest(lines, board):
+    """The sheet of a board, which is pieces without records, and the records behind it."""
+    chains = read_records(lines)
+    tail = read_bytes(lines)
+    close(lines, "the end of the text" if tail else after_records(chains))
+    return Sheet(board._replace(records=chains.finished(), tail=tail), chains.lines)
+
+
+def after_records(chains):
+    """What may stand after the records read so far."""
+    return '"strike", "pair", "record", "unused" or "bytes"' if chains.lines else '"strike"'
+
+
+def close(lines, wanted):
+    """The text ends here."""
+    if not lines[0].end_of_text:
+        lines[0].missed(wanted)
+
+
+def read_rule(lines):
+    """The line `rule R`, by number or by name. A text of bytes alone is read
+    before it comes to this."""
+    line = lines[0]
+    line.word("rule", "bytes")
+    named = line.peek() in NUMBERS
+    rule = NUMBERS[line.word(*NUMBERS)] if named else line.integer("a rule", MAX_32)
+    line.end()
+    lines.popleft()
+    return rule
+
+
+def read_count(lines):
+    """The line `points N` or `points N, cut`."""
+    line = lines[0]
+    line.word("points")
+    n = line.integer("the number of points", MAX_32)
+    cut = line.take(",", "cut")
+    if line.peek():
+        line.missed('", cut" or the end of the line')
+    lines.popleft()
+    return n, cut
+
+
+def read_point(lines, i, n):
+    """The line of point i: its number and two coordinates."""
+    line = lines[0]
+    if not line.starts_number():
+        line.missed(f"point {i} of {n}")
+    number = line.integer("a point number", MAX_32)
+    if number != i:
+        line.at = 0
+        line.missed(f"point {i} of {n}")
+    x = line.integer("a first coordinate", MAX_32)
+    y = line.integer("a second coordinate", MAX_32)
+    line.end()
+    lines.popleft()
+    return x, y
+
+
+def read_cut(lines, rule, n):
+    """The points and bytes of a file that ends inside the coordinates."""
+    points = []
+    while lines[0].starts_number():
+        points.append(read_point(lines, len(points) + 1, n))
+    last = lines[0]
+    tail = read_bytes(lines)
+    close(lines, '"bytes" or the end of the text' if tail else 'a point, "bytes" or the end of the text')
+    if len(points) * POINT.size + len(tail) >= n * POINT.size:
+        last.at = 0
+        last.fail(f'expected fewer than {n} whole points after "cut"')
+    whole = len(tail) // POINT.size * POINT.size
+    points += POINT.iter_unpack(tail[:whole])
+    return Parts(rule, n, points, [], tail[whole:])
+
+
+def read_bytes(lines):
+    """The bytes of all `bytes` lines here."""
+    data = bytearray()
+    while lines[0].peek() == "bytes":
+        line = lines.popleft()
+        line.word("bytes")
+        while line.peek():
+            data.append(line.byte())
+    return bytes(data)
+
+
+def read_records(lines):
+    """All record lines here."""
+    chains = Chains()
+    readers = {"strike": read_strike, "pair": read_pair,
+               "record": read_raw, "unused": read_unused}
+    while lines[0].peek() in readers:
+        line = lines.popleft()
+        reader = readers[line.peek()]
+        reader(line, chains)
+        line.end()
+    return chains
+
+
+def read_strike(line, chains):
+    """`strike A-B, split at C` and options."""
+    chains.place(line, is_line=True)
+    line.word("strike")
+    a, b = read_edge(line)
+    line.word(",")
+    chains.add_split(line, LINE, a, b)
+
+
+def read_pair(line, chains):
+    """`pair A-B: split at C` or `pair A-B: crossing P-Q, centres R S`."""
+    chains.place(line, is_line=False)
+    line.word("pair")
+    a, b = read_edge(line)
+    line.word(":")
+    if line.peek() == "split":
+        chains.add_split(line, SPLIT, a, b)
+        return
+    if line.peek() != "crossing":
+        line.missed('"split" or "crossing"')
+    line.word("crossing")
+    u, v = read_edge(line)
+    line.word(",")
+    line.word("centres")
+    c, d = read_point_number(line), read_point_number(line)
+    chains.add(line, [CROSSING, a, b, u, v, c, d, 0], read_options(line, ("next",)))
+
+
+def read_raw(line, chains):
+    """`record` and eight numbers: a member of its chain of any kind."""
+    chains.place(line, is_line=None)
+    line.word("record")
+    numbers = read_eight(line)
+    chains.add(line, numbers, {"first": numbers[6], "next": numbers[7]})
+
+
+def read_unused(line, chains):
+    """`unused` and eight numbers: a record that no chain reaches."""
+    if not chains.lines:
+        line.fail('expected "strike" or "record": record 1 is the first line, never unused')
+    line.word("unused")
+    chains.append(line, read_eight(line), {}, holds=False)
+
+
+def read_eight(line):
+    """The eight numbers of a record."""
+    return [line.integer(f"number {i} of 8", MAX_16) for i in range(1, 9)]
+
+
+def read_point_number(line):
+    """A point."""
+    return line.integer("a point", MAX_16)
+
+
+def read_edge(line):
+    """Two points with a hyphen between."""
+    a = read_point_number(line)
+    line.word("-")
+    return a, read_point_number(line)
+
+
+def read_options(line, words):
+    """Options such as `, next 7`, each at most once, in the order of `words`."""
+    options = {}
+    while line.peek() and words:
+        if not line.take(","):
+            line.missed("a comma or the end of the line")
+        word = line.word(*words)
+        options[word] = line.integer(f'a number after "{word}"', MAX_16)
+        words = words[words.index(word) + 1:]
+    return options
+
+
+class Level:
+    """An open chain: its indentation, the number of the record that holds it
+    (0 for the chain of lines) and of the last record in it (0 for none)."""
+
+    def __init__(self, indent, owner):
+        self.indent, self.owner, self.last = indent, owner, 0
+
+
+class Chains:
+    """The records so far, and the chains that a next line can continue."""
+
+    def __init__(self):
+        self.records = []   # lists of eight numbers, by number from 1
+        self.given = []     # for each, the options that the text gives
+        self.holds = []     # for each, whether cases can be indented under it
+        self.lines = []     # for each, its line of text
+        self.levels = []
+
+    def append(self, line, numbers, given, holds):
+        """A record with the next number."""
+        self.records.append(numbers)
+        self.given.append(given)
+        self.holds.append(holds)
+        self.lines.append(line.number)
+
+    def place(self, line, is_line):
+        """Find the chain that a line continues, by its indentation, and hold
+        its kind against that chain; None fits any."""
+        line.only_blanks()
+        if not self.levels:
+            self.levels.append(Level(line.indent, 0))
+        if line.indent > self.levels[-1].indent:
+            self.open(line)
+        self.close(line)
+        inside = self.levels[-1].owner > 0
+        if is_line is True and inside:
+            line.fail(f'expected "pair" inside a split, found "strike"; '
+                      f"a strike has the indentation of the first, {self.levels[0].indent}")
+        if is_line is False and not inside:
+            line.fail('expected "strike", found "pair"; a pair is indented under its split')
+
+    def close(self, line):
+        """Leave the chains that a line is too far left for."""
+        known = [str(level.indent) for level in self.levels]
+        while len(self.levels) > 1 and line.indent < self.levels[-1].indent:
+            self.levels.pop()
+        if line.indent != self.levels[-1].indent:
+            line.fail(f"expected an indentation of {' or '.join(known)} blanks, "
+                      f"as above, found {line.indent}")
+
+    def open(self, line):
+        """Open the chain of cases of the record just read."""
+        owner = self.levels[-1].last
+        if not self.holds[owner - 1]:
+            line.fail("expected no further indentation: the record above it holds no split")
+        self.levels.append(Level(line.indent, owner))
+
+    def add_split(self, line, kind, a, b):
+        """A record that holds a split: `split at C` and options."""
+        line.word("split")
+        line.word("at")
+        c = read_point_number(line)
+        options = read_options(line, ("u", "v", "first", "next"))
+        self.add(line, [kind, a, b, options.get("u", 0), options.get("v", 0), c, 0, 0], options, holds=True)
+
+    def add(self, line, numbers, options, holds=False):
+        """A member of the chain that `place` has found."""
+        for word, field in (("first", 6), ("next", 7)):
+            numbers[field] = options.get(word, numbers[field])
+        self.append(line, numbers, options, holds)
+        level, number = self.levels[-1], len(self.records)
+        if level.last:
+            self.link(line, level.last, "next", 7, number)
+        elif level.owner:
+            self.link(line, level.owner, "first", 6, number)
+        level.last = number
+
+    def link(self, line, source, word, field, number):
+        """Let an index that the text does not give lead to this record."""
+        if word in self.given[source - 1]:
+            return
+        if number > MAX_16:
+            line.at = 0
+            line.fail(f"expected at most {MAX_16} records, this is record {number}")
+        self.records[source - 1][field] = number
+
+    def finished(self):
+        """The records."""
+        return [Record(*numbers) for numbers in self.records]
