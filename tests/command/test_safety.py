@@ -149,21 +149,26 @@ class Killed(Sets):
             self.assertIn(self.file.read_bytes(), (ASKED, FRESH))
 
     def test_any_moment(self):
-        r, seen = random.Random(1), set()
+        r, seen, (begun, begin) = random.Random(1), set(), os.pipe()
 
         def settle():
+            Run("withdraw", "--marks", self.file)
+            os.write(begin, b".")
             while True:
                 Run(*self.ask)
                 Run("withdraw", "--marks", self.file)
         for _ in range(ROUNDS):
             child = forked(settle)
-            time.sleep(r.uniform(0.004, 0.02))
+            os.read(begun, 1)
+            time.sleep(r.uniform(0, 0.012))
             os.kill(child, signal.SIGKILL)
-            status_of(child)
+            self.assertEqual(status_of(child), -signal.SIGKILL)
             seen.add(self.file.read_bytes())
             self.assertLessEqual(seen, {bytes(FRESH), bytes(ASKED)})
         self.assertEqual(seen, {bytes(FRESH), bytes(ASKED)})
         self.assertIn(Run("withdraw", "--marks", self.file).status, (0, 1))
+        os.close(begun)
+        os.close(begin)
 
 
 class AtOnce(Folder):
