@@ -206,6 +206,17 @@ class AtOnce(Folder):
             self.assertEqual([status_of(child) for child in children], [0] * 10)
             self.assertEqual(self.struck(), sorted((a, b) for _, a, b, *_ in self.lines))
 
+    def test_ten_new_sets_of_one_name(self):
+        boards = [self.put(f"{i}.board", binary([], [(x + i * y, y) for x, y in self.points])) for i in range(10)]
+        for _ in range(ROUNDS // 5):
+            children = [forked(lambda board=board: Run("fresh", board, "--marks", self.file).status) for board in boards]
+            statuses = [status_of(child) for child in children]
+            self.assertEqual(sorted(statuses), [0] + [2] * 9)
+            for board, status in zip(boards, statuses):
+                run = Run("edges", board, "--marks", self.file)
+                self.assertEqual((run.status, run.notes), (status, []))
+            self.file.unlink()  # its fingerprint stays, and is of another board next time
+
     def test_waiting_is_told(self):
         self.fresh()
         with open(self.file, "rb") as held:
