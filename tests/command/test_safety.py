@@ -16,6 +16,7 @@ from support import EXAMPLES, PROGRAM, Folder, Run, binary, start
 
 import revosti
 from packing import packed
+from revosti_command.archive import forget
 
 ROUNDS = 100
 SHEET = EXAMPLES / "square.txt"
@@ -144,9 +145,9 @@ class Killed(Sets):
             Run("fresh", SQUARE, "--marks", self.file, "--force")
             Run(*self.ask)
             self.killed_at(f"revosti_command.files.{step}", ("fresh", wide, "--marks", self.file, "--force"))
-            run = Run("pages", wide, "--marks", self.file)
-            self.assertTrue(run.status == 2 or run.notes, step)
             self.assertIn(self.file.read_bytes(), (ASKED, FRESH))
+            run = Run("pages", wide if self.file.read_bytes() == ASKED else SQUARE, "--marks", self.file)
+            self.assertTrue(run.status == 2 or run.notes, step)
 
     def test_any_moment(self):
         r, seen, (begun, begin) = random.Random(1), set(), os.pipe()
@@ -216,6 +217,28 @@ class AtOnce(Folder):
                 run = Run("edges", board, "--marks", self.file)
                 self.assertEqual((run.status, run.notes), (status, []))
             self.file.unlink()  # its fingerprint stays, and is of another board next time
+
+    def test_the_one_that_is_made_keeps_its_fingerprint(self):
+        boards = [self.put(f"{i}.board", binary([], [(x + i * y, y) for x, y in self.points])) for i in range(2)]
+        begun, begin = os.pipe()
+
+        def late(file):
+            os.write(begin, b".")
+            time.sleep(0.5)
+            forget(file)
+
+        def slow():
+            with mock.patch("revosti_command.archive.forget", side_effect=late):
+                return Run("fresh", boards[0], "--marks", self.file).status
+        first = forked(slow)
+        os.read(begun, 1)
+        statuses = [status_of(forked(lambda: Run("fresh", boards[1], "--marks", self.file).status)), status_of(first)][::-1]
+        self.assertEqual(sorted(statuses), [0, 2])
+        for board, status in zip(boards, statuses):
+            run = Run("edges", board, "--marks", self.file)
+            self.assertEqual((run.status, run.notes), (status, []))
+        os.close(begun)
+        os.close(begin)
 
     def test_waiting_is_told(self):
         self.fresh()
