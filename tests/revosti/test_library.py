@@ -89,6 +89,8 @@ class Find(unittest.TestCase):
 
     def test_the_build_ends_with_who_asked_for_it(self):
         self.put(self.ENDLESS)
+        before = signal.signal(signal.SIGINT, signal.default_int_handler)  # the tests may have been told to ignore it
+        self.addCleanup(signal.signal, signal.SIGINT, before)
         script = self.root / library.BUILD
         for number in (signal.SIGINT, signal.SIGTERM, signal.SIGKILL):
             with self.subTest(number):
