@@ -98,8 +98,12 @@ class Find(unittest.TestCase):
                     Path(f"{script}.{name}").unlink(missing_ok=True)
                 with subprocess.Popen([sys.executable, "-B", "-c", self.ASKS, self.root], stderr=subprocess.DEVNULL,
                                       env={**os.environ, "PYTHONPATH": str(ROOT / "tools")}) as started:
-                    self.wait_for(Path(f"{script}.began"))
-                    started.send_signal(number)
+                    try:
+                        self.wait_for(Path(f"{script}.began"))
+                        started.send_signal(number)
+                        started.wait(20)
+                    finally:
+                        started.kill()
                 self.wait_for(Path(f"{script}.ended"))
                 self.assertIn(started.returncode, (-number, 1))
 
