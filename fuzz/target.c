@@ -692,7 +692,7 @@ static void try_hand_in(struct folder f, const uint8_t *marks, size_t len, uint3
     uint64_t answer = revosti_hand_in(desks, len, desk, f.n, f.table, f.table_len, marks, packed(f.edges), f.sheet, f.sheet_len);
     promise(answer == number, "22, 28, 29 and the sheet's tests, or 0");
     if (answer) promise(memcmp(before, desks, len) == 0, "a refused handing-in changes nothing");
-    else promise(others_stay(before, desks, len, desk, 0) && memcmp(numbers_of(desks, desk), first, 6) == 0, "the first line waits, and others stay");
+    else promise(memcmp(numbers_of(desks, desk), first, 6) == 0 && others_stay(before, desks, len, desk, 0), "the first line waits alone");
     seen(22, (unsigned)answer, desk < 10 ? desk : 10);
 }
 
@@ -701,10 +701,10 @@ static void served(struct folder f, const uint8_t *before, const uint8_t *marked
                    unsigned desk, uint64_t answer)
 {
     unsigned refusal = revosti_refusal(answer), record = revosti_record(answer), lines = revosti_lines(answer);
-    unsigned index = get16(numbers_of(before, desk)), owner = get16(numbers_of(before, desk) + 2), old = get16(numbers_of(before, desk) + 4);
+    const uint8_t *was = numbers_of(before, desk), *now = numbers_of(desks, desk);
+    unsigned index = get16(was), owner = get16(was + 2), old = get16(was + 4);
     struct limits l = {f.n, f.table, f.table, f.table_len, f.table_len};
     uint64_t number = test_marking(l, marked, packed(f.edges), f.sheet_len);
-    const uint8_t *now = numbers_of(desks, desk);
     promise(answer >> 57 == 0 && (answer >> 40 & 0xff) == 0 && revosti_desk(answer) == desk, "the desk served, and no other bit");
     promise(get16(desks) == desk && others_stay(before, desks, len, desk, 1), "a turn changes its desk and the last served alone");
     promise(revosti_line_left(answer) == has_line(desks, desk), "a line is left where the state has one");
@@ -712,14 +712,14 @@ static void served(struct folder f, const uint8_t *before, const uint8_t *marked
         promise((answer & 0xffffff) == 0 && get16(now + 4) == lines, "no refusal while a line is left");
         promise(get16(now) > index && get16(now) * 16u <= f.sheet_len && get16(now + 2) == index, "the next line waits behind its own");
     } else promise(get16(now) == 0 && get16(now + 2) == 0 && get16(now + 4) == 0, "an ended sheet leaves nothing");
-    if (number || index * 16u > f.sheet_len)
-        promise(refusal == (number ? number : REVOSTI_INDEX_ABOVE) && record == (number ? 0 : owner) && lines == old, "1 to 7, or 8 by the owner");
-    else promise(refusal == 0 || (refusal >= REVOSTI_INDEX_ABOVE && refusal <= REVOSTI_NO_SAVING && record >= index), "0, or 8 to 16 at this line");
+    if (number) promise(refusal == number && record == 0 && lines == old, "1, 2, 5, 6, 20, 7 again, and the lines kept");
+    else if (index * 16u > f.sheet_len) promise(refusal == REVOSTI_INDEX_ABOVE && record == owner && lines == old, "8 by the owner");
+    else if (refusal) promise(refusal >= REVOSTI_INDEX_ABOVE && refusal <= REVOSTI_NO_SAVING && record >= index, "8 to 16 at this line");
     unsigned strikes = 0;
     for (size_t i = 0; i < 4 * packed(f.edges); i++) {
-        uint8_t mark = mark_of(marks, i), was = mark_of(marked, i);
-        promise(mark == was || (was == REVOSTI_OPEN && mark == REVOSTI_STRUCK), "marks only go from open to struck");
-        strikes += mark != was;
+        uint8_t mark = mark_of(marks, i), had = mark_of(marked, i);
+        promise(mark == had || (had == REVOSTI_OPEN && mark == REVOSTI_STRUCK), "marks only go from open to struck");
+        strikes += mark != had;
     }
     promise(strikes <= 1 && lines == old + strikes, "a line accepted is a mark changed");
 }
