@@ -1,7 +1,7 @@
 /*
  * The fuzzing target over the functions for C. An input is a file of the program `mark`: rule, n, coordinates, records. Its last
- * 16 bytes are read as the eight points of a saving, too, its last 8 as a slip, its last 4 as damage to a page, and all of it as a TSPLIB
- * text.
+ * 16 bytes are read as the eight points of a saving, too, its last 8 as a slip, its last 4 as damage to a page, its last 56 or fewer as the
+ * state of eight desks, and all of it as a TSPLIB text.
  *
  * Every buffer ends at a page that must not be touched, so a read or write past its end is a crash. The archive carries no
  * instrumentation; instead what a call answers (refusal, record, lines, strikes) is written into AFL's map, so that inputs with a new
@@ -29,7 +29,7 @@ static uint8_t *guarded(void)
 }
 
 static uint8_t *table_end, *marks_end, *sheet_end, *tour_end, *list_end, *measured_end, *asked_end, *settled_end, *other_list_end;
-static uint8_t *bytes_end, *packed_end, *view_end, *high_end, *text_end;
+static uint8_t *bytes_end, *packed_end, *view_end, *high_end, *text_end, *desks_end;
 
 static uint32_t get32(const uint8_t *at) { return at[0] | (uint32_t)at[1] << 8 | (uint32_t)at[2] << 16 | (uint32_t)at[3] << 24; }
 static uint64_t get64(const uint8_t *at) { return get32(at) | (uint64_t)get32(at + 4) << 32; }
@@ -649,6 +649,133 @@ static void try_page(uint32_t n, const uint8_t *table, size_t table_len, const u
     seen(21, revosti_refusal(answer), (unsigned)(damage % size % REVOSTI_LINE_BYTES));
 }
 
+/* What a desk is lent: one table, marks and a sheet. */
+struct folder {
+    uint32_t n;
+    const uint8_t *table, *sheet;
+    size_t table_len, edges, sheet_len;
+};
+
+static unsigned get16(const uint8_t *at) { return at[0] | (unsigned)at[1] << 8; }
+
+/* A desk's three numbers: its next index, the record that has it, its lines. */
+static const uint8_t *numbers_of(const uint8_t *desks, unsigned desk) { return desks + 6 * desk - 4; }
+static int has_line(const uint8_t *desks, unsigned desk) { return get16(numbers_of(desks, desk) + 4) < get16(numbers_of(desks, desk)); }
+
+/* The desk that the next turn serves, by the page: the first after the last served that has a line left, round and round; 0 for none. */
+static unsigned due_desk(const uint8_t *desks)
+{
+    for (unsigned i = 0; i < REVOSTI_DESKS; i++) {
+        unsigned desk = (get16(desks) + i) % REVOSTI_DESKS + 1;
+        if (has_line(desks, desk)) return desk;
+    }
+    return 0;
+}
+
+/* The two states are the same but for one desk's numbers, and for the last desk served where a turn has changed it. */
+static int others_stay(const uint8_t *before, const uint8_t *after, size_t len, unsigned desk, int turned)
+{
+    for (size_t i = turned ? 2 : 0; i < len; i++)
+        if (before[i] != after[i] && !(i + 4 >= 6 * desk && i < 6 * desk + 2)) return 0;
+    return 1;
+}
+
+/* Hands in at a desk, in a state of len bytes that stands in front of desks_end: 22, 28, 29, then the sheet's tests. */
+static void try_hand_in(struct folder f, const uint8_t *marks, size_t len, uint32_t desk)
+{
+    static const uint8_t first[6] = {1, 0, 0, 0, 0, 0};
+    uint8_t before[64], *desks = desks_end - len;
+    memcpy(before, desks, len);
+    struct limits l = {f.n, f.table, f.table, f.table_len, f.table_len};
+    uint64_t number = len < REVOSTI_DESKS_BYTES ? REVOSTI_BUFFER : desk < 1 || desk > REVOSTI_DESKS ? REVOSTI_NO_DESK
+                      : has_line(desks, desk) ? REVOSTI_DESK_BUSY : test_marking(l, marks, packed(f.edges), f.sheet_len);
+    uint64_t answer = revosti_hand_in(desks, len, desk, f.n, f.table, f.table_len, marks, packed(f.edges), f.sheet, f.sheet_len);
+    promise(answer == number, "22, 28, 29 and the sheet's tests, or 0");
+    if (answer) promise(memcmp(before, desks, len) == 0, "a refused handing-in changes nothing");
+    else promise(memcmp(numbers_of(desks, desk), first, 6) == 0 && others_stay(before, desks, len, desk, 0), "the first line waits alone");
+    seen(22, (unsigned)answer, desk < 10 ? desk : 10);
+}
+
+/* A turn that serves a desk: what it tells of it, what it leaves of the state, and at most one strike. */
+static void served(struct folder f, const uint8_t *before, const uint8_t *marked, const uint8_t *desks, const uint8_t *marks, size_t len,
+                   unsigned desk, uint64_t answer)
+{
+    unsigned refusal = revosti_refusal(answer), record = revosti_record(answer), lines = revosti_lines(answer);
+    const uint8_t *was = numbers_of(before, desk), *now = numbers_of(desks, desk);
+    unsigned index = get16(was), owner = get16(was + 2), old = get16(was + 4);
+    struct limits l = {f.n, f.table, f.table, f.table_len, f.table_len};
+    uint64_t number = test_marking(l, marked, packed(f.edges), f.sheet_len);
+    promise(answer >> 57 == 0 && (answer >> 40 & 0xff) == 0 && revosti_desk(answer) == desk, "the desk served, and no other bit");
+    promise(get16(desks) == desk && others_stay(before, desks, len, desk, 1), "a turn changes its desk and the last served alone");
+    promise(revosti_line_left(answer) == has_line(desks, desk), "a line is left where the state has one");
+    if (revosti_line_left(answer)) {
+        promise((answer & 0xffffff) == 0 && get16(now + 4) == lines, "no refusal while a line is left");
+        promise(get16(now) > index && get16(now) * 16u <= f.sheet_len && get16(now + 2) == index, "the next line waits behind its own");
+    } else promise(get16(now) == 0 && get16(now + 2) == 0 && get16(now + 4) == 0, "an ended sheet leaves nothing");
+    if (number) promise(refusal == number && record == 0 && lines == old, "1, 2, 5, 6, 20, 7 again, and the lines kept");
+    else if (index * 16u > f.sheet_len) promise(refusal == REVOSTI_INDEX_ABOVE && record == owner && lines == old, "8 by the owner");
+    else if (refusal) promise(refusal >= REVOSTI_INDEX_ABOVE && refusal <= REVOSTI_NO_SAVING && record >= index, "8 to 16 at this line");
+    unsigned strikes = 0;
+    for (size_t i = 0; i < 4 * packed(f.edges); i++) {
+        uint8_t mark = mark_of(marks, i), had = mark_of(marked, i);
+        promise(mark == had || (had == REVOSTI_OPEN && mark == REVOSTI_STRUCK), "marks only go from open to struck");
+        strikes += mark != had;
+    }
+    promise(strikes <= 1 && lines == old + strikes, "a line accepted is a mark changed");
+}
+
+/* One turn on the state in front of desks_end and the marks in front of settled_end. Answers it. */
+static uint64_t try_turn(struct folder f, size_t len)
+{
+    static uint8_t marked[MOST_EDGES];
+    uint8_t before[64], *desks = desks_end - len, *marks = settled_end - packed(f.edges);
+    memcpy(before, desks, len), memcpy(marked, marks, packed(f.edges));
+    unsigned desk = len < REVOSTI_DESKS_BYTES ? 0 : due_desk(desks);
+    uint64_t next = revosti_next_desk(desks, len);
+    promise(next == (len < REVOSTI_DESKS_BYTES ? REVOSTI_BUFFER : 65536 * (uint64_t)desk), "22, or the desk after the last served");
+    uint64_t answer = revosti_turn(desks, len, f.n, f.table, f.table_len, marks, packed(f.edges), f.sheet, f.sheet_len);
+    for (size_t i = REVOSTI_DESKS_BYTES; i < len; i++) promise(before[i] == desks[i], "bytes past the state stay");
+    if (desk) served(f, before, marked, desks, marks, len, desk, answer);
+    else {
+        promise(answer == (len < REVOSTI_DESKS_BYTES ? REVOSTI_BUFFER : 0), "22, or nothing left");
+        promise(memcmp(before, desks, len) == 0 && memcmp(marked, marks, packed(f.edges)) == 0, "and nothing changes");
+    }
+    seen(23, revosti_refusal(answer), desk + 16u * (unsigned)revosti_line_left(answer));
+    return answer;
+}
+
+/* Turns until no desk has a line left, or a hundred. */
+static void try_turns(struct folder f, size_t len)
+{
+    for (int turns = 0; turns < 100 && (try_turn(f, len) >> 48) != 0; turns++) {}
+}
+
+/*
+ * The last bytes of the input as a state: a sheet is handed in, a turn taken, the sheet handed in again and turns taken, all with one
+ * folder; then it is opened. A sheet that is handed in alone on open desks ends as it is marked.
+ */
+static void try_desks(struct folder f, const uint8_t *before, const uint8_t *marked, uint64_t answer, const uint8_t *file, size_t size)
+{
+    size_t len = size < 56 ? size : 44 + size % 13, set = packed(f.edges);
+    uint8_t *desks = desks_end - len, *marks = settled_end - set;
+    memcpy(desks, file + size - len, len), memcpy(marks, before, set);
+    uint32_t desk = len > 8 ? desks[len - 1] % 11 : get32(file);
+    try_hand_in(f, marks, len, desk);
+    try_turn(f, len);
+    try_hand_in(f, marks, len, desk);
+    try_turns(f, len);
+    uint64_t opened = revosti_open_desks(desks, len);
+    promise(opened == (len < REVOSTI_DESKS_BYTES ? REVOSTI_BUFFER : 0), "22, or open desks");
+    for (size_t i = 0; i < len; i++)
+        promise(desks[i] == 0 || opened || i >= REVOSTI_DESKS_BYTES, "open desks are all 0");
+    if (opened) return;
+    memcpy(marks, before, set);
+    uint64_t last = 0, told;
+    try_hand_in(f, marks, len, 1 + size % REVOSTI_DESKS);
+    while ((told = try_turn(f, len)) != 0) last = told;
+    if (last) promise((last & 0xffffffffff) == answer && memcmp(marks, marked, set) == 0, "by turns as marked alone");
+}
+
 static void run(const uint8_t *file, size_t size)
 {
     try_text(file, size);
@@ -704,6 +831,8 @@ static void run(const uint8_t *file, size_t size)
     try_list(n, table + (4 * edges - table_len), table_len, marks, edges, rule);
     if (size >= 16) try_savings(n, table + (4 * edges - table_len), table_len, file + size - 16);
     try_slip(answer, 6 + rule % 3);
+    struct folder folder = {n, table + (4 * edges - table_len), sheet, table_len, edges, sheet_len};
+    try_desks(folder, before, marks, answer, file, size);
     try_slip(get64(file + size - 8), size % 9);
     try_page(n, table + (4 * edges - table_len), table_len, marks, edges, 1 + (rule >> 16) % 4, get32(file + size - 4));
     if (n == points && n >= 2) try_tour(n, table, 4 * edges, marks, edges);
@@ -713,7 +842,7 @@ int main(void)
 {
     table_end = guarded(), marks_end = guarded(), sheet_end = guarded(), tour_end = guarded();
     list_end = guarded(), measured_end = guarded(), asked_end = guarded(), settled_end = guarded(), other_list_end = guarded();
-    bytes_end = guarded(), packed_end = guarded(), view_end = guarded(), high_end = guarded(), text_end = guarded();
+    bytes_end = guarded(), packed_end = guarded(), view_end = guarded(), high_end = guarded(), text_end = guarded(), desks_end = guarded();
     __AFL_INIT();
     unsigned char *file = __AFL_FUZZ_TESTCASE_BUF;
     while (__AFL_LOOP(10000)) run(file, (size_t)__AFL_FUZZ_TESTCASE_LEN);

@@ -1,5 +1,6 @@
 //! The answers for C over little-endian bytes (01, Layers and program; 02).
 
+use crate::desks::{Desks, Lent, Turn};
 use crate::marking::{self, Marked};
 use crate::refusal::Refusal;
 use crate::slip::{self, Slip, View};
@@ -171,6 +172,65 @@ pub fn read_page(n: u32, page: u32, text: &[u8], table: &mut [u8], marks: &mut [
             0
         }
     }
+}
+
+/// The bytes of the desks' state: numbers of 16 bits.
+pub const DESKS_BYTES: usize = 2 * Desks::NUMBERS;
+
+/// The first bytes, which hold the state, as desks; or 22.
+pub fn read_desks(bytes: &[u8]) -> Result<Desks, Refusal> {
+    let state = bytes.get(..DESKS_BYTES).ok_or(Refusal::Buffer)?;
+    Ok(Desks::of(numbers(state).try_into().unwrap()))
+}
+
+/// Writes the three numbers of a desk; the other bytes stay.
+pub fn write_desk(desks: &Desks, desk: usize, bytes: &mut [u8]) {
+    let places = bytes[2..].chunks_exact_mut(2).skip(3 * (desk - 1));
+    places.zip(desks.numbers(desk)).for_each(|(place, number)| place.copy_from_slice(&number.to_le_bytes()));
+}
+
+/// Writes what a turn has changed: the served desk's numbers, and the last desk served.
+pub fn write_turn(desks: &Desks, turn: Turn, bytes: &mut [u8]) {
+    bytes[..2].copy_from_slice(&(turn.desk as u16).to_le_bytes());
+    write_desk(desks, turn.desk, bytes);
+}
+
+/// *Open desks* for C: the refusal number or 0.
+pub fn open_desks(desks: &mut [u8]) -> u64 {
+    number(desks.get_mut(..DESKS_BYTES).ok_or(Refusal::Buffer).map(|state| {
+        state.fill(0);
+        0
+    }))
+}
+
+/// *Hand in* for C: the refusal number or 0.
+pub fn hand_in(desks: &mut [u8], desk: u32, n: u32, table: &[u8], marks: &[u8], sheet: &[u8]) -> u64 {
+    let (table, sheet) = (entries(table), numbers(sheet));
+    number(read_desks(desks).and_then(|mut read| {
+        let desk = read.hand_in(desk, Lent { n, table: &table, sheet: &sheet }, marks)?;
+        write_desk(&read, desk, desks);
+        Ok(0)
+    }))
+}
+
+/// *Next desk* for C: the refusal number, or 65,536 × the desk, 0 where no desk has a line left.
+pub fn next_desk(desks: &[u8]) -> u64 {
+    number(read_desks(desks).map(|read| 65_536 * read.next_desk().unwrap_or(0) as u64))
+}
+
+/// The answer of marking so far, plus 2⁴⁸ × the desk, plus 2⁵⁶ if it has a line left; "with nothing left, only zeros".
+pub fn turn_number(turn: Option<Turn>) -> u64 {
+    turn.map_or(0, |turn| marking_number(turn.marked) + ((turn.desk as u64) << 48) + (u64::from(turn.line_left) << 56))
+}
+
+/// *Turn* for C.
+pub fn turn(desks: &mut [u8], n: u32, table: &[u8], marks: &mut [u8], sheet: &[u8]) -> u64 {
+    let (table, sheet) = (entries(table), numbers(sheet));
+    number(read_desks(desks).map(|mut read| {
+        let turn = read.turn(Lent { n, table: &table, sheet: &sheet }, marks);
+        turn.iter().for_each(|&turn| write_turn(&read, turn, desks));
+        turn_number(turn)
+    }))
 }
 
 /// Bit 40 of a slip.

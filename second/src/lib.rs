@@ -5,6 +5,7 @@
 
 pub mod bytes;
 pub mod crossing;
+pub mod desks;
 pub mod edge_set;
 pub mod instance;
 pub mod intervals;

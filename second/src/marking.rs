@@ -20,21 +20,21 @@ pub struct Marked {
 
 /// Marks the sheet's accepted lines struck; a stopped sheet keeps its earlier strikes.
 pub fn mark_sheet(n: u32, table: &[u32], marks: &mut [u8], sheet: &[u16]) -> Marked {
-    hand_in(Instance::table_tests(n, table), (table, table), marks, sheet, STRUCK)
+    mark_or_ask(Instance::table_tests(n, table), (table, table), marks, sheet, STRUCK)
 }
 
 /// The same where each length is known to lie between a low and a high one.
 pub fn mark_between(n: u32, (low, high): (&[u32], &[u32]), marks: &mut [u8], sheet: &[u16]) -> Marked {
-    hand_in(Instance::limit_tests(n, low, high), (low, high), marks, sheet, STRUCK)
+    mark_or_ask(Instance::limit_tests(n, low, high), (low, high), marks, sheet, STRUCK)
 }
 
 /// Asks a sheet: "its strikes get mark 2, pending"; a stopped sheet keeps its earlier ones.
 pub fn ask_sheet(n: u32, table: &[u32], marks: &mut [u8], sheet: &[u16]) -> Marked {
-    hand_in(Instance::table_tests(n, table), (table, table), marks, sheet, PENDING)
+    mark_or_ask(Instance::table_tests(n, table), (table, table), marks, sheet, PENDING)
 }
 
 /// Each accepted line's edge gets the mark `strike`. `n` is what the tests before 6 answer of the two tables.
-fn hand_in(
+fn mark_or_ask(
     n: Result<u16, Refusal>,
     (low, high): (&[u32], &[u32]),
     marks: &mut [u8],
@@ -48,6 +48,17 @@ fn hand_in(
     Marked { fault, lines }
 }
 
+/// The tests of a sheet before any record, of direct marking over one table: 1, 2, 5, 6, 20, 7.
+pub fn sheet_tests<'a>(
+    n: u32,
+    table: &'a [u32],
+    marks: &[u8],
+    sheet: &'a [u16],
+) -> Result<(Intervals<'a>, Sheet<'a>), Refusal> {
+    let n = Instance::table_tests(n, table)?;
+    Ok((Intervals::exact(n, table), tests(n, marks, sheet)?))
+}
+
 /// 6, 20, 7.
 fn tests<'a>(n: u16, marks: &[u8], sheet: &'a [u16]) -> Result<Sheet<'a>, Refusal> {
     if some_pending(n, marks)? {
@@ -57,22 +68,21 @@ fn tests<'a>(n: u16, marks: &[u8], sheet: &'a [u16]) -> Result<Sheet<'a>, Refusa
 }
 
 fn mark_lines(lengths: &Intervals, marks: &mut [u8], sheet: Sheet, strike: u8, lines: &mut u32) -> Result<(), Fault> {
-    let mut walk = Walk { lengths, sheet, known: EdgeSet::empty(), highest: 1 };
+    let mut walk = Walk::at(lengths, sheet, 1);
     let mut index = 1;
     loop {
-        let line = walk.line(Marks::in_sheet(marks), index)?;
-        put_mark(marks, lengths.order.place(line.a, line.b), strike);
+        let next = walk.strike(marks, index, strike)?;
         *lines += 1;
-        if line.next == 0 {
+        if next == 0 {
             return Ok(());
         }
-        walk.follow(index, line.next)?;
-        index = line.next;
+        walk.follow(index, next)?;
+        index = next;
     }
 }
 
 /// The way through the records of one sheet.
-struct Walk<'a> {
+pub struct Walk<'a> {
     lengths: &'a Intervals<'a>,
     sheet: Sheet<'a>,
     known: EdgeSet,
@@ -80,9 +90,21 @@ struct Walk<'a> {
     highest: u16,
 }
 
-impl Walk<'_> {
+impl<'a> Walk<'a> {
+    /// At a record that is entered and lies above all entered before.
+    pub fn at(lengths: &'a Intervals<'a>, sheet: Sheet<'a>, highest: u16) -> Self {
+        Walk { lengths, sheet, known: EdgeSet::empty(), highest }
+    }
+
+    /// Judges the line at `index` and gives its edge the mark `strike`. Answers its next index.
+    pub fn strike(&mut self, marks: &mut [u8], index: u16, strike: u8) -> Result<u16, Fault> {
+        let line = self.line(Marks::in_sheet(marks), index)?;
+        put_mark(marks, self.lengths.order.place(line.a, line.b), strike);
+        Ok(line.next)
+    }
+
     /// Tests 8 and 9 on an index of record `holder`; the record at it is entered.
-    fn follow(&mut self, holder: u16, index: u16) -> Result<(), Fault> {
+    pub fn follow(&mut self, holder: u16, index: u16) -> Result<(), Fault> {
         demand(usize::from(index) <= self.sheet.count(), Refusal::IndexAboveCount, holder)?;
         demand(index > self.highest, Refusal::IndexNotRising, holder)?;
         self.highest = index;

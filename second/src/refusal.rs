@@ -29,6 +29,8 @@ pub enum Refusal {
     LowAboveHigh = 25,
     Page = 26,
     PageText = 27,
+    Desk = 28,
+    LineLeft = 29,
 }
 
 impl Refusal {

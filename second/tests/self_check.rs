@@ -1,6 +1,6 @@
 //! The second program against the naive one, and the comparison against mistakes on purpose.
 
-use second::kit::checker::Second;
+use second::kit::checker::{Checker, Second};
 use second::kit::compare::Comparison;
 use second::kit::coverage::Coverage;
 use second::kit::naive::{Naive, Slip};
@@ -290,6 +290,75 @@ fn pages_are_demanded() {
     }
 }
 
+/// Before the first case no desk has been served.
+#[test]
+fn desks_are_demanded() {
+    let missing = Coverage::default().missing();
+    assert!(Coverage::default().missing_desks().iter().all(|unmet| missing.contains(unmet)));
+    let demanded = |unmet: String| assert!(missing.contains(&unmet), "{unmet}");
+    for operation in ["open desks", "hand in", "next desk", "turn"] {
+        [0, 22].iter().for_each(|number| demanded(format!("{operation}: {number}")));
+    }
+    [28, 29, 1, 2, 5, 6, 20, 7].iter().for_each(|number| demanded(format!("hand in: {number}")));
+    [1, 2, 5, 6, 20, 7]
+        .iter()
+        .chain(&[8, 9, 10, 11, 12, 13, 14, 15, 16])
+        .for_each(|number| demanded(format!("turn: {number}")));
+    for desk in 1..=8 {
+        demanded(format!("a sheet handed in at desk {desk}"));
+        demanded(format!("a turn of desk {desk}"));
+    }
+    for unmet in [
+        "sheets of several lines that ended whole by turns, as marked alone",
+        "sheets that stopped at a later line, as marked alone",
+        "sheets that stopped by 8 at the next index of an accepted line, as marked alone",
+        "sheets that stopped by 9 at the next index of an accepted line, as marked alone",
+        "sheets marked by turns among turns and handings-in of other desks, as marked alone",
+        "tests that failed at a turn after accepted lines",
+        "sheets handed in over a line",
+        "sheets handed in after one that ended whole",
+        "sheets handed in after one that stopped",
+        "sheets handed in at desk 0",
+        "sheets handed in at desk 9",
+        "states a byte too short",
+        "states with bytes past them",
+        "22 before 28",
+        "22 before 29",
+        "desks served after seven turns of others",
+        "turns that went round behind desk 8",
+        "turns after a last desk above 8",
+        "lines accepted from a state of any bytes",
+        "strikes of turns held against all shortest tours",
+        "a turn after another n",
+        "a turn after a table of another size",
+        "a turn after a table entry above 2,000,000",
+        "a turn after a faulty set of marks",
+        "a turn after a pending mark",
+        "a turn after a sheet with a broken record",
+        "a turn after a sheet cut before the line that waits",
+    ] {
+        demanded(unmet.to_string());
+    }
+}
+
+/// Halls until the comparison finds a slip at desks, and what it finds, in the second program against the naive one or in both.
+fn found_at_desks(slip: Slip, both: bool) -> String {
+    let naive = Naive { slip: Some(slip) };
+    let one: &dyn Checker = if both { &naive } else { &Second };
+    let mut comparison = Comparison::new(one, &naive, &naive, 7);
+    let Err(difference) = comparison.run_halls(2_000) else { panic!("{slip:?} is not found") };
+    let what = difference.0.split(" differs").next().unwrap();
+    println!("{slip:?}: {what} after {} halls", comparison.coverage.desks.halls);
+    what.to_string()
+}
+
+#[test]
+fn slips_at_desks_are_found() {
+    for slip in Slip::DESKS {
+        found_at_desks(slip, false);
+    }
+}
+
 #[test]
 fn texts_alike_and_everything_met() {
     let naive = Naive::default();
@@ -333,11 +402,12 @@ fn found_in_both(slip: Slip) -> String {
     found(slip, false)
 }
 
-/// What the comparison finds where both make the slip, over two tables too or over one alone.
+/// What the comparison finds where both make the slip, over two tables too or over one alone; no hall, where queues tell it.
 fn found(slip: Slip, two_tables: bool) -> String {
     let naive = Naive { slip: Some(slip) };
     let mut comparison = Comparison::new(&naive, &naive, &naive, 7);
     comparison.two_tables = two_tables;
+    comparison.eight_desks = false;
     let Err(difference) = comparison.run(20_000) else { panic!("{slip:?} is not found") };
     let what = difference.0.split(" differs").next().unwrap();
     println!("{slip:?}: {what} after {} sheets", comparison.sheets);
@@ -478,4 +548,25 @@ fn slips_of_both_are_found_by_the_laws_of_pages() {
     assert_eq!(found_in_both(Slip::ShortPageWritten), "write a page, refused");
     assert_eq!(found_in_both(Slip::PastPageCleared), "write a page, bytes past it");
     assert_eq!(found_in_both(Slip::NextEdgeChanged), "read a page, its own edges");
+}
+
+/// Paper 14's laws, where both programs make the slip: what a turn tells and leaves, what handing in tests, what a change
+/// of a folder comes to; and the queues, which live through a hall.
+#[test]
+fn slips_of_both_are_found_by_the_laws_of_desks() {
+    for (slips, law) in [
+        (&[Slip::SameDeskAgain, Slip::RoundEndsAtEight, Slip::LastNotModulo][..], "next desk by the queues"),
+        (&[Slip::UnservedLineLeft], "next desk by the queues"),
+        (&[Slip::NextIndexToldLate], "turn by the queues"),
+        (&[Slip::TestsNotRepeated, Slip::OwnerForgotten], "turn after a change"),
+        (&[Slip::LinesLostAtTest, Slip::LinesOfTurn], "turn, its strike"),
+        (&[Slip::RefusedTurnKeepsLine, Slip::EndedKeepsLines], "turn, its line left"),
+        (&[Slip::RefusedTurnUnserved, Slip::OtherDeskCleared], "turn, other desks"),
+        (&[Slip::HandInServes, Slip::HandInOverLine, Slip::DeskByLowByte], "hand in by its tests"),
+        (&[Slip::TestsBeforeDesk, Slip::DeskBeforeBuffer], "hand in, too short"),
+        (&[Slip::PastDesksCleared], "open desks"),
+        (&[Slip::ShortDesksOpened], "open desks, too short"),
+    ] {
+        slips.iter().for_each(|&slip| assert_eq!(found_at_desks(slip, true), law, "{slip:?}"));
+    }
 }

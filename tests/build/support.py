@@ -14,6 +14,7 @@ from pathlib import Path
 ROOT = Path(__file__).resolve().parents[2]
 sys.dont_write_bytecode = True
 sys.path.insert(0, str(ROOT / "tools"))
+signal.signal(signal.SIGINT, signal.default_int_handler)  # what is started takes it, even where the tests ignore it
 
 REAL_RT = Path(shutil.which("rt") or "/opt/rattle/bin/rt")
 CRATES = """# upper rests on two crates that need nothing of each other

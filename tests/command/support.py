@@ -16,6 +16,10 @@ TOOLS = ROOT / "tools"
 sys.dont_write_bytecode = True
 sys.path[:0] = [str(TOOLS), str(HERE.parent)]
 
+from revosti.library import library  # noqa: E402
+
+library()  # built, where it has to be, before a test looks at what a command says
+
 PROGRAM = ROOT / "bin/revosti"
 EXAMPLES = ROOT / "examples"
 NINE = HERE / "nine.txt"  # a board of nine points; its sheet strikes 27 edges

@@ -53,7 +53,7 @@ class Command(Folder):
                           ("confirm", "x"), ("convert", "--marks", "x"), ("convert", "x"), ("convert", "x", "--to", "tsplib"), ("saving",),
                           ("saving", "x", "--marks", "x", "move", 3, 1, 4, 1, 2), ("slip", "--number"), ("tour", "x"), ("edges",),
                           ("pairs",), ("pairs", "x", 1, 2, 3, 4), ("ask", "--high", "x", "--marks", "x"), ("board", "--scale", 0),
-                          ("board", "--scale", "x"), ("draw", "--without", "holes"), ("cut", "x", "--marks", "x")):
+                          ("board", "--scale", "x"), ("confirm", "--mark", "x"), ("draw", "--without", "holes"), ("cut", "x", "--marks", "x")):
             run = Run(*arguments)
             self.assertEqual((run.status, run.out), (2, b""), arguments)
             self.assertIn("usage: revosti", run.err)

@@ -304,6 +304,19 @@ class Command(Folder):
         self.assertIn("The examiner sees 12 0 2 0 1 0: ", run.text)
         self.assertIn("The candidate sees 255 0 0 0 1 0: the sheet stopped, 1 line accepted.\n", run.text)
 
+    def test_asked_and_marked_alike(self):
+        """Within an asked sheet a pending edge counts as struck, for the pairs that are due, too."""
+        lines, due = NINE.read_text().splitlines(), []
+        for at in [at for at, line in enumerate(lines) if line.lstrip().startswith("pair")][::3]:
+            sheet, found = packed_text(without(lines, at)), []
+            for name in ("mark", "ask"):
+                marks = self.put("a.marks", packed([1] * 36))
+                found.append(json.loads(Run(name, "--marks", marks, "--json", data=sheet).text))
+                self.assertEqual(found[-1]["refusal"], 14)
+            self.assertEqual(found[0]["due"], found[1]["due"])
+            due += found[0]["due"]
+        self.assertGreater(len(due), 10)
+
     def test_over_weights_and_two_boards(self):
         low, high, sheet = (EXAMPLES / name for name in ("square_weights.tsp", "wide_weights.tsp", "square.txt"))
         for more in ((), ("--high", high)):

@@ -16,6 +16,7 @@ from support import EXAMPLES, PROGRAM, Folder, Run, binary, start
 
 import revosti
 from packing import packed
+from revosti_command.archive import forget
 
 ROUNDS = 100
 SHEET = EXAMPLES / "square.txt"
@@ -144,26 +145,31 @@ class Killed(Sets):
             Run("fresh", SQUARE, "--marks", self.file, "--force")
             Run(*self.ask)
             self.killed_at(f"revosti_command.files.{step}", ("fresh", wide, "--marks", self.file, "--force"))
-            run = Run("pages", wide, "--marks", self.file)
-            self.assertTrue(run.status == 2 or run.notes, step)
             self.assertIn(self.file.read_bytes(), (ASKED, FRESH))
+            run = Run("pages", wide if self.file.read_bytes() == ASKED else SQUARE, "--marks", self.file)
+            self.assertTrue(run.status == 2 or run.notes, step)
 
     def test_any_moment(self):
-        r, seen = random.Random(1), set()
+        r, seen, (begun, begin) = random.Random(1), set(), os.pipe()
 
         def settle():
+            Run("withdraw", "--marks", self.file)
+            os.write(begin, b".")
             while True:
                 Run(*self.ask)
                 Run("withdraw", "--marks", self.file)
         for _ in range(ROUNDS):
             child = forked(settle)
-            time.sleep(r.uniform(0.004, 0.02))
+            os.read(begun, 1)
+            time.sleep(r.uniform(0, 0.012))
             os.kill(child, signal.SIGKILL)
-            status_of(child)
+            self.assertEqual(status_of(child), -signal.SIGKILL)
             seen.add(self.file.read_bytes())
             self.assertLessEqual(seen, {bytes(FRESH), bytes(ASKED)})
         self.assertEqual(seen, {bytes(FRESH), bytes(ASKED)})
         self.assertIn(Run("withdraw", "--marks", self.file).status, (0, 1))
+        os.close(begun)
+        os.close(begin)
 
 
 class AtOnce(Folder):
@@ -200,6 +206,39 @@ class AtOnce(Folder):
             children = [forked(lambda sheet=sheet: Run("mark", sheet, "--marks", self.file).status) for sheet in self.sheets]
             self.assertEqual([status_of(child) for child in children], [0] * 10)
             self.assertEqual(self.struck(), sorted((a, b) for _, a, b, *_ in self.lines))
+
+    def test_ten_new_sets_of_one_name(self):
+        boards = [self.put(f"{i}.board", binary([], [(x + i * y, y) for x, y in self.points])) for i in range(10)]
+        for _ in range(ROUNDS // 5):
+            children = [forked(lambda board=board: Run("fresh", board, "--marks", self.file).status) for board in boards]
+            statuses = [status_of(child) for child in children]
+            self.assertEqual(sorted(statuses), [0] + [2] * 9)
+            for board, status in zip(boards, statuses):
+                run = Run("edges", board, "--marks", self.file)
+                self.assertEqual((run.status, run.notes), (status, []))
+            self.file.unlink()  # its fingerprint stays, and is of another board next time
+
+    def test_the_one_that_is_made_keeps_its_fingerprint(self):
+        boards = [self.put(f"{i}.board", binary([], [(x + i * y, y) for x, y in self.points])) for i in range(2)]
+        begun, begin = os.pipe()
+
+        def late(file):
+            os.write(begin, b".")
+            time.sleep(0.5)
+            forget(file)
+
+        def slow():
+            with mock.patch("revosti_command.archive.forget", side_effect=late):
+                return Run("fresh", boards[0], "--marks", self.file).status
+        first = forked(slow)
+        os.read(begun, 1)
+        statuses = [status_of(forked(lambda: Run("fresh", boards[1], "--marks", self.file).status)), status_of(first)][::-1]
+        self.assertEqual(sorted(statuses), [0, 2])
+        for board, status in zip(boards, statuses):
+            run = Run("edges", board, "--marks", self.file)
+            self.assertEqual((run.status, run.notes), (status, []))
+        os.close(begun)
+        os.close(begin)
 
     def test_waiting_is_told(self):
         self.fresh()

@@ -89,6 +89,8 @@ class Find(unittest.TestCase):
 
     def test_the_build_ends_with_who_asked_for_it(self):
         self.put(self.ENDLESS)
+        before = signal.signal(signal.SIGINT, signal.default_int_handler)  # the tests may have been told to ignore it
+        self.addCleanup(signal.signal, signal.SIGINT, before)
         script = self.root / library.BUILD
         for number in (signal.SIGINT, signal.SIGTERM, signal.SIGKILL):
             with self.subTest(number):
@@ -96,8 +98,12 @@ class Find(unittest.TestCase):
                     Path(f"{script}.{name}").unlink(missing_ok=True)
                 with subprocess.Popen([sys.executable, "-B", "-c", self.ASKS, self.root], stderr=subprocess.DEVNULL,
                                       env={**os.environ, "PYTHONPATH": str(ROOT / "tools")}) as started:
-                    self.wait_for(Path(f"{script}.began"))
-                    started.send_signal(number)
+                    try:
+                        self.wait_for(Path(f"{script}.began"))
+                        started.send_signal(number)
+                        started.wait(20)
+                    finally:
+                        started.kill()
                 self.wait_for(Path(f"{script}.ended"))
                 self.assertIn(started.returncode, (-number, 1))
 

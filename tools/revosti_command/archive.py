@@ -10,7 +10,7 @@ from pathlib import Path
 
 from revosti import fresh_marks, pack_marks, unpack_marks
 
-from .files import create, held, name_of, named, read_file, real, replace, sync_folder, written_beside
+from .files import create, folder_held, held, name_of, named, read_file, real, replace, sync_folder, written_beside
 from .fingerprint import beside, fingerprint, hold, text_of
 from .marks import BadMarks, byte_points, known, packed_points, read_marks
 from .words import Complaint
@@ -28,7 +28,7 @@ def keep(file, data, found, force=False):
     Both are written before either takes its place, and between the two steps the set is of unknown origin, never of a
     wrong one."""
     text = b"" if found is None else text_of(found)
-    with named(beside(file)), written_beside(beside(file), text) as ready:
+    with folder_held(beside(file).parent), named(beside(file)), written_beside(beside(file), text) as ready:
         if force and os.path.lexists(file):
             with held(file):
                 replace(file, data, lambda: forget(file))

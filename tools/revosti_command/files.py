@@ -177,6 +177,18 @@ def held(file):
             os.close(handle)
 
 
+@contextmanager
+def folder_held(folder):
+    """Locks a folder against all others that would make a set in it: of those that make one of the same name, one does."""
+    with named(folder):
+        handle = os.open(folder, os.O_RDONLY | os.O_DIRECTORY | os.O_CLOEXEC)
+        fcntl.flock(handle, fcntl.LOCK_EX)
+    try:
+        yield
+    finally:
+        os.close(handle)
+
+
 def lock(handle, file, waited):
     """Locks a file; whether it had to wait, now or before, which is said once."""
     try:

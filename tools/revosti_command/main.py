@@ -93,11 +93,12 @@ def parser(word=""):
     """The command with this name and its options, or all of them."""
     modules = commands_for(word)
     top = argparse.ArgumentParser(prog="revosti", description=filled(DESCRIPTION), epilog=overview(modules),
-                                  usage="revosti COMMAND ..\n\nrevosti COMMAND --help tells the options of a command, with an example.",
+                                  usage="revosti COMMAND ..\n\nrevosti --help lists the commands, revosti COMMAND --help tells the "
+                                        "options of one.",
                                   formatter_class=argparse.RawDescriptionHelpFormatter)
     commands = top.add_subparsers(required=True, prog="revosti", metavar="COMMAND", help=argparse.SUPPRESS)
     for module in modules:
-        command = commands.add_parser(module.NAME, description=filled(module.ABOUT), epilog=epilog(module),
+        command = commands.add_parser(module.NAME, description=filled(module.ABOUT), epilog=epilog(module), allow_abbrev=False,
                                       formatter_class=argparse.RawDescriptionHelpFormatter)
         module.add(command)
         command.set_defaults(run=module.run, changed=None)

@@ -1,9 +1,9 @@
 -- SERVED WITHIN EIGHT AND OTHERS UNTOUCHED (02, Paper 14), of the functions for C: "A desk with a line left is served
 -- within eight turns, whatever others hand in". Assumes nothing.
-use Prim.Native.Nat.{ℕ, zero, suc, _-_, _≤_, _<_}
+use Prim.Native.Nat.{ℕ, zero, suc, _+_, _≤_, _<_}
 use mathlib.Core.Path.{_≡_, refl, sym, _∙_, ap, subst}
 use mathlib.Core.Bool.{true, false, not, true≢false}
-use mathlib.Core.Logic.{inl}
+use mathlib.Core.Logic.{_⊎_, inl, inr}
 use mathlib.Core.List.{List, [], _∷_}
 use native.Mathlib.Decide.{decLe, ℕ-discrete}
 use native.Mathlib.Omega.{arith}
@@ -120,22 +120,22 @@ hand-in-others-untouched state d b = by (hands-in state d b)
 -- what others do
 
 -- the state has its bytes, and the desk d a line left
-pub record Waits (d : ℕ) (state : List ℕ) : Type 0 where
+pub record LineLeft (d : ℕ) (state : List ℕ) : Type 0 where
   pub room : stateBytes ≤ length state
   pub low : 1 ≤ d
   pub high : d ≤ deskCount
   pub left : hasLine state d ≡ true
 
 -- how far d lies ahead of the last served
-abbrev pub ahead : ℕ → List ℕ → ℕ
-ahead d state = distance (following (lastServed state)) d
+abbrev pub gap : ℕ → List ℕ → ℕ
+gap d state = distance (following (lastServed state)) d
 
-module _ {d : ℕ} {state : List ℕ} (w : Waits d state) where
+module _ {d : ℕ} {state : List ℕ} (w : LineLeft d state) where
   -- handing in, at whatever desk, keeps the line and the last served: at d itself it is refused
-  pub waits-handed : (e : ℕ) (b : Buffers) → Waits d (handedIn state e b) × (ahead d (handedIn state e b) ≡ ahead d state)
-  waits-handed e b = by (hands-in state e b)
+  pub left-handed : (e : ℕ) (b : Buffers) → LineLeft d (handedIn state e b) × (gap d (handedIn state e b) ≡ gap d state)
+  left-handed e b = by (hands-in state e b)
     where
-      by : {left : List ℕ} → HandsIn state e left → Waits d left × (ahead d left ≡ ahead d state)
+      by : {left : List ℕ} → HandsIn state e left → LineLeft d left × (gap d left ≡ gap d state)
       by refused = (w, refl)
       by (taken a free) =
           let other : d ≡ e → ⊥ = λ z. true≢false (sym (w .left) ∙ ap (hasLine state) z ∙ free) in (
@@ -149,35 +149,35 @@ module _ {d : ℕ} {state : List ℕ} (w : Waits d state) where
           )
 
   -- a turn of another desk keeps the line, and brings d nearer
-  pub waits-other : {e : ℕ} (b : Buffers) → nextDesk state ≡ next.Desk e → (e ≡ d → ⊥) →
-      Waits d (stateAfter (turning b) state) × (suc (ahead d (stateAfter (turning b) state)) ≡ distance e d)
-  waits-other {e} b g other =
+  pub left-other : {e : ℕ} (b : Buffers) → nextDesk state ≡ next.Desk e → (e ≡ d → ⊥) →
+      LineLeft d (stateAfter (turning b) state) × (suc (gap d (stateAfter (turning b) state)) ≡ distance e d)
+  left-other {e} b g other =
       let a = found-asked (w .room) g in
       let s = state-served state (w .room) b g in
-      let stays : Waits d (servedLeft (s .0) state e)
+      let stays : LineLeft d (servedLeft (s .0) state e)
       = record {
         room = omega (arith, served-length a (s .0), w .room);
         low = w .low;
         high = w .high;
         left = served-line a (s .0) (w .low) (λ z. other (sym z)) ∙ w .left;
       } in
-      let nearer : suc (ahead d (servedLeft (s .0) state e)) ≡ distance e d
+      let nearer : suc (gap d (servedLeft (s .0) state e)) ≡ distance e d
       = ap (λ (k : ℕ). suc (distance (following k) d)) (served-last a (s .0))
       ∙ distance-falls e d (a .low) (a .high) (w .low) (w .high) other in
-      subst (λ (x : List ℕ). Waits d x × (suc (ahead d x) ≡ distance e d)) (sym (s .1)) (stays, nearer)
+      subst (λ (x : List ℕ). LineLeft d x × (suc (gap d x) ≡ distance e d)) (sym (s .1)) (stays, nearer)
 
 -- SERVED: within as many turns as d lies ahead of the last served, and one
-served-ahead : {d : ℕ} (k : ℕ) {state : List ℕ} → Waits d state → ahead d state < k → (calls : List DeskCall) → k ≤ turnsIn calls →
+served-by-gap : {d : ℕ} (k : ℕ) {state : List ℕ} → LineLeft d state → gap d state < k → (calls : List DeskCall) → k ≤ turnsIn calls →
     ServedIn d k state calls
 unfolding turnsIn
-served-ahead k w h [] l = absurd (omega arith)
-served-ahead k w h (handing e b ∷ calls) l = let s = waits-handed w e b in meanwhile (served-ahead k (s .0) (omega (arith, s .1)) calls l)
-served-ahead zero w h (turning b ∷ calls) l = absurd (omega arith)
-served-ahead {d} (suc k) {state} w h (turning b ∷ calls) l =
+served-by-gap k w h [] l = absurd (omega arith)
+served-by-gap k w h (handing e b ∷ calls) l = let s = left-handed w e b in meanwhile (served-by-gap k (s .0) (omega (arith, s .1)) calls l)
+served-by-gap zero w h (turning b ∷ calls) l = absurd (omega arith)
+served-by-gap {d} (suc k) {state} w h (turning b ∷ calls) l =
     let n = next-ahead state d (w .low) (w .high) (w .left) in
     elim (ℕ-discrete (n .0) d) [
       | yes z ↦ at-once (n .1 ∙ ap next.Desk z)
-      | no z ↦ let s = waits-other w b (n .1) z in later (served-ahead k (s .0) (omega (arith, s .1, n .2)) calls (omega arith))
+      | no z ↦ let s = left-other w b (n .1) z in later (served-by-gap k (s .0) (omega (arith, s .1, n .2)) calls (omega arith))
     ]
 
 -- SERVED WITHIN EIGHT: from any state of any bytes in which the desk d has a line left, in any list of turns and
@@ -191,24 +191,33 @@ pub served-within-eight : (state : List ℕ) → stateBytes ≤ length state →
     (calls : List DeskCall) → 8 ≤ turnsIn calls
     → ServedIn d 8 state calls
 served-within-eight state room d low high h calls enough =
-    served-ahead 8 (record { room = room; low = low; high = high; left = h }) (omega arith) calls enough
+    served-by-gap 8 (record { room = room; low = low; high = high; left = h }) (omega arith) calls enough
 
--- from x on, e comes before d where it lies no further from d
-around : (x e d : ℕ) → 1 ≤ x → x ≤ deskCount → 1 ≤ e → e ≤ deskCount → 1 ≤ d → d ≤ deskCount → distance e d ≤ distance x d →
-    distance x e ≤ distance x d
-around x e d lx hx le he ld hd h =
-    elim (decLe x e) [
-      | yes p ↦ elim (decLe x d) [ yes q ↦ elim (decLe e d) [ yes r ↦ omega arith | no r ↦ omega arith ] | no q ↦ omega arith ]
-      | no p ↦ elim (decLe x d) [ yes q ↦ omega arith | no q ↦ elim (decLe e d) [ yes r ↦ omega arith | no r ↦ omega arith ] ]
-    ]
+-- how far d lies ahead of x: upward, or round again
+spread : (x d : ℕ) → 1 ≤ x → x ≤ deskCount → 1 ≤ d → d ≤ deskCount →
+    (distance x d < deskCount) × ((distance x d + x ≡ d) ⊎ (distance x d + x ≡ d + deskCount))
+spread x d lx hx ld hd = elim (decLe x d) [ yes h ↦ (omega arith, inl (omega arith)) | no h ↦ (omega arith, inr (omega arith)) ]
+
+-- from x on, e comes before d where it lies no further from d: a from e to d, b from x to d, c from x to e
+before : (x e d : ℕ) {a b c : ℕ} → 1 ≤ x → e ≤ deskCount →
+    (a < deskCount) × ((a + e ≡ d) ⊎ (a + e ≡ d + deskCount)) → (b < deskCount) × ((b + x ≡ d) ⊎ (b + x ≡ d + deskCount)) →
+    (c < deskCount) × ((c + x ≡ e) ⊎ (c + x ≡ e + deskCount)) → a ≤ b → c ≤ b
+before x e d low high (la, inl p) (lb, inl q) (lc, inl r) h = omega arith
+before x e d low high (la, inl p) (lb, inl q) (lc, inr r) h = omega arith
+before x e d low high (la, inl p) (lb, inr q) (lc, inl r) h = omega arith
+before x e d low high (la, inl p) (lb, inr q) (lc, inr r) h = omega arith
+before x e d low high (la, inr p) (lb, inl q) (lc, inl r) h = omega arith
+before x e d low high (la, inr p) (lb, inl q) (lc, inr r) h = omega arith
+before x e d low high (la, inr p) (lb, inr q) (lc, inl r) h = omega arith
+before x e d low high (la, inr p) (lb, inr q) (lc, inr r) h = omega arith
 
 -- THE ROUND ROBIN takes the nearest: the desk that a turn serves has a line left, and no desk with a line left lies
 -- nearer ahead of the last served
 pub next-nearest : (state : List ℕ) (e : ℕ) → nextDesk state ≡ next.Desk e →
-    Found state e × ((d : ℕ) → 1 ≤ d → d ≤ deskCount → hasLine state d ≡ true → ahead e state ≤ ahead d state)
+    Found state e × ((d : ℕ) → 1 ≤ d → d ≤ deskCount → hasLine state d ≡ true → gap e state ≤ gap d state)
 next-nearest state e g = (next-found state g, nearest)
   where
-    nearest : (d : ℕ) → 1 ≤ d → d ≤ deskCount → hasLine state d ≡ true → ahead e state ≤ ahead d state
+    nearest : (d : ℕ) → 1 ≤ d → d ≤ deskCount → hasLine state d ≡ true → gap e state ≤ gap d state
     nearest d low high h =
         let f = next-found state g in
         let a = following-desk (lastServed state) in
@@ -216,4 +225,6 @@ next-nearest state e g = (next-found state g, nearest)
         let q : next.Desk (n .0) ≡ next.Desk e = sym (n .1) ∙ g in
         let i : n .0 ≡ e = cc in
         let between : distance e d ≤ distance (following (lastServed state)) d = subst (λ (k : ℕ). distance k d ≤ distance (following (lastServed state)) d) i (n .2) in
-        around (following (lastServed state)) e d (a .0) (a .1) (f .low) (f .high) low high between
+        let x : ℕ = following (lastServed state) in
+        before x e d (a .0) (f .high) (spread e d (f .low) (f .high) low high) (spread x d (a .0) (a .1) low high)
+        (spread x e (a .0) (a .1) (f .low) (f .high)) between

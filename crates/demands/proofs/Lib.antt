@@ -22,6 +22,7 @@ pub mod Monotone
 pub mod OnPacked
 pub mod OpenEdges
 pub mod Optimal
+pub mod OwnTurns
 pub mod PackedRuns
 pub mod Pages
 pub mod Runs

@@ -28,6 +28,10 @@ fn hold(t: Tally, what: &[u8], got: u64, should: u64) -> Tally {
     t.judged(got == should)
 }
 
+fn wide(x: u8) -> u64 {
+    x as u64
+}
+
 fn next(t: Tally, desks: &[u8], should: u64) -> Tally {
     hold(t, b"next desk: ", revosti_next_desk(desks), should)
 }
@@ -85,7 +89,7 @@ fn opened(t: Tally) -> Tally {
     let t = turn(t, &mut few, 4, &mut marks, two_lines(), 32, 22);
     let mut desks = [7u8; 51];
     let t = hold(t, b"open: ", revosti_open_desks(&mut desks), 0);
-    let t = hold(t, b"byte 51: ", desks[50] as u64, 7);
+    let t = hold(t, b"byte 51: ", wide(desks[50]), 7);
     let t = next(t, &desks, 0);
     turn(t, &mut desks, 4, &mut marks, two_lines(), 32, 0)
 }

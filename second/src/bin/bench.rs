@@ -36,29 +36,49 @@ impl Times {
 }
 
 /// One timed call after one that is not; the buffers are set anew before each.
-fn sample(workload: &Workload, side: &dyn Checker) -> (u64, f64) {
-    black_box(workload.call.run(side, &mut workload.call.buffers()));
-    let mut buffers = workload.call.buffers();
+fn sample(call: &Call, side: &dyn Checker) -> (u64, f64) {
+    black_box(call.run(side, &mut call.buffers()));
+    let mut buffers = call.buffers();
     let start = Instant::now();
-    let answer = black_box(workload.call.run(side, &mut buffers));
+    let answer = black_box(call.run(side, &mut buffers));
     (answer, start.elapsed().as_secs_f64() * 1e6)
 }
 
-/// Runs the sides in turn and prints their times and the ratio.
-fn race(workload: &Workload, sides: &[Box<dyn Checker>], runs: usize) {
-    let mut samples = vec![Vec::with_capacity(runs); sides.len()];
+/// Runs the calls, which have one answer, on the sides in turn: the answer, and for each call the times of the sides.
+fn times(name: &str, calls: &[&Call], sides: &[Box<dyn Checker>], runs: usize) -> (u64, Vec<Vec<Times>>) {
+    let mut samples = vec![vec![Vec::with_capacity(runs); sides.len()]; calls.len()];
+    let mut answers = Vec::new();
     for _ in 0..runs {
-        let answers = sides.iter().zip(&mut samples).map(|(side, times)| {
-            let (answer, time) = sample(workload, &**side);
-            times.push(time);
-            answer
-        });
-        let answers: Vec<u64> = answers.collect();
-        assert!(answers.iter().all(|&answer| answer == answers[0]), "{}: {answers:?}", workload.name);
+        answers.clear();
+        for (call, samples) in calls.iter().zip(&mut samples) {
+            for (side, times) in sides.iter().zip(samples) {
+                let (answer, time) = sample(call, &**side);
+                times.push(time);
+                answers.push(answer);
+            }
+        }
+        assert!(answers.iter().all(|&answer| answer == answers[0]), "{name}: {answers:?}");
     }
-    let times: Vec<Times> = samples.into_iter().map(Times::of).collect();
+    (answers[0], samples.into_iter().map(|sides| sides.into_iter().map(Times::of).collect()).collect())
+}
+
+/// What a sheet by turns takes more than at once, a turn. A sheet with all lines accepted has as many turns as lines.
+fn print_turns(answer: u64, by_turns: &[Times], at_once: &[Times]) {
+    let turns = answer >> 24;
+    let medians: Vec<String> = at_once.iter().map(|time| format!("{:.1}", time.median)).collect();
+    let more = by_turns.iter().zip(at_once).map(|(turned, once)| (turned.median - once.median) / turns as f64);
+    let more: Vec<String> = more.map(|time| format!("{time:.1}")).collect();
+    print!("   at once {}; {turns} turns, {} more each", medians.join(" and "), more.join(" and "));
+}
+
+/// Prints the times of the sides and the ratio.
+fn race(workload: &Workload, sides: &[Box<dyn Checker>], runs: usize) {
+    let at_once = workload.call.at_once();
+    let calls: Vec<&Call> = [Some(&workload.call), at_once.as_ref()].into_iter().flatten().collect();
+    let (answer, all) = times(&workload.name, &calls, sides, runs);
+    let times = &all[0];
     print!("{:<20}", workload.name);
-    for time in &times {
+    for time in times {
         print!("{:>10.1} ({:.1} to {:.1})", time.median, time.low, time.high);
     }
     if let [second, revosti] = &times[..] {
@@ -72,6 +92,9 @@ fn race(workload: &Workload, sides: &[Box<dyn Checker>], runs: usize) {
     if let Call::Read { text, .. } = &workload.call {
         let speeds: Vec<String> = times.iter().map(|time| format!("{:.0}", text.len() as f64 / time.median)).collect();
         print!("   {} MB a second", speeds.join(" and "));
+    }
+    if let Some(at_once) = all.get(1) {
+        print_turns(answer, times, at_once);
     }
     println!("   {}", workload.note);
 }

@@ -1,7 +1,7 @@
 //! Compares Revosti (feature `revosti`), or the naive checker, with the second program.
 //!
-//! `compare [--sheets N | --texts N] [--seed S] [--case K] [--save FOLDER]`; `--texts` compares TSPLIB texts alone. The
-//! inputs of the program are kept in the folder.
+//! `compare [--sheets N | --texts N | --halls N] [--seed S] [--case K] [--save FOLDER]`; `--texts` compares TSPLIB texts
+//! alone, `--halls` halls of eight desks. The inputs of the program are kept in the folder.
 
 use std::path::PathBuf;
 use std::process::exit;
@@ -12,27 +12,35 @@ use second::kit::compare::Comparison;
 use second::kit::guarded::Guarded;
 use second::kit::naive::Naive;
 
+/// What is compared, and how much of it.
+#[derive(Clone, Copy)]
+enum Part {
+    Sheets(u64),
+    Texts(u64),
+    Halls(u64),
+}
+
 struct Options {
-    sheets: u64,
-    texts: Option<u64>,
+    part: Part,
     seed: u64,
     case: Option<u64>,
     save: Option<PathBuf>,
 }
 
 fn options() -> Options {
-    let mut options = Options { sheets: 20_000, texts: None, seed: 1, case: None, save: None };
+    let mut options = Options { part: Part::Sheets(20_000), seed: 1, case: None, save: None };
     let mut words = std::env::args().skip(1);
     while let Some(word) = words.next() {
         let value = words.next().unwrap_or_default();
         match (word.as_str(), value.parse()) {
-            ("--sheets", Ok(number)) => options.sheets = number,
-            ("--texts", Ok(number)) => options.texts = Some(number),
+            ("--sheets", Ok(number)) => options.part = Part::Sheets(number),
+            ("--texts", Ok(number)) => options.part = Part::Texts(number),
+            ("--halls", Ok(number)) => options.part = Part::Halls(number),
             ("--seed", Ok(number)) => options.seed = number,
             ("--case", Ok(number)) => options.case = Some(number),
             ("--save", _) if !value.is_empty() => options.save = Some(value.into()),
             _ => {
-                eprintln!("compare [--sheets N | --texts N] [--seed S] [--case K] [--save FOLDER]");
+                eprintln!("compare [--sheets N | --texts N | --halls N] [--seed S] [--case K] [--save FOLDER]");
                 exit(2);
             }
         }
@@ -57,25 +65,37 @@ fn main() {
     let naive = Naive::default();
     let mut comparison = Comparison::new(&Second, &other, &naive, options.seed);
     comparison.save = options.save;
-    let outcome = match (options.case, options.texts) {
-        (Some(case), None) => comparison.run_case(case),
-        (Some(case), Some(_)) => comparison.texts(case),
-        (None, None) => comparison.run(options.sheets),
-        (None, Some(texts)) => comparison.run_texts(texts),
+    let outcome = match (options.part, options.case) {
+        (Part::Sheets(sheets), None) => comparison.run(sheets),
+        (Part::Texts(texts), None) => comparison.run_texts(texts),
+        (Part::Halls(halls), None) => comparison.run_halls(halls),
+        (Part::Sheets(_), Some(case)) => comparison.run_case(case),
+        (Part::Texts(_), Some(case)) => comparison.texts(case),
+        (Part::Halls(_), Some(case)) => comparison.halls_of(case),
     };
     if let Err(difference) = outcome {
         println!("{}", difference.0);
         exit(1);
     }
-    let (sheets, texts) = (comparison.sheets, comparison.coverage.texts.texts);
-    println!("second and {}: {sheets} sheets and {texts} texts alike, seed {}", other.name(), options.seed);
-    match options.texts {
-        None => print!("{}", comparison.coverage),
-        Some(_) => println!("{}", comparison.coverage.texts),
-    }
+    let (sheets, coverage) = (comparison.sheets, &comparison.coverage);
+    let (texts, halls) = (coverage.texts.texts, coverage.desks.halls);
+    let seed = options.seed;
+    println!("second and {}: {sheets} sheets, {texts} texts and {halls} halls alike, seed {seed}", other.name());
+    let missing = match options.part {
+        Part::Sheets(_) => {
+            print!("{coverage}");
+            coverage.missing()
+        }
+        Part::Texts(_) => {
+            println!("{}", coverage.texts);
+            coverage.missing_texts()
+        }
+        Part::Halls(_) => {
+            print!("{}", coverage.desks);
+            coverage.missing_desks()
+        }
+    };
     println!("{:.1} s", start.elapsed().as_secs_f64());
-    let coverage = &comparison.coverage;
-    let missing = if options.texts.is_some() { coverage.missing_texts() } else { coverage.missing() };
     if options.case.is_none() && !missing.is_empty() {
         println!("not met: {}", missing.join(", "));
         exit(1);

@@ -47,6 +47,14 @@ pub trait Checker {
     fn write_page(&self, n: u32, table: &[u8], marks: &[u8], page: u32, text: &mut [u8]) -> u64;
     /// 27 + 256 × line, another refusal number, or 0.
     fn read_page(&self, n: u32, page: u32, text: &[u8], table: &mut [u8], marks: &mut [u8]) -> u64;
+    /// The refusal number or 0.
+    fn open_desks(&self, desks: &mut [u8]) -> u64;
+    /// The refusal number or 0.
+    fn hand_in(&self, desks: &mut [u8], desk: u32, n: u32, table: &[u8], marks: &[u8], sheet: &[u8]) -> u64;
+    /// The refusal number, or 65,536 × the desk.
+    fn next_desk(&self, desks: &[u8]) -> u64;
+    /// 22, 0, or the number of `mark_sheet` plus 2⁴⁸ × the desk, plus 2⁵⁶ if it has a line left.
+    fn turn(&self, desks: &mut [u8], n: u32, table: &[u8], marks: &mut [u8], sheet: &[u8]) -> u64;
     /// What `mark` prints for a file.
     fn program(&self, file: &[u8]) -> Vec<u8>;
     /// Whether every program text is compared, or a sample only because each starts a process.
@@ -149,6 +157,22 @@ impl Checker for Second {
 
     fn read_page(&self, n: u32, page: u32, text: &[u8], table: &mut [u8], marks: &mut [u8]) -> u64 {
         crate::bytes::read_page(n, page, text, table, marks)
+    }
+
+    fn open_desks(&self, desks: &mut [u8]) -> u64 {
+        crate::bytes::open_desks(desks)
+    }
+
+    fn hand_in(&self, desks: &mut [u8], desk: u32, n: u32, table: &[u8], marks: &[u8], sheet: &[u8]) -> u64 {
+        crate::bytes::hand_in(desks, desk, n, table, marks, sheet)
+    }
+
+    fn next_desk(&self, desks: &[u8]) -> u64 {
+        crate::bytes::next_desk(desks)
+    }
+
+    fn turn(&self, desks: &mut [u8], n: u32, table: &[u8], marks: &mut [u8], sheet: &[u8]) -> u64 {
+        crate::bytes::turn(desks, n, table, marks, sheet)
     }
 
     fn program(&self, file: &[u8]) -> Vec<u8> {

@@ -2,6 +2,7 @@
 
 use std::fmt;
 
+use super::desks_met::DesksMet;
 use super::limits_met::LimitsMet;
 use super::moves_met::MovesMet;
 use super::pages_met::PagesMet;
@@ -35,6 +36,10 @@ pub enum Operation {
     TsplibPoints,
     WritePage,
     ReadPage,
+    OpenDesks,
+    HandIn,
+    NextDesk,
+    Turn,
     Program,
 }
 
@@ -63,18 +68,22 @@ const DEMANDS: [(Operation, &str, &[usize]); Operation::COUNT] = [
     (TsplibPoints, "points of a text", &[0, 19]),
     (WritePage, "write a page", &[0, 1, 2, 5, 6, 26, 22]),
     (ReadPage, "read a page", &[0, 1, 2, 6, 26, 27]),
+    (OpenDesks, "open desks", &[0, 22]),
+    (HandIn, "hand in", &[0, 22, 28, 29, 1, 2, 5, 6, 20, 7]),
+    (NextDesk, "next desk", &[0, 22]),
+    (Turn, "turn", &[0, 22, 1, 2, 5, 6, 20, 7, 8, 9, 10, 11, 12, 13, 14, 15, 16]),
     (Program, "program", &[0, 1, 3, 4, 7, 8, 9, 10, 11, 12, 13, 14, 15, 16]),
 ];
 
 impl Operation {
-    pub const COUNT: usize = 22;
+    pub const COUNT: usize = 26;
 
     pub fn name(self) -> &'static str {
         DEMANDS.iter().find(|demand| demand.0 == self).unwrap().1
     }
 }
 
-const NUMBERS: usize = 28;
+const NUMBERS: usize = 30;
 
 /// Outcomes that a refusal number does not tell apart.
 #[derive(Clone, Copy, Debug, PartialEq, Eq)]
@@ -222,6 +231,7 @@ pub struct Coverage {
     pub limits: LimitsMet,
     pub texts: TextsMet,
     pub pages: PagesMet,
+    pub desks: DesksMet,
     /// Accepted lines by the number of splits one inside another, from 1.
     depths: [u64; Sheet::MOST_SPLITS + 1],
     /// Accepted lines by the size of the board.
@@ -246,6 +256,7 @@ impl Default for Coverage {
             limits: LimitsMet::default(),
             texts: TextsMet::default(),
             pages: PagesMet::default(),
+            desks: DesksMet::default(),
             depths: [0; Sheet::MOST_SPLITS + 1],
             sizes: [0; SIZES.len()],
         }
@@ -290,6 +301,7 @@ impl Coverage {
         missing.extend(self.limits.missing());
         missing.extend(self.texts.missing());
         missing.extend(self.pages.missing());
+        missing.extend(self.desks.missing());
         let unmet = (1..=Sheet::MOST_SPLITS).filter(|&depth| self.depths[depth] == 0);
         missing.extend(unmet.map(|depth| format!("accepted line at depth {depth}")));
         let unmet = SIZES.iter().zip(self.sizes).filter(|&(_, lines)| lines == 0);
@@ -301,6 +313,13 @@ impl Coverage {
     pub fn missing_texts(&self) -> Vec<String> {
         let mut missing = self.missing_numbers(|operation| matches!(operation, ReadTsplib | TsplibPoints));
         missing.extend(self.texts.missing());
+        missing
+    }
+
+    /// The same for desks alone.
+    pub fn missing_desks(&self) -> Vec<String> {
+        let mut missing = self.missing_numbers(|operation| matches!(operation, OpenDesks | HandIn | NextDesk | Turn));
+        missing.extend(self.desks.missing());
         missing
     }
 
@@ -337,7 +356,7 @@ impl fmt::Display for Coverage {
         }
         writeln!(f, "measure: {}\nprogram: {}\n{}", self.measure_rules, self.program_rules, self.sets)?;
         write!(f, "{}{}\n{}{}", self.savings, self.moves, self.slips, self.limits)?;
-        write!(f, "{}\n{}", self.texts, self.pages)?;
+        write!(f, "{}\n{}{}", self.texts, self.pages, self.desks)?;
         write!(f, "accepted lines by depth:")?;
         for depth in 1..=Sheet::MOST_SPLITS {
             write!(f, " {depth}: {}", self.depths[depth])?;

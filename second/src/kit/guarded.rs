@@ -115,6 +115,22 @@ impl<C: Checker> Checker for Guarded<C> {
         lend(table, |table| lend(marks, |marks| self.0.read_page(n, page, text, table, marks)))
     }
 
+    fn open_desks(&self, desks: &mut [u8]) -> u64 {
+        lend(desks, |desks| self.0.open_desks(desks))
+    }
+
+    fn hand_in(&self, desks: &mut [u8], desk: u32, n: u32, table: &[u8], marks: &[u8], sheet: &[u8]) -> u64 {
+        lend(desks, |desks| self.0.hand_in(desks, desk, n, table, marks, sheet))
+    }
+
+    fn next_desk(&self, desks: &[u8]) -> u64 {
+        self.0.next_desk(desks)
+    }
+
+    fn turn(&self, desks: &mut [u8], n: u32, table: &[u8], marks: &mut [u8], sheet: &[u8]) -> u64 {
+        lend(desks, |desks| lend(marks, |marks| self.0.turn(desks, n, table, marks, sheet)))
+    }
+
     fn program(&self, file: &[u8]) -> Vec<u8> {
         self.0.program(file)
     }

@@ -124,6 +124,31 @@ extern "C" {
         marks: *mut u8,
         marks_len: usize,
     ) -> u64;
+    fn revosti_open_desks(desks: *mut u8, desks_len: usize) -> u64;
+    fn revosti_hand_in(
+        desks: *mut u8,
+        desks_len: usize,
+        desk: u32,
+        n: u32,
+        table: *const u8,
+        table_len: usize,
+        marks: *const u8,
+        marks_len: usize,
+        sheet: *const u8,
+        sheet_len: usize,
+    ) -> u64;
+    fn revosti_next_desk(desks: *const u8, desks_len: usize) -> u64;
+    fn revosti_turn(
+        desks: *mut u8,
+        desks_len: usize,
+        n: u32,
+        table: *const u8,
+        table_len: usize,
+        marks: *mut u8,
+        marks_len: usize,
+        sheet: *const u8,
+        sheet_len: usize,
+    ) -> u64;
 }
 
 /// Revosti; `mark` is the program's path.
@@ -139,9 +164,9 @@ impl Revosti {
 }
 
 /// Marking or asking: the two functions have one shape.
-type HandIn = unsafe extern "C" fn(u32, *const u8, usize, *mut u8, usize, *const u8, usize) -> u64;
+type MarkOrAsk = unsafe extern "C" fn(u32, *const u8, usize, *mut u8, usize, *const u8, usize) -> u64;
 
-fn hand_in(function: HandIn, n: u32, table: &[u8], marks: &mut [u8], sheet: &[u8]) -> u64 {
+fn mark_or_ask(function: MarkOrAsk, n: u32, table: &[u8], marks: &mut [u8], sheet: &[u8]) -> u64 {
     unsafe { function(n, table.as_ptr(), table.len(), marks.as_mut_ptr(), marks.len(), sheet.as_ptr(), sheet.len()) }
 }
 
@@ -168,11 +193,11 @@ impl Checker for Revosti {
     }
 
     fn mark_sheet(&self, n: u32, table: &[u8], marks: &mut [u8], sheet: &[u8]) -> u64 {
-        hand_in(revosti_mark_sheet, n, table, marks, sheet)
+        mark_or_ask(revosti_mark_sheet, n, table, marks, sheet)
     }
 
     fn ask_sheet(&self, n: u32, table: &[u8], marks: &mut [u8], sheet: &[u8]) -> u64 {
-        hand_in(revosti_ask_sheet, n, table, marks, sheet)
+        mark_or_ask(revosti_ask_sheet, n, table, marks, sheet)
     }
 
     fn confirm(&self, n: u32, marks: &mut [u8]) -> u64 {
@@ -299,6 +324,47 @@ impl Checker for Revosti {
                 table.len(),
                 marks.as_mut_ptr(),
                 marks.len(),
+            )
+        }
+    }
+
+    fn open_desks(&self, desks: &mut [u8]) -> u64 {
+        unsafe { revosti_open_desks(desks.as_mut_ptr(), desks.len()) }
+    }
+
+    fn hand_in(&self, desks: &mut [u8], desk: u32, n: u32, table: &[u8], marks: &[u8], sheet: &[u8]) -> u64 {
+        unsafe {
+            revosti_hand_in(
+                desks.as_mut_ptr(),
+                desks.len(),
+                desk,
+                n,
+                table.as_ptr(),
+                table.len(),
+                marks.as_ptr(),
+                marks.len(),
+                sheet.as_ptr(),
+                sheet.len(),
+            )
+        }
+    }
+
+    fn next_desk(&self, desks: &[u8]) -> u64 {
+        unsafe { revosti_next_desk(desks.as_ptr(), desks.len()) }
+    }
+
+    fn turn(&self, desks: &mut [u8], n: u32, table: &[u8], marks: &mut [u8], sheet: &[u8]) -> u64 {
+        unsafe {
+            revosti_turn(
+                desks.as_mut_ptr(),
+                desks.len(),
+                n,
+                table.as_ptr(),
+                table.len(),
+                marks.as_mut_ptr(),
+                marks.len(),
+                sheet.as_ptr(),
+                sheet.len(),
             )
         }
     }

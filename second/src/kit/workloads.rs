@@ -8,6 +8,7 @@ use super::rng::Rng;
 use super::search::Effort;
 use super::sets;
 use super::sheets::{self, Plan};
+use crate::bytes::DESKS_BYTES;
 use crate::intervals::Intervals;
 use crate::sheet::{Record, Sheet};
 
@@ -60,6 +61,13 @@ pub enum Call {
         text: Vec<u8>,
         table: Vec<u8>,
     },
+    /// A sheet that is handed in at a desk, and turns until it has no line left.
+    Turns {
+        n: u32,
+        table: Vec<u8>,
+        marks: Vec<u8>,
+        sheet: Vec<u8>,
+    },
 }
 
 /// The buffers that calls change, as they stand before each run.
@@ -73,7 +81,9 @@ impl Call {
     pub fn buffers(&self) -> Buffers {
         let mut buffers = Buffers { marks: vec![], list: vec![], table: vec![] };
         match self {
-            Call::Mark { marks, .. } | Call::MarkBetween { marks, .. } => buffers.marks = marks.clone(),
+            Call::Mark { marks, .. } | Call::MarkBetween { marks, .. } | Call::Turns { marks, .. } => {
+                buffers.marks = marks.clone()
+            }
             Call::List { list, .. } | Call::ListBetween { list, .. } => buffers.list = list.clone(),
             Call::Measure { table, .. } | Call::Read { table, .. } => buffers.table = table.clone(),
         }
@@ -97,6 +107,25 @@ impl Call {
                 splits.iter().map(list).sum()
             }
             Call::Read { text, .. } => checker.read_tsplib(text, &mut buffers.table),
+            Call::Turns { n, table, sheet, .. } => by_turns(checker, *n, table, &mut buffers.marks, sheet),
+        }
+    }
+
+    /// The same sheet marked at once.
+    pub fn at_once(&self) -> Option<Call> {
+        let Call::Turns { n, table, marks, sheet } = self else { return None };
+        Some(Call::Mark { n: *n, table: table.clone(), marks: marks.clone(), sheet: sheet.clone() })
+    }
+}
+
+/// Hands a sheet in at desk 1 of open desks and takes turns to its end. Answers the number of marking.
+fn by_turns(checker: &dyn Checker, n: u32, table: &[u8], marks: &mut [u8], sheet: &[u8]) -> u64 {
+    let mut desks = [0; DESKS_BYTES];
+    assert_eq!(checker.open_desks(&mut desks) + checker.hand_in(&mut desks, 1, n, table, marks, sheet), 0);
+    loop {
+        let answer = checker.turn(&mut desks, n, table, marks, sheet);
+        if answer >> 56 == 0 {
+            return answer % (1 << 40);
         }
     }
 }
@@ -119,14 +148,17 @@ const LIST_BETWEEN: &str = "list 90 between";
 /// Reading a text of 180 points with weights.
 const READING: &str = "read 180 weights";
 
-/// The timed inputs: marking and listing at 30, 90 and 180 points, measuring 180, marking and listing over two tables, and reading
-/// a text of 180.
+/// The sheet of 180 points by turns.
+const TURNS: &str = "turns 180 deep";
+
+/// The timed inputs: marking and listing at 30, 90 and 180 points, measuring 180, marking and listing over two tables, reading
+/// a text of 180, and a sheet of 180 by turns.
 pub fn names() -> Vec<String> {
     let marking = SIZES.iter().flat_map(|n| ["shallow", "deep"].map(|kind| format!("mark {n} {kind}")));
     let listing = SIZES.iter().map(|n| format!("list {n}"));
     let measuring = MEASURING.iter().map(|(name, _)| name.to_string());
     let between = [MARK_BETWEEN, LIST_BETWEEN].map(str::to_string);
-    marking.chain(listing).chain(measuring).chain(between).chain([READING.to_string()]).collect()
+    marking.chain(listing).chain(measuring).chain(between).chain([READING, TURNS].map(str::to_string)).collect()
 }
 
 /// The inputs whose instructions are counted.
@@ -143,6 +175,7 @@ pub fn named(name: &str) -> Option<Workload> {
         _ if name == MARK_BETWEEN => Some(marking_between()),
         _ if name == LIST_BETWEEN => Some(listing_between()),
         _ if name == READING => Some(reading()),
+        _ if name == TURNS => Some(turning()),
         _ if name == BEFORE => Some(under_eleven(false)),
         _ if name == AFTER => Some(under_eleven(true)),
         _ => None,
@@ -193,6 +226,13 @@ fn marking(n: usize, deep: bool) -> Workload {
     let board = random_board(n);
     let draft = lines(&Intervals::exact(board.n, &board.table), deep);
     sheet(format!("mark {n} {}", if deep { "deep" } else { "shallow" }), note(&draft), &board, &draft.records)
+}
+
+/// The sheet of `marking`, by turns.
+fn turning() -> Workload {
+    let Workload { note, call, .. } = marking(180, true);
+    let Call::Mark { n, table, marks, sheet } = call else { unreachable!("a sheet is marked") };
+    Workload { name: TURNS.to_string(), note, call: Call::Turns { n, table, marks, sheet } }
 }
 
 /// What a sheet is made of.

@@ -5,7 +5,7 @@ from ..edges import edges
 from ..files import held, read_file, replace
 from ..fingerprint import beside, digest, fingerprint, read_fingerprint, text_of
 from ..marks import read_marks
-from ..options import add_form, add_out, add_set, lengths_of, load_board, say
+from ..options import add_form, add_out, add_set, guard, lengths_of, load_board, say
 from ..words import Complaint
 
 NAME, GROUP = "cut", "Sets of marks"
@@ -29,6 +29,7 @@ def add(command):
 
 def run(options):
     """Holds the three boards and the set against each other, and writes the fingerprint."""
+    guard(options)
     cut = lengths_of(load_board(options.file, options.form).parts, options.file)
     low = load_board(options.low).parts
     limits = lengths_of(low, f"--low {options.low}", options.high)

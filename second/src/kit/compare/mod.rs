@@ -1,6 +1,7 @@
 //! Two programs on the same inputs; everything that they show is compared.
 
 mod between;
+mod halls;
 mod limits;
 mod looks;
 mod moves;
@@ -11,6 +12,7 @@ mod savings;
 mod slips;
 mod steps;
 mod texts;
+mod turns;
 
 use std::fmt::{self, Debug, Write};
 use std::path::PathBuf;
@@ -36,7 +38,7 @@ type Checked = Result<(), Difference>;
 pub struct Comparison<'a> {
     one: &'a dyn Checker,
     other: &'a dyn Checker,
-    /// A third program, for savings, for slips, for texts, for pages and for packed sets, which it reads into byte sets.
+    /// A third program, for savings, slips, texts, pages, desks and packed sets, which it reads into byte sets.
     naive: &'a dyn Checker,
     seed: u64,
     case: u64,
@@ -49,6 +51,8 @@ pub struct Comparison<'a> {
     last_slip: Option<u64>,
     /// Whether operations over two tables are compared, too.
     pub two_tables: bool,
+    /// Whether halls of eight desks are, which the second program's queues are held against.
+    pub eight_desks: bool,
     completions: Completions,
     pub coverage: Coverage,
 }
@@ -75,6 +79,7 @@ impl<'a> Comparison<'a> {
             saved: 0,
             last_slip: None,
             two_tables: true,
+            eight_desks: true,
             completions: Completions::default(),
             coverage: Coverage::default(),
         }
@@ -91,7 +96,7 @@ impl<'a> Comparison<'a> {
     }
 
     /// One instance with its sheets, listings, tours, files and savings; one whose lengths are known within limits; slips;
-    /// texts; and the pages of a board.
+    /// texts; the pages of a board; and halls of eight desks.
     pub fn run_case(&mut self, case: u64) -> Checked {
         self.case = case;
         let mut rng = Rng::new(self.seed, case);
@@ -112,7 +117,11 @@ impl<'a> Comparison<'a> {
         }
         self.slips()?;
         self.texts(case)?;
-        self.pages()
+        self.pages()?;
+        if self.eight_desks {
+            self.halls()?;
+        }
+        Ok(())
     }
 
     /// Damaged sheets on copies of the marks; noise, lines for edges that are kept and the valid sheet on the marks

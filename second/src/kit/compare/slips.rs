@@ -17,7 +17,7 @@ const SLIPS: usize = 8;
 const SIZES: usize = 10;
 
 /// The two views.
-const VIEWS: [Operation; 2] = [Operation::ExaminerView, Operation::CandidateView];
+pub const VIEWS: [Operation; 2] = [Operation::ExaminerView, Operation::CandidateView];
 
 /// A view of a slip in a program: the number answered.
 fn view(checker: &dyn Checker, operation: Operation, slip: u64, bytes: &mut [u8]) -> u64 {
@@ -28,7 +28,7 @@ fn view(checker: &dyn Checker, operation: Operation, slip: u64, bytes: &mut [u8]
 }
 
 /// The six bytes of a view.
-fn seen(checker: &dyn Checker, operation: Operation, slip: u64) -> View {
+pub fn seen(checker: &dyn Checker, operation: Operation, slip: u64) -> View {
     let mut bytes = [0; Slip::VIEW];
     view(checker, operation, slip, &mut bytes);
     bytes

@@ -52,7 +52,7 @@ impl Naive {
 
     pub fn mark_within(&self, n: u32, low: &[u8], high: &[u8], set: &mut [u8], sheet: &[u8]) -> Result<u64, u64> {
         let Read { low, high, marks } = self.between_tests(n, low, high, set)?;
-        self.hand_in_on(Board::between(n as usize, &low, &high, self.slip), marks, set, sheet, false)
+        self.mark_or_ask_on(Board::between(n as usize, &low, &high, self.slip), marks, set, sheet, false)
     }
 
     pub fn list_within(

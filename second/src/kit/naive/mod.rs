@@ -4,6 +4,7 @@
 //!
 //! A `Slip` builds in one mistake, to show that the comparison finds it.
 
+mod desks;
 pub mod language;
 mod limits;
 mod pages;
@@ -80,6 +81,11 @@ fn table_of(bytes: &[u8]) -> (Vec<u32>, bool) {
     (numbers(bytes, 4).iter().map(|&l| l as u32).collect(), bytes.len() % 4 == 0)
 }
 
+/// The records of a sheet.
+fn records(sheet: &[u8]) -> Vec<Vec<usize>> {
+    sheet.chunks(16).map(|bytes| numbers(bytes, 2).iter().map(|&v| v as usize).collect()).collect()
+}
+
 /// The least d that passes a growing test, d at most 2,000,000.
 fn least(test: impl Fn(u64) -> bool) -> u64 {
     let (mut low, mut high) = (0, 2_000_000);
@@ -136,14 +142,14 @@ impl Naive {
     }
 
     /// *Mark a sheet*, directly or asked.
-    fn hand_in(&self, n: u32, table: &[u8], set: &mut [u8], sheet: &[u8], asked: bool) -> Result<u64, u64> {
+    fn mark_or_ask(&self, n: u32, table: &[u8], set: &mut [u8], sheet: &[u8], asked: bool) -> Result<u64, u64> {
         let (table, whole) = table_of(table);
         let marks = first_tests(self.slip, n, &table, whole, set)?;
-        self.hand_in_on(Board::new(n as usize, &table, self.slip), marks, set, sheet, asked)
+        self.mark_or_ask_on(Board::new(n as usize, &table, self.slip), marks, set, sheet, asked)
     }
 
     /// The same on a board, past the tests of the table and of the marks.
-    fn hand_in_on(
+    fn mark_or_ask_on(
         &self,
         board: Board,
         mut marks: Vec<u8>,
@@ -152,19 +158,17 @@ impl Naive {
         asked: bool,
     ) -> Result<u64, u64> {
         self.sheet_tests(&marks, sheet, asked)?;
-        let answer = self.hand_in_bytes(board, &mut marks, sheet, asked);
+        let answer = self.mark_or_ask_bytes(board, &mut marks, sheet, asked);
         sets::write(self.slip, &marks, set);
         Ok(answer)
     }
 
     /// The same on a byte set, past the first tests.
-    fn hand_in_bytes(&self, board: Board, marks: &mut [u8], sheet: &[u8], asked: bool) -> u64 {
-        let record = |bytes| numbers(bytes, 2).iter().map(|&v| v as usize).collect();
-        let records = sheet.chunks(16).map(record).collect();
+    fn mark_or_ask_bytes(&self, board: Board, marks: &mut [u8], sheet: &[u8], asked: bool) -> u64 {
         let before = marks.to_vec();
         let mut accepted = 0;
         let strike = if asked { 2 } else { 0 };
-        let stop = Reader { board, records, entered: vec![], strike }.lines(marks, &mut accepted);
+        let stop = Reader { board, records: records(sheet), entered: vec![], strike }.lines(marks, &mut accepted);
         if stop.is_err() && (self.slips(Slip::StrikesGivenBack) || asked && self.slips(Slip::StoppedAskGivenBack)) {
             marks.copy_from_slice(&before);
         }
@@ -327,11 +331,11 @@ impl Checker for Naive {
     }
 
     fn mark_sheet(&self, n: u32, table: &[u8], marks: &mut [u8], sheet: &[u8]) -> u64 {
-        number(self.hand_in(n, table, marks, sheet, false))
+        number(self.mark_or_ask(n, table, marks, sheet, false))
     }
 
     fn ask_sheet(&self, n: u32, table: &[u8], marks: &mut [u8], sheet: &[u8]) -> u64 {
-        number(self.hand_in(n, table, marks, sheet, true))
+        number(self.mark_or_ask(n, table, marks, sheet, true))
     }
 
     fn confirm(&self, n: u32, marks: &mut [u8]) -> u64 {
@@ -398,6 +402,22 @@ impl Checker for Naive {
         number(self.page_read(n, page, text, table, marks))
     }
 
+    fn open_desks(&self, desks: &mut [u8]) -> u64 {
+        number(self.opened(desks))
+    }
+
+    fn hand_in(&self, desks: &mut [u8], desk: u32, n: u32, table: &[u8], marks: &[u8], sheet: &[u8]) -> u64 {
+        number(self.handed_in(desks, desk, n, table, marks, sheet))
+    }
+
+    fn next_desk(&self, desks: &[u8]) -> u64 {
+        number(self.asked_next(desks))
+    }
+
+    fn turn(&self, desks: &mut [u8], n: u32, table: &[u8], marks: &mut [u8], sheet: &[u8]) -> u64 {
+        number(self.turned(desks, n, table, marks, sheet))
+    }
+
     fn program(&self, file: &[u8]) -> Vec<u8> {
         let refused = |number: u64| format!("verdict {number} record 0 open 0\n").into_bytes();
         if file.len() < 8 {
@@ -421,7 +441,7 @@ impl Checker for Naive {
         let sheet = &file[sheet_start..];
         let table = table_of(&table).0;
         let answer = match self.sheet_tests(&marks, sheet, false) {
-            Ok(()) => self.hand_in_bytes(Board::new(n as usize, &table, self.slip), &mut marks, sheet, false),
+            Ok(()) => self.mark_or_ask_bytes(Board::new(n as usize, &table, self.slip), &mut marks, sheet, false),
             Err(refusal) => refusal,
         };
         let mut text = format!("points {} edges {}\n", n, edges.len());

@@ -116,28 +116,34 @@ impl Reader<'_> {
         self.entered.push(1);
         let at_first = marks.to_vec();
         loop {
-            let record = self.first_tests(index, &[1])?;
-            let (a, b) = (record[1], record[2]);
-            let place = self.board.place(a, b);
-            let wrong = self.board.slip == Some(Slip::PendingOpenInSheet);
-            let now = pending_read_as(if wrong { 1 } else { 0 }, marks);
-            if now[place] == 0 {
-                return Err((12, index));
-            }
-            let mut seen = if self.board.slip == Some(Slip::StaleMarks) { at_first.clone() } else { now };
-            if self.board.slip == Some(Slip::EarlyStrike) {
-                seen[place] = 0;
-            }
-            if record[6] != 0 || !self.board.waved_on(marks, (a, b)) {
-                self.chain(&seen, &[(a, b)], index, record[5], record[6], 1)?;
-            }
-            marks[place] = self.strike;
+            let next = self.line(marks, &at_first, index)?;
             *accepted += 1;
-            if record[7] == 0 {
+            if next == 0 {
                 return Ok(());
             }
-            self.enter(index, record[7])?;
-            index = record[7];
+            self.enter(index, next)?;
+            index = next;
         }
+    }
+
+    /// The line at an index that is entered: its edge is struck. Answers its next index.
+    pub fn line(&mut self, marks: &mut [u8], at_first: &[u8], index: usize) -> Result<usize, Stop> {
+        let record = self.first_tests(index, &[1])?;
+        let (a, b) = (record[1], record[2]);
+        let place = self.board.place(a, b);
+        let wrong = self.board.slip == Some(Slip::PendingOpenInSheet);
+        let now = pending_read_as(if wrong { 1 } else { 0 }, marks);
+        if now[place] == 0 {
+            return Err((12, index));
+        }
+        let mut seen = if self.board.slip == Some(Slip::StaleMarks) { at_first.to_vec() } else { now };
+        if self.board.slip == Some(Slip::EarlyStrike) {
+            seen[place] = 0;
+        }
+        if record[6] != 0 || !self.board.waved_on(marks, (a, b)) {
+            self.chain(&seen, &[(a, b)], index, record[5], record[6], 1)?;
+        }
+        marks[place] = self.strike;
+        Ok(record[7])
     }
 }

@@ -240,6 +240,46 @@ pub enum Slip {
     SurplusPassed,
     /// Surplus is told as the last line.
     SurplusAsLast,
+    /// The round begins at the last desk served itself.
+    SameDeskAgain,
+    /// No desk comes after desk 8.
+    RoundEndsAtEight,
+    /// A last desk served above 8 counts as none.
+    LastNotModulo,
+    /// A next index is looked at in the turn of the line that it names.
+    NextIndexToldLate,
+    /// A turn makes no test of the table's entries and of pending marks.
+    TestsNotRepeated,
+    /// A test that fails at a turn tells no lines.
+    LinesLostAtTest,
+    /// A turn tells its own line alone.
+    LinesOfTurn,
+    /// A waiting index above the record count names no record.
+    OwnerForgotten,
+    /// A desk keeps the line that was refused.
+    RefusedTurnKeepsLine,
+    /// A turn whose line is refused does not count as a serving.
+    RefusedTurnUnserved,
+    /// A desk whose sheet has ended keeps its lines.
+    EndedKeepsLines,
+    /// A desk whose sheet has ended clears the one after it, too.
+    OtherDeskCleared,
+    /// Handing in counts as a serving.
+    HandInServes,
+    /// A sheet is handed in over a line.
+    HandInOverLine,
+    /// A desk is read by its lowest byte.
+    DeskByLowByte,
+    /// The sheet's tests before 28 and 29.
+    TestsBeforeDesk,
+    /// 28 before 22.
+    DeskBeforeBuffer,
+    /// Opening clears every byte lent.
+    PastDesksCleared,
+    /// Opening clears a state that is too short.
+    ShortDesksOpened,
+    /// Any index that is not 0 is a line left.
+    UnservedLineLeft,
 }
 
 impl Slip {
@@ -368,5 +408,29 @@ impl Slip {
         Slip::RowsByLine,
         Slip::NewlineMissing,
         Slip::BehindEof,
+    ];
+
+    /// Those of desks.
+    pub const DESKS: [Slip; 20] = [
+        Slip::SameDeskAgain,
+        Slip::RoundEndsAtEight,
+        Slip::LastNotModulo,
+        Slip::NextIndexToldLate,
+        Slip::TestsNotRepeated,
+        Slip::LinesLostAtTest,
+        Slip::LinesOfTurn,
+        Slip::OwnerForgotten,
+        Slip::RefusedTurnKeepsLine,
+        Slip::RefusedTurnUnserved,
+        Slip::EndedKeepsLines,
+        Slip::OtherDeskCleared,
+        Slip::HandInServes,
+        Slip::HandInOverLine,
+        Slip::DeskByLowByte,
+        Slip::TestsBeforeDesk,
+        Slip::DeskBeforeBuffer,
+        Slip::PastDesksCleared,
+        Slip::ShortDesksOpened,
+        Slip::UnservedLineLeft,
     ];
 }
