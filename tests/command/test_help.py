@@ -19,7 +19,7 @@ FORMATS, README, RULES, DECISIONS = ((ROOT / name).read_text(encoding="utf-8")
                                      for name in ("docs/FORMATS.md", "README.md", "docs/RULES.md", "docs/DECISIONS.md"))
 WANTED = {"mark", "ask", "confirm", "withdraw", "fresh", "explain", "pairs", "saving", "slip", "tour", "edges", "draw", "pages",
           "read-pages", "board",
-          "pack", "unpack", "convert"}
+          "pack", "unpack", "convert", "desks"}
 
 
 def options_of(name):
@@ -133,7 +133,8 @@ class Fields(Folder):
             Run("ask", *sheet, "--marks", marks)
         words = {"mark": (*sheet, "--marks", marks), "ask": (*sheet, "--marks", marks), "confirm": ("--marks", marks),
                  "withdraw": ("--marks", marks),
-                 "pairs": (EXAMPLES / "square.tsp", 1, 2, 3), "tour": (EXAMPLES / "square.tsp", "1,2,3,4")}.get(name, sheet)
+                 "pairs": (EXAMPLES / "square.tsp", 1, 2, 3), "tour": (EXAMPLES / "square.tsp", "1,2,3,4"),
+                 "desks": (self.folder / "hall", "open", EXAMPLES / "square.tsp")}.get(name, sheet)
         found = [json.loads(Run(name, *words, "--json").text)]
         if name in ("mark", "ask", "explain"):
             found.append(json.loads(Run(name, EXAMPLES / "case_missing.bin", *words[3:], "--json").text))
