@@ -21,6 +21,7 @@ explain      a verdict in words, and for JSON
 case         one record of a sheet: K, its split, its pairs
 saving       what a rule takes out and puts in, in words
 slip         what examiner and candidate see of a marked sheet, in words
+hall         a folder in which eight desks hand in and are served
 tour         tours read and told
 
 files        files read whole, replaced at once, locked
