@@ -26,7 +26,8 @@ KEYS = {1: "4 to 180", 2: "not 2n numbers", 3: "outside 1 to 5", 4: "above 1,000
         14: "next standing one", 15: "edge or centres break", 16: "No labelling",
         17: "each point from 1 to n exactly once", 18: "fewer than twice as many places",
         19: "no TSPLIB text", 20: "Something is pending", 21: "Nothing is pending", 22: "a view has six bytes",
-        25: "A low length is above its high one", 26: "page number is 0", 27: "not such a page"}
+        25: "A low length is above its high one", 26: "page number is 0", 27: "not such a page",
+        28: "outside 1 to 8", 29: "still has a line"}
 
 
 def told(records, refusal, record, struck=(), board=True, **file):
@@ -79,7 +80,7 @@ class Numbers(unittest.TestCase):
 
     def test_unknown_number(self):
         for number in (23, 24, 40):
-            self.assertIn("not one of 1 to 22 and 25 to 27", told(SQUARE_RECORDS, number, 1))
+            self.assertIn("not one of 1 to 22 and 25 to 29", told(SQUARE_RECORDS, number, 1))
 
     def test_some_lines_around(self):
         lines = [(1, 1, 2, 0, 0, 3, 0, k + 1) for k in range(1, 20)] + [(1, 1, 2, 0, 0, 3, 0, 0)]
