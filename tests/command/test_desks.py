@@ -285,6 +285,18 @@ class Killed(Hall):
             self.assertFalse((self.hall / "turn").exists())
         self.assertEqual(seen, {True, False})
 
+    def test_what_is_no_turn(self):
+        for data in (b"", b"{}", b"[]", b'{"desk": 9, "found": "", "left": "", "state": "00"}',
+                     b'{"desk": 1, "found": "x", "left": "", "state": ""}'):
+            before = self.files()
+            file = self.hall / "turn"
+            file.write_bytes(data)
+            for words in (("show",), ("turn",), ("hand-in", 1, SHEET)):
+                self.assertEqual(self.desks(*words).all, (2, "", f"revosti: {file}: expected a turn that was being written; "
+                                                                 "without this file, it was not taken\n"))
+            file.unlink()
+            self.assertEqual(self.files(), before)
+
     def test_marks_that_were_changed_since_stay(self):
         self.hand_in(1, LINES)
         with mock.patch.object(halls, "finish", side_effect=Stop), self.assertRaises(Stop):

@@ -17,7 +17,7 @@ from typing import NamedTuple
 from revosti import DESKS, Turn, desk_of, hand_in, last_served, next_desk, open_desks, turn
 
 from .archive import start
-from .files import create, held, named, read_file, replace, sync_folder
+from .files import create, held, name_of, named, read_file, replace, sync_folder
 from .fingerprint import hold
 from .lengths import Lengths, sheet_of
 from .options import TSPLIB, decode, is_text, is_wide, lengths_of, load_board, text_sheet
@@ -107,10 +107,21 @@ def changing(hall):
     """The state of a hall, a bytearray, under a lock; a turn that was left unfinished is finished first."""
     with held(hall.state):
         if hall.unfinished.exists():
-            entry = json.loads(read_file(hall.unfinished))
+            entry = unfinished(hall)
             with held(hall.at(entry["desk"], "marks")):
                 finish(hall, entry)
         yield bytearray(read_file(hall.state))
+
+
+def unfinished(hall):
+    """The turn that was left unfinished."""
+    try:
+        entry = json.loads(read_file(hall.unfinished))
+        if entry["desk"] in EVERY and all(bytes.fromhex(entry[name]) or name != "state" for name in ("found", "left", "state")):
+            return {"slip": None, **entry}
+    except (ValueError, KeyError, TypeError):
+        pass
+    raise Complaint(f"{hall.unfinished}: expected a turn that was being written; without this file, it was not taken")
 
 
 def sheet_in(hall, file):
@@ -127,7 +138,7 @@ def sheet_in(hall, file):
         return data, sheet._replace(parts=sheet.parts._replace(records=[]))
     lengths = lengths_of(sheet.parts, file)
     if (lengths.n, list(lengths.table)) != (hall.lengths.n, list(hall.lengths.table)):
-        raise Complaint(f"{file}: the sheet is of another board than {hall.folder}")
+        raise Complaint(f"{name_of(file)}: the sheet is of another board than {hall.folder}")
     return data, sheet
 
 
