@@ -78,6 +78,12 @@ class Practical(Hall):
                                      f"Desk 3: no sheet. {COUNTS.format(0, 6)}"])
         self.assertEqual(len(shown), 9)
 
+    def test_numbers_that_nobody_wrote(self):
+        (self.hall / "desks").write_bytes(bytes((9, 1, 5, 0, 2, 0, 9, 0)) + bytes(42))
+        self.assertEqual(self.desks("show").text.splitlines()[:2], [
+            "No desk has a line left; desk 265 was served last.",
+            f"Desk 1: no line left, though its numbers are 5 2 9. {COUNTS.format(0, 6)}"])
+
     def test_page(self):
         self.hand_in(1, LINES)
         self.hand_in(3, WRONG)

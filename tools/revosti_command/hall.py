@@ -14,7 +14,7 @@ from contextlib import contextmanager, nullcontext
 from pathlib import Path
 from typing import NamedTuple
 
-from revosti import DESKS, Turn, desk_of, hand_in, last_served, next_desk, open_desks, turn
+from revosti import DESKS, Desk, Turn, desk_of, hand_in, last_served, next_desk, open_desks, turn
 
 from .archive import start
 from .files import create, held, name_of, named, read_file, replace, sync_folder
@@ -209,7 +209,7 @@ class Seat(NamedTuple):
     """What a hall shows of a desk: what the state holds of it, its slip, and its marks."""
 
     desk: int
-    held: object
+    held: Desk
     slip: int | None
     marks: bytes
 

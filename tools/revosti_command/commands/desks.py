@@ -127,6 +127,8 @@ def row(seat, n):
     if seat.held.line_left:
         source = f", which record {seat.held.owner} leads to" if seat.held.owner else ""
         state = f"record {seat.held.index} waits{source}; {counted(seat.held.lines, 'line')} {are(seat.held.lines)} accepted."
+    elif any(seat.held):  # by nobody who hands in or takes turns
+        state = f"no line left, though its numbers are {' '.join(map(str, seat.held))}."
     elif seat.slip is None:
         state = "no sheet."
     else:
