@@ -328,6 +328,26 @@ class Together(Hall):
                          [(desk, lines) for desk in range(1, 9) for lines in (1, 2)])
         self.assertEqual([self.marks(desk) for desk in range(1, 9)], [STRUCK] * 8)
 
+    def test_locked_to_its_end(self):
+        """Whoever comes once the state is replaced waits until the turn is done."""
+        self.hand_in(1, LINES)
+        write, others = halls.replace, []
+
+        def replaced(file, data):
+            write(file, data)
+            if file == self.hall / "desks":
+                others.append(start("desks", self.hall, "turn"))
+                self.assertEqual(others[0].stderr.readline().decode(),
+                                 f"revosti: {self.hall}: another command changes it; waiting\n")
+
+        with mock.patch.object(halls, "replace", replaced):
+            self.assertEqual(self.desks("turn").all, (0, "Desk 1: 1 line accepted so far, and a line is left.\n", ""))
+        out, said = others[0].communicate()
+        self.assertEqual((others[0].returncode, said), (0, b""))
+        self.assertIn(b"Desk 1: the sheet is accepted, 2 lines.", out)
+        self.assertEqual(self.marks(1), STRUCK)
+        self.assertFalse((self.hall / "turn").exists())
+
 
 if __name__ == "__main__":
     unittest.main()

@@ -179,10 +179,11 @@ def held(file):
 
 @contextmanager
 def folder_held(folder):
-    """Locks a folder against all others that would make a set in it: of those that make one of the same name, one does."""
+    """Locks a folder against all others that would make a set in it, or change what is in it as one; waits, and says so,
+    while another has it. A folder is not replaced as a file is, so the lock holds to its end."""
     with named(folder):
         handle = os.open(folder, os.O_RDONLY | os.O_DIRECTORY | os.O_CLOEXEC)
-        fcntl.flock(handle, fcntl.LOCK_EX)
+        lock(handle, folder, False)
     try:
         yield
     finally:

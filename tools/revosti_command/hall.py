@@ -5,19 +5,20 @@ desks                the desks' state
 1 to 8               of each desk: `marks` with its fingerprint, `sheet` as it was handed in, `slip` once that has ended
 turn                 a turn that is being written
 
-Whoever changes a hall holds a lock on its state. A turn changes a desk's marks and the state: what both get is written
-to `turn` first, and whoever finds that file finishes it. So a kill at any moment leaves the turn whole, or none of it.
+Whoever changes a hall holds a lock on its folder: on the state it would end where that is replaced, before the turn is
+done. A turn changes a desk's marks and the state: what both get is written to `turn` first, and whoever finds that file
+finishes it. So a kill at any moment leaves the turn whole, or none of it.
 """
 
 import json
-from contextlib import contextmanager, nullcontext
+from contextlib import contextmanager
 from pathlib import Path
 from typing import NamedTuple
 
 from revosti import DESKS, Desk, Turn, desk_of, hand_in, last_served, next_desk, open_desks, turn
 
 from .archive import start
-from .files import create, held, name_of, named, read_file, replace, sync_folder
+from .files import create, folder_held, held, name_of, named, read_file, replace, sync_folder
 from .fingerprint import hold
 from .lengths import Lengths, sheet_of
 from .options import TSPLIB, decode, is_text, is_wide, lengths_of, load_board, text_sheet
@@ -69,11 +70,13 @@ def open_hall(folder, file, force=False):
     """Makes a hall for a board: fresh marks at each desk, and a state in which none has a line left. The state is
     removed first and written last: a folder without one is no hall."""
     lengths, data, place = lengths_of(load_board(file).parts, file), read_file(file), Path(folder)
-    with held(state_of(place)) if force and state_of(place).exists() else nullcontext():
+    with named(folder):
+        place.mkdir(parents=True, exist_ok=True)
+    with folder_held(place):
         clear(place, force)
         with named(folder):
             for desk in EVERY:
-                (place / str(desk)).mkdir(parents=True, exist_ok=True)
+                (place / str(desk)).mkdir(exist_ok=True)
         create(place / BOARDS[0 if str(file).endswith(TSPLIB) else 1], data)
         for desk in EVERY:
             start(lengths, place / str(desk) / "marks", force)
@@ -105,7 +108,7 @@ def enter(folder):
 @contextmanager
 def changing(hall):
     """The state of a hall, a bytearray, under a lock; a turn that was left unfinished is finished first."""
-    with held(hall.state):
+    with folder_held(hall.folder):
         if hall.unfinished.exists():
             entry = unfinished(hall)
             with held(hall.at(entry["desk"], "marks")):
