@@ -13,3 +13,4 @@ pub mod TwoOpt
 pub mod OrOpt
 pub mod ThreeOpt
 pub mod ThreeOptimal
+pub mod Reorder

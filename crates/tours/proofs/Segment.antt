@@ -52,16 +52,16 @@ cnt-last (pt a) = omega (arith, same-self a)
 cnt-last (S ▸ T) = omega (arith, cnt-last T)
 
 -- the points after the first, and then vs
-after : {a b : ℕ} → Seg a b → List ℕ → List ℕ
+pub after : {a b : ℕ} → Seg a b → List ℕ → List ℕ
 after (pt a) vs = vs
 after (_▸_ {c = c} S T) vs = after S (c ∷ after T vs)
 
-count-after : {a b : ℕ} (v : ℕ) (S : Seg a b) (vs : List ℕ) → same a v + count v (after S vs) ≡ cnt v S + count v vs
+pub count-after : {a b : ℕ} (v : ℕ) (S : Seg a b) (vs : List ℕ) → same a v + count v (after S vs) ≡ cnt v S + count v vs
 unfolding after cnt
 count-after v (pt a) vs = refl
 count-after v (_▸_ {c = c} S T) vs = omega (arith, count-after v S (c ∷ after T vs), count-cons v c (after T vs), count-after v T vs)
 
-total-after : {a b : ℕ} (l : ℕ → ℕ → ℕ) (S : Seg a b) (vs : List ℕ) (z : ℕ) → total l (pathEdges a (after S vs) z) ≡ len l S + total l (pathEdges b vs z)
+pub total-after : {a b : ℕ} (l : ℕ → ℕ → ℕ) (S : Seg a b) (vs : List ℕ) (z : ℕ) → total l (pathEdges a (after S vs) z) ≡ len l S + total l (pathEdges b vs z)
 unfolding after len total pathEdges
 total-after l (pt a) vs z = omega arith
 total-after l (_▸_ {c = c} S T) vs z = omega (arith, total-after l S (c ∷ after T vs) z, total-after l T vs z)
