@@ -1,0 +1,10 @@
+pub mod Following
+pub mod Orders
+pub mod Paths
+pub mod PointLists
+pub mod SamePoints
+pub mod SegmentExact
+pub mod SegmentExamples
+pub mod SegmentLaws
+pub mod WayExact
+pub mod Ways

@@ -1,0 +1,3 @@
+pub mod asks
+pub mod Segment
+pub mod SegmentTest

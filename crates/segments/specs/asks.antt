@@ -1,0 +1,2 @@
+pub mod Reorder
+pub mod Segment

@@ -1,0 +1,3 @@
+// Segments of K, and new orders of their points.
+pub mod reorder;
+pub mod segment;
