@@ -7,23 +7,17 @@ use mathlib.Core.List.{List, [], _∷_}
 use lib.Dec.{eqb, ltb}
 use Rattle.lengths.specs.Edge.{Edge, edge}
 use Rattle.argument.specs.Verdict.{Verdict, accepted, refused, guard, andThen}
-use Rattle.argument.specs.Record.{How, splits, threeOpts, Record, line, case, other, records, recordAt, fits}
+use Rattle.argument.specs.Record.{How, splits, threeOpts, reorders, Record, line, case, visit, other, records, recordAt, fits}
 use Rattle.argument.specs.Rules.{Rules, listedBy, NamesFeasible, Reached, single, Lawful}
 use Rattle.argument.specs.Argument.{splitLimit}
 use Rattle.argument.specs.Walk.{Spot, Step, ends, takes, entering, readCase, look, opening, behind, close, act, follow, walkBy, walk}
 use Rattle.argument.specs.Line.{Struck, strikes, judgeRecord, judge}
 use Rattle.argument.specs.Sheet.{Marking, markingListed, Place, LineStep, over, onward, struck, lineStep, Result, answer, proceed, linesBy, linesFrom, start, sheet}
-use Rattle.argument.proofs.Verdicts.{andThen-agree}
+use Rattle.argument.proofs.Verdicts.{guard-agree, andThen-agree}
 use Rattle.argument.proofs.Tests.{HowFits, Fits, fits-means}
 use Rattle.argument.proofs.Steps.{LookSays, looked}
 use Rattle.argument.proofs.Sound.{SoundSpot, sound-opening, reached-case, sound-behind}
 use Rattle.argument.proofs.Complete.{named-list}
-
--- tests that pass alike go on alike
-guard-agree : {A : Type 0} (b : Bool) (m r : ℕ) (k k′ : Unit {0} → Verdict A) → (b ≡ true → k tt ≡ k′ tt) → guard b m r k ≡ guard b m r k′
-unfolding guard
-guard-agree true m r k k′ same = same refl
-guard-agree false m r k k′ same = refl
 
 module _ (R : Rules) (law : Lawful R) (list : List Edge → ℕ → List Edge) (named : (K : List Edge) (c : ℕ) → Reached R K → NamesFeasible R K c (list K c)) (s : List ℕ) where
   -- a chain begins with the same pairs: two rising lists of the same pairs are one
@@ -38,6 +32,7 @@ module _ (R : Rules) (law : Lawful R) (list : List Edge → ℕ → List Edge) (
   unfolding readCase
   read-same q (line a b c first next) = refl
   read-same q (case a b how next) = refl
+  read-same q (visit v next) = refl
   read-same q other = refl
 
   look-same : (q : Spot) → look (listedBy R list) s q ≡ look R s q
@@ -49,19 +44,20 @@ module _ (R : Rules) (law : Lawful R) (list : List Edge → ℕ → List Edge) (
       by false e = rw (look, e) (ap (λ (v : Verdict Step). entering s (q .last) (q .high) (q .index) λ _. v) (read-same q (recordAt s (q .index))))
 
   module _ (go′ go : Spot → Verdict ℕ) (same : (q : Spot) → SoundSpot R q → go′ q ≡ go q) where
-    close-same : (left : ℕ) (K : List Edge) (i : ℕ) (how : How) → Reached R K → HowFits (R .n) how → close (listedBy R list) go′ left K i how ≡ close R go left K i how
+    close-same : (left : ℕ) (K : List Edge) (i : ℕ) (how : How) → Reached R K → HowFits (R .n) how → close (listedBy R list) s go′ left K i how ≡ close R s go left K i how
     unfolding close
     close-same left K i (splits c first) reached fit =
         ap (λ (v : Verdict ℕ). guard (ltb 0 left) 13 i λ _. v)
         (ap go′ (opening-same left K i c first reached) ∙ same (opening R left K i c first) (sound-opening R law left K i c first reached fit))
     close-same left K i (threeOpts p q r u) reached fit = refl
+    close-same left K i (reorders u v first) reached fit = refl
 
     follow-same : (q : Spot) → SoundSpot R q → follow (listedBy R list) s go′ q ≡ follow R s go q
     unfolding follow act
     follow-same q st =
-        ap (λ (v : Verdict Step). andThen v (act (listedBy R list) go′ q)) (look-same q) ∙ andThen-agree _ _ _ (λ step e. by step (looked R s q step e))
+        ap (λ (v : Verdict Step). andThen v (act (listedBy R list) s go′ q)) (look-same q) ∙ andThen-agree _ _ _ (λ step e. by step (looked R s q step e))
       where
-        by : (step : Step) → LookSays R s q step → act (listedBy R list) go′ q step ≡ act R go q step
+        by : (step : Step) → LookSays R s q step → act (listedBy R list) s go′ q step ≡ act R s go q step
         by ends l = refl
         by (takes a b how next) l =
             ap (λ (v : Verdict ℕ). andThen v λ high. go′ (behind q next high)) (close-same _ _ _ how (reached-case R law q st a b (l .named)) (l .fit .how-fits))
@@ -88,6 +84,7 @@ module _ (R : Rules) (law : Lawful R) (list : List Edge → ℕ → List Edge) (
           ap (λ (v : Verdict ℕ). guard (open? a b) 12 i λ _. andThen v λ high. accepted (strikes a b next high))
           (close-same (walk (listedBy R list) s) (walk R s) walk-same splitLimit (edge a b ∷ []) i (splits c first) (single (f .point-a) (f .point-b) (f .apart)) (f .how-fits)))
       by (case a b how next) = refl
+      by (visit v next) = refl
       by other = refl
 
 -- A SHEET answers alike, line after line

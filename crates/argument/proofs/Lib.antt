@@ -1,6 +1,7 @@
 pub mod Verdicts
 pub mod Tests
 pub mod Steps
+pub mod Visits
 pub mod Fuel
 pub mod Equations
 pub mod Sound

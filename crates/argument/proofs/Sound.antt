@@ -3,21 +3,22 @@
 -- to, so the list that the walk goes by has exactly the feasible pairs.
 use Prim.Native.Nat.{ℕ, zero, suc, _≤_}
 use mathlib.Core.Path.{_≡_, refl, sym, _∙_, ap, subst}
-use mathlib.Core.List.{List, _∷_, List·Memᴰ·head, List·Memᴰ·tail}
+use mathlib.Core.List.{List, [], _∷_, List·Memᴰ·head, List·Memᴰ·tail}
 use native.Mathlib.Omega.{arith}
 use borrow.Author.Tests.{ltb-true}
 use Rattle.lengths.specs.Edge.{Edge, edge, Point}
 use Rattle.sets.specs.EdgeSet.{withPair}
 use Rattle.sets.specs.Rising.{Among}
 use Rattle.argument.specs.Verdict.{Verdict, accepted}
-use Rattle.argument.specs.Record.{How, splits, threeOpts, records}
+use Rattle.argument.specs.Record.{How, splits, threeOpts, reorders, records}
 use Rattle.argument.specs.Rules.{Rules, NamesFeasible, Reached, grown, Lawful}
-use Rattle.argument.specs.Argument.{Cases, none, pair, Closing, split, threeOpt, names, depth, depths, Complete, AllComplete}
-use Rattle.argument.specs.Layout.{Laid, Holds}
-use Rattle.argument.specs.Walk.{Spot, Step, ends, takes, rest, opening, behind, close, act, follow, walkBy, walk}
+use Rattle.argument.specs.Argument.{Cases, none, pair, Closing, split, threeOpt, reorder, names, depth, depths, Complete, AllComplete}
+use Rattle.argument.specs.Layout.{Laid, Visits, Holds}
+use Rattle.argument.specs.Walk.{Spot, Step, ends, takes, rest, opening, behind, closeByOrder, close, act, follow, walkBy, walk}
 use Rattle.argument.proofs.Verdicts.{refused-accepted, accepted-inj, guard-passed, refusedBy-passed, andThen-passed}
 use Rattle.argument.proofs.Tests.{HowFits}
 use Rattle.argument.proofs.Steps.{LookSays, looked}
+use Rattle.argument.proofs.Visits.{visited-says}
 
 -- a walk stands rightly at q: its K is one that an argument comes to, its point is one of 1 to n, and the pairs left are feasible
 pub record SoundSpot (R : Rules) (q : Spot) : Type 0 where
@@ -60,8 +61,8 @@ module _ (R : Rules) (law : Lawful R) where
         record { reached = st .reached; centre = st .centre; feasible = λ x y m. st .feasible x y (subst (λ (es : List Edge). Among es x y) (sym named) (List·Memᴰ·tail m)) }
 
 module _ (R : Rules) (law : Lawful R) (s : List ℕ) where
-  pub close-sound : (go : Spot → Verdict ℕ) → SoundChains R s go → (left : ℕ) (K : List Edge) (i : ℕ) (how : How) (h : ℕ) → Reached R K → HowFits (R .n) how → close R go left K i how ≡ accepted h → (t : Closing) × ClosingAt R s left K i how t h
-  unfolding close opening Holds Complete depth
+  pub close-sound : (go : Spot → Verdict ℕ) → SoundChains R s go → (left : ℕ) (K : List Edge) (i : ℕ) (how : How) (h : ℕ) → Reached R K → HowFits (R .n) how → close R s go left K i how ≡ accepted h → (t : Closing) × ClosingAt R s left K i how t h
+  unfolding close closeByOrder opening Holds Complete depth
   close-sound go sound left K i (splits c first) h reached fit e =
       let g = guard-passed _ _ _ _ h e in
       let f = sound _ h (sound-opening R law left K i c first reached fit) (g .1) in
@@ -71,6 +72,13 @@ module _ (R : Rules) (law : Lawful R) (s : List ℕ) where
   close-sound go sound left K i (threeOpts p q r u) h reached fit e =
       let g = refusedBy-passed _ _ _ h e in
       (threeOpt p q r u, record { holds = (refl, sym (g .1)); complete = law .settled K p q r u (g .0); shallow = omega arith })
+  close-sound go sound left K i (reorders u v first) h reached fit e =
+      let g = guard-passed _ _ _ _ h e in
+      let w = andThen-passed _ _ h (g .1) in
+      let z = refusedBy-passed _ _ _ h (w .2) in
+      let t = visited-says (R .n) s [] i first (w .0) (w .1) in
+      let zero-by : R .reordering K u v (t .vs) ≡ 0 = subst (λ (vs : List ℕ). R .reordering K u v vs ≡ 0) (t .named) (z .0) in
+      (reorder u v (t .vs), record { holds = (first, refl, subst (Visits s i first (t .vs)) (z .1) (t .visits)); complete = law .reordered K u v (t .vs) reached (g .0) zero-by; shallow = omega arith })
 
   follow-sound : (go : Spot → Verdict ℕ) → SoundChains R s go → SoundChains R s (follow R s go)
   unfolding follow act behind Laid AllComplete names depth
@@ -78,7 +86,7 @@ module _ (R : Rules) (law : Lawful R) (s : List ℕ) where
       let v = andThen-passed _ _ h e in
       by (v .0) (looked R s q (v .0) (v .1)) (v .2)
     where
-      by : (step : Step) → LookSays R s q step → act R go q step ≡ accepted h → (cs : Cases) × ChainAt R s q cs h
+      by : (step : Step) → LookSays R s q step → act R s go q step ≡ accepted h → (cs : Cases) × ChainAt R s q cs h
       by ends l z = (none, record { laid = (l .0, sym (accepted-inj z)); named = sym (l .1); complete = tt; shallow = omega arith })
       by (takes a b how next) l z =
           let v = andThen-passed _ _ h z in

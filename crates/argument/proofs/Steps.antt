@@ -8,7 +8,7 @@ use lib.Dec.{eqb}
 use borrow.Author.Tests.{eqb-true, eqb-false, eq-eqb, ne-eqb}
 use Rattle.lengths.specs.Edge.{edge}
 use Rattle.argument.specs.Verdict.{accepted, refused, guard}
-use Rattle.argument.specs.Record.{How, Record, line, case, other, records, recordAt}
+use Rattle.argument.specs.Record.{How, Record, line, case, visit, other, records, recordAt}
 use Rattle.argument.specs.Rules.{Rules}
 use Rattle.argument.specs.Layout.{Enters}
 use Rattle.argument.specs.Walk.{Spot, Step, ends, takes, entering, noneLeft, rest, readCase, look}
@@ -44,6 +44,7 @@ module _ (R : Rules) (s : List ℕ) (q : Spot) where
       let g = guard-passed _ _ _ _ step (f .1) in
       let t : LookSays R s q (takes a b how next) = record { entered = h; reads = e; fit = fits-means _ _ _ _ (f .0); named = next-is _ a b (g .0) } in
       subst (LookSays R s q) (accepted-inj (g .1)) t
+  read-passed h (visit v next) e step z = absurd (refused-accepted z)
   read-passed h other e step z = absurd (refused-accepted z)
 
   pub looked : (step : Step) → look R s q ≡ accepted step → LookSays R s q step

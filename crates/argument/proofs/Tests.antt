@@ -8,7 +8,7 @@ use Rattle.lengths.specs.Edge.{Edge, edge, Point}
 use Rattle.lengths.proofs.Instances.{is-point, point-is}
 use Rattle.lists.proofs.Bools.{and-both, and-true}
 use Rattle.argument.specs.Verdict.{Verdict, accepted, refused}
-use Rattle.argument.specs.Record.{How, splits, threeOpts, records, howFits, fits}
+use Rattle.argument.specs.Record.{How, splits, threeOpts, reorders, records, howFits, fits}
 use Rattle.argument.specs.Layout.{Enters}
 use Rattle.argument.specs.Walk.{entering, noneLeft, isNext, rest}
 use Rattle.argument.proofs.Verdicts.{guard-passed, pass-guard, fail-guard}
@@ -17,6 +17,7 @@ use Rattle.argument.proofs.Verdicts.{guard-passed, pass-guard, fail-gua
 abbrev pub HowFits : ℕ → How → Type 0
 HowFits n (splits c first) = Point n c
 HowFits n (threeOpts p q r s) = Point n p × Point n q × Point n r × Point n s
+HowFits n (reorders u v first) = Point n u × Point n v
 
 pub record Fits (n a b : ℕ) (how : How) : Type 0 where
   pub point-a : Point n a
@@ -32,11 +33,13 @@ how-fits n (threeOpts p q r s) e =
     let k = and-true _ _ (h .1) in
     let l = and-true _ _ (k .1) in
     (is-point n p (h .0), is-point n q (k .0), is-point n r (l .0), is-point n s (l .1))
+how-fits n (reorders u v first) e = let h = and-true _ _ e in (is-point n u (h .0), is-point n v (h .1))
 
 fits-how : (n : ℕ) (how : How) → HowFits n how → howFits n how ≡ true
 unfolding howFits
 fits-how n (splits c first) p = point-is p
 fits-how n (threeOpts p q r s) h = and-both _ _ (point-is (h .0)) (and-both _ _ (point-is (h .1)) (and-both _ _ (point-is (h .2)) (point-is (h .3))))
+fits-how n (reorders u v first) h = and-both _ _ (point-is (h .0)) (point-is (h .1))
 
 pub fits-means : (n a b : ℕ) (how : How) → fits n a b how ≡ true → Fits n a b how
 unfolding fits

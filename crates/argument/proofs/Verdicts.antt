@@ -18,6 +18,12 @@ unfolding guard
 guard-passed true m r k a e = (refl, e)
 guard-passed false m r k a e = absurd (refused-accepted e)
 
+-- tests that pass alike go on alike
+pub guard-agree : {A : Type 0} (b : Bool) (m r : ℕ) (k k′ : Unit {0} → Verdict A) → (b ≡ true → k tt ≡ k′ tt) → guard b m r k ≡ guard b m r k′
+unfolding guard
+guard-agree true m r k k′ same = same refl
+guard-agree false m r k k′ same = refl
+
 pub pass-guard : {A : Type 0} (b : Bool) (m r : ℕ) (k : Unit {0} → Verdict A) → b ≡ true → guard b m r k ≡ k tt
 unfolding guard
 pass-guard b m r k e = rw e

@@ -1,4 +1,4 @@
--- Arguments (01, "Arguments"), with no sheet in sight: a tree of splits and 3-opt closings, and when it is closed.
+-- Arguments (01, "Arguments"), with no sheet in sight: a tree of splits, 3-opt closings and new orders, and when it is closed.
 -- A further form of closing is one more constructor of `Closing`.
 use Prim.Native.Nat.{ℕ, suc, _≤_, max}
 use mathlib.Core.List.{List, [], _∷_}
@@ -6,7 +6,8 @@ use Rattle.lengths.specs.Edge.{Edge, edge, Point}
 use Rattle.sets.specs.EdgeSet.{withPair}
 use Rattle.argument.specs.Rules.{Rules, NamesFeasible}
 
--- a chain of cases, each a pair with its closing; "a case record carries one of two closings, a split or a crossing", which is `threeOpt`
+-- a chain of cases, each a pair with its closing; "a case record carries one of two closings, a split or a crossing", which is `threeOpt`; or a new order of a
+-- segment, its inner points from u to v (02, Paper 10)
 mutual
   pub data Cases : Type 0 where
     none : Cases
@@ -15,6 +16,7 @@ mutual
   pub data Closing : Type 0 where
     split : (c : ℕ) → Cases → Closing
     threeOpt : (p q r s : ℕ) → Closing
+    reorder : (u v : ℕ) (vs : List ℕ) → Closing
 
 -- the pairs that a chain names, in its order
 unfoldable pub names : Cases → List Edge
@@ -26,6 +28,7 @@ unfoldable mutual
   pub depth : Closing → ℕ
   depth (split c cs) = suc (depths cs)
   depth (threeOpt p q r s) = 0
+  depth (reorder u v vs) = 0
 
   pub depths : Cases → ℕ
   depths none = 0
@@ -36,12 +39,13 @@ abbrev pub splitLimit : ℕ
 splitLimit = 6
 
 -- A closing is complete under K (01: "closed"): a split at a point if its chain "names exactly the standing pairs, in rising order", and
--- every case is complete under K with its pair: "a case adds its pair's two edges to K"; a 3-opt closing if it settles K.
+-- every case is complete under K with its pair: "a case adds its pair's two edges to K"; a 3-opt closing or a new order if it settles K.
 -- No walk, list of pairs or test that computes takes part.
 unfoldable mutual
   pub Complete : Rules → List Edge → Closing → Type 0
   Complete R K (split c cs) = Point (R .n) c × NamesFeasible R K c (names cs) × AllComplete R K c cs
   Complete R K (threeOpt p q r s) = R .Settles K p q r s
+  Complete R K (reorder u v vs) = R .Reorders K u v vs
 
   pub AllComplete : Rules → List Edge → ℕ → Cases → Type 0
   AllComplete R K c none = Unit {0}

@@ -23,22 +23,26 @@ pub record Readable (s : List ℕ) (i : ℕ) : Type 0 where
 unfoldable pub field : List ℕ → ℕ → ℕ → ℕ
 field s i f = getD s ((i - 1) * recordSize + f) 0
 
--- how a case is closed: by a split at c whose first case is the record `first`, or by 3-opt (01's crossing) with the edge pq and the centres r and s
+-- how a case is closed: by a split at c whose first case is the record `first`, by 3-opt (01's crossing) with the edge pq and the centres r and s, or by a new
+-- order of the segment from u to v whose first point the record `first` names (02, Paper 10)
 pub data How : Type 0 where
   splits : (c first : ℕ) → How
   threeOpts : (p q r s : ℕ) → How
+  reorders : (u v first : ℕ) → How
 
--- what a record is: a line, a case, or neither
+-- what a record is: a line, a case, a point of a new order, or none of these
 pub data Record : Type 0 where
   line : (a b c first next : ℕ) → Record
   case : (a b : ℕ) → How → (next : ℕ) → Record
+  visit : (v next : ℕ) → Record
   other : Record
 
--- "u and v are 0" in kinds 1 and 2; a record that breaks this is neither
+-- "u and v are 0" in kinds 1 and 2; a record that breaks this is no record of its kind
 unfoldable pub bare : (u v : ℕ) → Record → Record
 bare u v r = elim (eqb u 0 && eqb v 0) [ true ↦ r | false ↦ other ]
 
--- "Kind 1, a line: .. Kind 2, a case with a split: .. Kind 3, a case with a crossing: .."
+-- "Kind 1, a line: .. Kind 2, a case with a split: .. Kind 3, a case with a crossing: .."; 02, Paper 10: "Kind 4 is a case with pair a, b, stretch ends u and v, c 0, and d the
+-- first of a chain of kind 5 records. Each kind 5 record names one point in a; its other fields but next are 0"
 unfoldable pub content : (kind a b u v c d next : ℕ) → Record
 content kind a b u v c d next =
     elim (eqb kind 1) [
@@ -47,7 +51,13 @@ content kind a b u v c d next =
         | true ↦ bare u v (case a b (splits c d) next)
         | false ↦ elim (eqb kind 3) [
           | true ↦ case a b (threeOpts u v c d) next
-          | false ↦ other
+          | false ↦ elim (eqb kind 4) [
+            | true ↦ bare c 0 (case a b (reorders u v d) next)
+            | false ↦ elim (eqb kind 5) [
+              | true ↦ bare b u (bare v c (bare d 0 (visit a next)))
+              | false ↦ other
+            ]
+          ]
         ]
       ]
     ]
@@ -59,6 +69,7 @@ recordAt s i = content (field s i 0) (field s i 1) (field s i 2) (field s i 3) (
 unfoldable pub howFits : ℕ → How → Bool
 howFits n (splits c first) = isPoint n c
 howFits n (threeOpts p q r s) = isPoint n p && (isPoint n q && (isPoint n r && isPoint n s))
+howFits n (reorders u v first) = isPoint n u && isPoint n v
 
 -- refusal 11 does not apply: no "point field outside 1 to n, or a = b". A line is read as a case with a split.
 unfoldable pub fits : (n a b : ℕ) → How → Bool

@@ -109,10 +109,11 @@ pub record Answers {M : Type 0} (𝓜 : Marking M) (s : List ℕ) (p : Place M) 
   pub marks-left : r .marks ≡ place .marks
   pub counted : r .lines ≡ place .lines
 
--- a refusal after test 7: its number is one of 8 to 16, and it names a record
+-- a refusal after test 7: its number is one of 8 to 16, or 23 or 24 (02, Paper 10), and it names a record
 pub record RefusedAt (s : List ℕ) (number rec : ℕ) : Type 0 where
   pub low : 8 ≤ number
-  pub high : number ≤ 16
+  pub high : number ≤ 24
+  pub between : 16 < number → 23 ≤ number
   pub named : Readable s rec
 
 -- a list of calls, each handed the marks as the one before left them

@@ -19,11 +19,11 @@ use Rattle.marks.specs.Mark.{markAt, openMark, opens, openUpTo, openIn, openCou
 use Rattle.marks.specs.Packed.{packedSize, marksOf}
 use Rattle.tours.specs.Tour.{Uses, Shortest, ThreeOptimal}
 use Rattle.demands.specs.Between.{Between}
-use Rattle.demands.specs.Keeping.{Ordered, Serves, KeepsTours}
-use Rattle.demands.specs.Run.{Tables, oneTable, limitsAlone, Call, Step, marking, marking-between, stepsOf, stepsInC, lengthsIn, freshFrom, freshIn}
-use Rattle.demands.proofs.OpenEdges.{keeps-shortest, keeps-degree, keeps-count}
-use Rattle.demands.proofs.PackedRuns.{three-optimal-open-in-C}
-use Rattle.demands.proofs.Runs.{three-optimal-open}
+use Rattle.demands.specs.Keeping.{Ordered, Serves, OrderFree}
+use Rattle.demands.specs.Run.{Tables, oneTable, limitsAlone, Call, Step, marking, marking-between, stepsOf, stepsInC, stepIn, lengthsIn, freshFrom, freshIn}
+use Rattle.demands.proofs.OpenEdges.{keeps-degree, keeps-count}
+use Rattle.demands.proofs.PackedRuns.{three-optimal-open-in-C, shortest-open-in-C}
+use Rattle.demands.proofs.Runs.{shortest-open}
 
 -- a table serves itself: it lies between itself and itself
 same-between : (table : List ℕ) → Between table table table
@@ -52,35 +52,31 @@ low-serves {n} {low} {high} whole = record { whole = whole; between = ordered-be
 
 module _ (n : ℕ) (some : leastPoints ≤ n) (most : n ≤ mostPoints) (before : List ℕ) (sized : length before ≡ packedSize n) where
   module _ (T : Tables) (low-whole : length (whole32 (T .low)) ≡ edgeCount n) (steps : List Step) where
-    -- THE RUN in C, of shortest tours
-    pub shortest-open-in-C : KeepsTours Shortest n (lengthsIn T) (marksOf n (stepsInC T steps (freshIn n before)))
-    shortest-open-in-C = keeps-shortest n (lengthsIn T) _ (three-optimal-open-in-C n some most before sized T low-whole steps)
-
     -- PAPER 9 in C, where the marks serve some table: the board's own (`one-serves`), one between low and high (`limits-serve`), or the low one (`low-serves`)
     module _ {table : List ℕ} (served : Serves n (lengthsIn T) table) where
       pub two-open-edges-in-C : (v : ℕ) → Point n v → 2 ≤ openDegree n (marksOf n (stepsInC T steps (freshIn n before))) v
-      two-open-edges-in-C = keeps-degree n (lengthsIn T) _ some served shortest-open-in-C
+      two-open-edges-in-C = keeps-degree n (lengthsIn T) _ some served (shortest-open-in-C n some most before sized T low-whole steps)
 
       pub n-open-edges-in-C : n ≤ openCount (marksOf n (stepsInC T steps (freshIn n before)))
-      n-open-edges-in-C = keeps-count n (lengthsIn T) _ some served shortest-open-in-C
+      n-open-edges-in-C = keeps-count n (lengthsIn T) _ some served (shortest-open-in-C n some most before sized T low-whole steps)
 
   -- THE RUN OVER TWO TABLES in C (02, Paper 11): "One set of marks must then serve whichever board is cut: for every table whose lengths lie between the two, ends
   -- included, each of its shortest tours has all its edges open after any run of such sheets". The run stands before the table, so one set serves all; and it
   -- holds of 3-optimal tours. It is the run whose board is not known.
   module _ (low high : List ℕ) (low-whole : length (whole32 low) ≡ edgeCount n) (calls : List Call) where
-    pub three-optimal-open-between-in-C : (table : List ℕ) → length table ≡ edgeCount n → Between (whole32 low) (whole32 high) table →
+    pub three-optimal-open-between-in-C : OrderFree (map stepIn (map marking-between calls)) → (table : List ℕ) → length table ≡ edgeCount n → Between (whole32 low) (whole32 high) table →
         (t : List ℕ) → ThreeOptimal n (lengthOf n table) t → (a b : ℕ) → Uses t a b →
         markAt (marksOf n (stepsInC (limitsAlone low high) (map marking-between calls) (freshIn n before))) (place n a b) ≡ openMark
     unfolding numbers32 whole32
-    three-optimal-open-between-in-C table whole limits =
-        three-optimal-open-in-C n some most before sized (limitsAlone low high) low-whole (map marking-between calls) table (limits-serve whole limits)
+    three-optimal-open-between-in-C free table whole limits =
+        three-optimal-open-in-C n some most before sized (limitsAlone low high) low-whole (map marking-between calls) free table (limits-serve whole limits)
 
     pub shortest-open-between-in-C : (table : List ℕ) → length table ≡ edgeCount n → Between (whole32 low) (whole32 high) table →
         (t : List ℕ) → Shortest n (lengthOf n table) t → (a b : ℕ) → Uses t a b →
         markAt (marksOf n (stepsInC (limitsAlone low high) (map marking-between calls) (freshIn n before))) (place n a b) ≡ openMark
     unfolding numbers32 whole32
     shortest-open-between-in-C table whole limits =
-        shortest-open-in-C (limitsAlone low high) low-whole (map marking-between calls) table (limits-serve whole limits)
+        shortest-open-in-C n some most before sized (limitsAlone low high) low-whole (map marking-between calls) table (limits-serve whole limits)
 
   -- DEMAND 3 in C: for every n from 4 to 180, every table of n(n - 1)/2 lengths, every list of calls of `revosti_mark_sheet` and every shortest tour, each
   -- edge of the tour is open after the run that starts from the set that `revosti_fresh_marks` left in a buffer for this n. Table and sheets are bytes.
@@ -88,7 +84,7 @@ module _ (n : ℕ) (some : leastPoints ≤ n) (most : n ≤ mostPoints) (before 
       (a b : ℕ) → Uses t a b → openIn n (marksOf n (stepsInC (oneTable table) (map marking calls) (freshIn n before))) a b ≡ true
   unfolding openUpTo
   demand-3-in-C table whole calls t best a b u =
-      ap (opens openMark) (shortest-open-in-C (oneTable table) whole (map marking calls) (whole32 table) (one-serves whole) t best a b u)
+      ap (opens openMark) (shortest-open-in-C n some most before sized (oneTable table) whole (map marking calls) (whole32 table) (one-serves whole) t best a b u)
 
 -- DEMAND 3: for every n from 4 to 180, every table of n(n - 1)/2 lengths, every list of calls of *mark a sheet* and every shortest tour, each
 -- edge of the tour is open after the run that starts from the marks that *fresh marks* left in a buffer for this n.
@@ -99,4 +95,4 @@ pub demand-3 :
 unfolding openUpTo
 demand-3 n some most table whole before sized calls t best a b u =
     ap (opens openMark)
-    (keeps-shortest n (oneTable table) _ (three-optimal-open n some most (oneTable table) whole before sized (map marking calls)) table (one-serves whole) t best a b u)
+    (shortest-open n some most (oneTable table) whole before sized (map marking calls) table (one-serves whole) t best a b u)

@@ -19,10 +19,11 @@ use Rattle.marks.specs.Fresh.{freshMarks}
 use Rattle.marks.specs.Mark.{openIn, markIn}
 use Rattle.marks.proofs.FreshMarks.{fresh-size, fresh-open}
 use Rattle.rules.specs.Pair.{FeasiblePair}
-use Rattle.tours.specs.Tour.{Uses, ThreeOptimal, Symmetric}
+use Rattle.tours.specs.Tour.{Tour, Uses, ThreeOptimal, Symmetric}
 use Rattle.tours.proofs.Edges.{inside-cons, has-sym}
 use Rattle.tours.proofs.TourNeighbours.{tour-edge}
-use Rattle.argument.specs.Safety.{Upheld, Guarded}
+use Rattle.segments.specs.Segment.{Reorders}
+use Rattle.argument.specs.Safety.{HasOrder, Upheld, Guarded}
 use Rattle.argument.specs.Sheet.{sheet}
 use Rattle.argument.proofs.Safe.{sheet-safe}
 use Rattle.sheets.specs.Rules.{rulesBetween, markingBetween}
@@ -44,7 +45,17 @@ pub record Kept (n : ℕ) (t marks : List ℕ) : Type 0 where
   pub whole : length marks ≡ edgeCount n
   pub all-open : (a b : ℕ) → Uses t a b → openIn n marks a b ≡ true
 
-module _ {n : ℕ} {low high table t : List ℕ} (some : leastPoints ≤ n) (limits : LengthsBetween n low high table) (best : ThreeOptimal n (lengthOf n table) t) where
+-- fresh marks are all open
+pub fresh-kept : {n : ℕ} {t : List ℕ} → leastPoints ≤ n → Tour n t → Kept n t (freshMarks n)
+fresh-kept {n} some tour = record { whole = fresh-size n; all-open = λ a b u. fresh-open (tour-edge tour (omega arith) a b u) }
+
+-- `Orders` says whether new orders of segments may occur (02, Paper 10): where it does, none settles edges that the tour uses, over lengths between which the table's lie
+abbrev pub OutOfReach : (n : ℕ) (table t : List ℕ) (Orders : Type 0) → Type 0
+OutOfReach n table t Orders =
+    (out put : List ℕ) → LengthsBetween n out put table → Orders → (K : List Edge) (u v : ℕ) (vs : List ℕ) → InTour t K → Reorders (lengthOf n out) (lengthOf n put) K u v vs → ⊥
+
+module _ {n : ℕ} {low high table t : List ℕ} {Orders : Type 0} (some : leastPoints ≤ n) (limits : LengthsBetween n low high table) (best : ThreeOptimal n (lengthOf n table) t)
+    (reach : OutOfReach n table t Orders) where
   symmetric : Symmetric (lengthOf n table)
   symmetric = length-symmetric n table
 
@@ -60,11 +71,12 @@ module _ {n : ℕ} {low high table t : List ℕ} (some : leastPoints ≤ n) (lim
         (S .x, S .y, feasible-over (limits .under) (limits .over) (S .feasible), inside-cons (edge c (S .y) ∷ K) (closedEdges t) c (S .x) (S .uses-x) (inside-cons K (closedEdges t) c (S .y) (S .uses-y) uses))
 
     -- a closing that settles over low and high settles under the table, and none settles edges of the tour
-    upheld : Upheld (rulesBetween n low high marks) (InTour t)
+    upheld : Upheld (rulesBetween n low high marks) (InTour t) Orders
     upheld =
         record {
           keeps = λ K c uses p. own K c uses (optimal-feasible best symmetric (openIn n marks) K (kept .all-open) uses (omega arith) c p);
           unsettled = λ K p q r s uses c. optimal-not-closed best symmetric K uses p q r s (closes-under (limits .under) (limits .over) c);
+          unordered = reach low high limits;
         }
 
     -- another mark for an edge that the tour does not use leaves the tour's edges open
@@ -79,7 +91,7 @@ module _ {n : ℕ} {low high table t : List ℕ} (some : leastPoints ≤ n) (lim
         used c d u (inl s) = rw (s .0, s .1) u
         used c d u (inr s) = has-sym (closedEdges t) b a (rw (s .0, s .1) u)
 
-  pub guarded : (by : ℕ) → Guarded (markingBetween by n low high) (InTour t) (Kept n t)
+  pub guarded : (by : ℕ) → Guarded (markingBetween by n low high) (InTour t) Orders (Kept n t)
   guarded by =
       record {
         lawful = λ m k. lawful-between n low high m;
@@ -87,17 +99,13 @@ module _ {n : ℕ} {low high table t : List ℕ} (some : leastPoints ≤ n) (lim
         spares = λ m a b k pa pb ne o unused. spared m k by a b (record { first = pa; second = pb; apart = ne }) unused;
       }
 
-  -- fresh marks are all open
-  pub fresh-kept : Kept n t (freshMarks n)
-  fresh-kept = record { whole = fresh-size n; all-open = λ a b u. fresh-open (used-edge a b u) }
-
   -- what the tests of a call come to: a refusal changes no mark, and a call that passes states the n of the tables
-  pub tested-kept : (by : ℕ) (s marks : List ℕ) → Kept n t marks → (r : Tested) → ((p : ℕ) → r ≡ Points p → p ≡ n) → Kept n t (markTested by r low high marks s .marks)
-  tested-kept by s marks kept (Refused k) same = kept
-  tested-kept by s marks kept (Points p) same = sized (wholeSheet (length s))
+  pub tested-kept : (by : ℕ) (s marks : List ℕ) → (HasOrder s → Orders) → Kept n t marks → (r : Tested) → ((p : ℕ) → r ≡ Points p → p ≡ n) → Kept n t (markTested by r low high marks s .marks)
+  tested-kept by s marks may kept (Refused k) same = kept
+  tested-kept by s marks may kept (Points p) same = sized (wholeSheet (length s))
     where
       marked : Kept n t (sheet (markingBetween by n low high) s marks .marks)
-      marked = sheet-safe (markingBetween by n low high) (InTour t) (Kept n t) (guarded by) s marks kept
+      marked = sheet-safe (markingBetween by n low high) (InTour t) Orders (Kept n t) (guarded by) s may marks kept
 
       sized : (b : Bool) → Kept n t (unless b (turnedDown 7 marks) (sheet (markingBetween by p low high) s marks) .marks)
       sized true = subst (λ (q : ℕ). Kept n t (sheet (markingBetween by q low high) s marks .marks)) (sym (same p refl)) marked

@@ -6,10 +6,13 @@ use mathlib.Core.Path.{_≡_, refl, _∙_, ap}
 use mathlib.Core.Logic.{⊎-elim}
 use mathlib.Core.List.{List, [], _∷_}
 use native.Mathlib.Omega.{arith}
+use Rattle.lists.specs.Count.{count}
 use Rattle.lengths.specs.Edge.{Edge, edge, Point}
 use Rattle.lengths.specs.Table.{lengthOf}
 use Rattle.lengths.proofs.Tables.{length-symmetric}
 use Rattle.closings.specs.ClosingTest.{threeOptOutcome, refusalOf}
+use Rattle.tours.proofs.Bit.{same-self}
+use Rattle.tours.proofs.Count.{count-cons}
 use Rattle.sets.specs.EdgeSet.{Has, withPair}
 use Rattle.marks.specs.Mark.{openIn}
 use Rattle.rules.specs.Pairs.{feasiblePairs}
@@ -22,7 +25,8 @@ use Rattle.rules.proofs.PairLists.{feasiblePairs-rising}
 use Rattle.rules.proofs.PairTests.{feasiblePairs-iff}
 use Rattle.rules.proofs.Unmoving.{single-unmovable}
 use Rattle.rules.specs.Pair.{Unmovable}
-use Rattle.argument.specs.Rules.{NamesFeasible, Reached, single, grown, Lawful}
+use Rattle.segments.proofs.SegmentExact.{reorder-sound, reorder-complete, reordering-number, reorders-points}
+use Rattle.argument.specs.Rules.{Points, NamesFeasible, Reached, single, grown, Lawful}
 use Rattle.sheets.specs.Rules.{rulesWhere, rulesBetween, rulesOf}
 
 zero-settled : (c : ThreeOptOutcome) → refusalOf c ≡ 0 → c ≡ Settled
@@ -47,6 +51,14 @@ Within n K = (u v : ℕ) → Has K u v → Point n u × Point n v
 
 within-edge : {n a b : ℕ} (K : List Edge) → Point n a → Point n b → Within n K → Within n (edge a b ∷ K)
 within-edge K p q w u v h = ⊎-elim (⊎-elim (λ e. (rw (e .0) at p, rw (e .1) at q)) (λ e. (rw (e .1) at q, rw (e .0) at p))) (w u v) h
+
+-- numbers each of which is a point
+all-points : {n : ℕ} (vs : List ℕ) → ((x : ℕ) → 1 ≤ count x vs → Point n x) → Points n vs
+all-points [] h = tt
+all-points (v ∷ vs) h = (
+  h v (omega (arith, count-cons v v vs, same-self v)),
+  all-points vs (λ x k. h x (omega (arith, k, count-cons x v vs))),
+)
 
 module _ (n : ℕ) (out put : List ℕ) (open? : ℕ → ℕ → Bool) where
   reached-shape : {K : List Edge} → Reached (rulesWhere n out put open?) K → Shape n K
@@ -86,6 +98,13 @@ module _ (n : ℕ) (out put : List ℕ) (open? : ℕ → ℕ → Bool) where
             let w = reached-within reached in
             let x = c .moves in
             (w p q (x .edge-of-K) .0, w p q (x .edge-of-K) .1, w r (c .x) (x .ends-r .has-x) .0, w s (c .z) (x .ends-s .has-x) .0);
+        reordered = λ K u v vs reached there zero-by. reorder-sound (reached-shape reached) u v (lengthOf n out) (lengthOf n put) vs there zero-by;
+        has-segment = λ K u v vs reached R. reorder-complete (reached-shape reached) u v (lengthOf n out) (lengthOf n put) vs R .0;
+        reorders = λ K u v vs reached R. reorder-complete (reached-shape reached) u v (lengthOf n out) (lengthOf n put) vs R .1;
+        reorder-points = λ K u v vs reached R.
+            let p = reorders-points {vs = vs} (Point n) (λ a b h. reached-within reached a b h .0) R in
+            (p .0, p .1, all-points vs (p .2));
+        reordering-number = reordering-number (lengthOf n out) (lengthOf n put);
         closing-number = λ K p q r s. refused-number (threeOptOutcome (lengthOf n out) (lengthOf n put) K p q r s);
       }
 

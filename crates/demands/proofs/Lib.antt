@@ -25,6 +25,7 @@ pub mod Optimal
 pub mod OwnTurns
 pub mod PackedRuns
 pub mod Pages
+pub mod Reordered
 pub mod Runs
 pub mod SavingsInC
 pub mod SheetLines

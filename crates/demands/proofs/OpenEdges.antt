@@ -1,4 +1,4 @@
--- What marks that keep tours keep besides (02, Paper 9): shortest tours, at least two open edges at every point, and at least n open edges. A shortest tour exists
+-- What marks that keep shortest tours keep besides (02, Paper 9): at least two open edges at every point, and at least n open edges. A shortest tour exists
 -- under every table, and a tour has two edges at each point and n different edges. Assumes nothing.
 use Prim.Native.Nat.{ℕ, _≤_}
 use mathlib.Core.Path.{_≡_, refl, _∙_, ap}
@@ -14,11 +14,10 @@ use Rattle.sets.specs.EdgeSet.{Joins, Has, closedEdges}
 use Rattle.marks.specs.Mark.{struckMark, openMark, opens, openUpTo, openIn, openCount, strikeIn}
 use Rattle.marks.specs.Degree.{openDegree}
 use Rattle.marks.proofs.Degrees.{degree-two}
-use Rattle.tours.specs.Tour.{Tour, Uses, Shortest, ThreeOptimal, total, tourLength}
+use Rattle.tours.specs.Tour.{Tour, Uses, Shortest, total, tourLength}
 use Rattle.tours.proofs.Count.{tour-once, tour-length}
 use Rattle.tours.proofs.Edges.{mark, mark-true, has-total, one, length-one}
 use Rattle.tours.proofs.TourNeighbours.{tour-edge, uses-once, TourNeighbours, tour-neighbours}
-use Rattle.tours.proofs.ThreeOptimal.{shortest-optimal}
 use Rattle.demands.specs.Keeping.{Serves, KeepsTours}
 use Rattle.demands.specs.Run.{Tables}
 use Rattle.demands.proofs.Exists.{shortest-exists}
@@ -67,10 +66,6 @@ module _ {n : ℕ} (some : leastPoints ≤ n) {t : List ℕ} (T : Tour n t) (mar
       )
 
 module _ (n : ℕ) (T : Tables) (marks : List ℕ) where
-  -- a shortest tour is 3-optimal
-  pub keeps-shortest : KeepsTours ThreeOptimal n T marks → KeepsTours Shortest n T marks
-  keeps-shortest keeps table served t best = keeps table served t (shortest-optimal best)
-
   module _ (some : leastPoints ≤ n) {table : List ℕ} (served : Serves n T table) (keeps : KeepsTours Shortest n T marks) where
     -- the edges of a tour that is shortest under a table which the marks serve
     all-open : (a b : ℕ) → Uses (shortest-exists n (lengthOf n table) .0) a b → openIn n marks a b ≡ true

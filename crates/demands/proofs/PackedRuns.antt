@@ -5,7 +5,7 @@ use mathlib.Core.Path.{_≡_, refl, sym, _∙_, ap, subst}
 use mathlib.Core.List.{List, [], _∷_, map}
 use native.Mathlib.Omega.{arith}
 use lib.ListN.{length}
-use Rattle.endian.specs.Bytes.{whole16, whole32}
+use Rattle.endian.specs.Bytes.{whole32}
 use Rattle.lengths.specs.Edge.{edgeCount}
 use Rattle.lengths.specs.Instance.{leastPoints, mostPoints}
 use Rattle.marks.specs.Fresh.{freshMarks}
@@ -15,17 +15,17 @@ use Rattle.marks.specs.Pending.{settledAnswer}
 use Rattle.marks.proofs.FreshMarks.{fresh-set-left, fresh-byte-set}
 use Rattle.marks.proofs.PackedSets.{marks-packed}
 use Rattle.marks.proofs.Settling.{settled-byte-set}
-use Rattle.tours.specs.Tour.{ThreeOptimal}
+use Rattle.tours.specs.Tour.{Shortest, ThreeOptimal}
 use Rattle.argument.specs.Sheet.{run}
 use Rattle.argument.proofs.Safe.{run-keeps}
 use Rattle.limits.specs.Mark.{markBetween}
 use Rattle.limits.specs.Tests.{readyBetween}
 use Rattle.marking.proofs.PackedSheets.{mark-byte-set, tested-byte-set}
-use Rattle.demands.specs.Keeping.{KeepsTours}
-use Rattle.demands.specs.Run.{Tables, Call, Step, marking, asking, confirming, withdrawing, marking-between, turning, stepped, stepsOf, steppedPacked, stepsPacked, steppedInC, stepsInC, lengthsIn, freshIn}
+use Rattle.demands.specs.Keeping.{OrderFree, KeepsTours}
+use Rattle.demands.specs.Run.{Tables, Step, marking, asking, confirming, withdrawing, marking-between, turning, stepped, stepsOf, steppedPacked, stepsPacked, steppedInC, stepsInC, stepIn, lengthsIn, freshIn}
 use Rattle.demands.proofs.DeskTurns.{turn-stays}
 use Rattle.demands.proofs.OnPacked.{mark-on-packed, mark-between-on-packed, settle-on-packed, turn-on-packed}
-use Rattle.demands.proofs.Runs.{run-open}
+use Rattle.demands.proofs.Runs.{run-open, run-shortest}
 use Rattle.demands.proofs.Sizes.{in-limits}
 
 module _ {p : ℕ} (some : leastPoints ≤ p) (T : Tables) where
@@ -59,18 +59,7 @@ module _ {p : ℕ} (some : leastPoints ≤ p) (T : Tables) where
   run-held steps m b = ap (marksOf p) (run-on-packed steps m b) ∙ marks-packed (run-keeps (ByteSet p) (stepped T) step-stays steps m b)
 
 -- a step over bytes is a step over the numbers that they are
-abbrev decodedCall : Call → Call
-decodedCall call = record { n = call .n; sheet = whole16 (call .sheet) }
-
-abbrev decoded : Step → Step
-decoded (marking call) = marking (decodedCall call)
-decoded (asking call) = asking (decodedCall call)
-decoded (confirming n) = confirming n
-decoded (withdrawing n) = withdrawing n
-decoded (marking-between call) = marking-between (decodedCall call)
-decoded (turning state call) = turning state (decodedCall call)
-
-step-decoded : (T : Tables) (step : Step) (set : List ℕ) → steppedInC T step set ≡ steppedPacked (lengthsIn T) (decoded step) set
+step-decoded : (T : Tables) (step : Step) (set : List ℕ) → steppedInC T step set ≡ steppedPacked (lengthsIn T) (stepIn step) set
 step-decoded T (marking call) set = refl
 step-decoded T (asking call) set = refl
 step-decoded T (confirming n) set = refl
@@ -78,7 +67,7 @@ step-decoded T (withdrawing n) set = refl
 step-decoded T (marking-between call) set = refl
 step-decoded T (turning state call) set = refl
 
-steps-decoded : (T : Tables) (steps : List Step) (set : List ℕ) → stepsInC T steps set ≡ stepsPacked (lengthsIn T) (map decoded steps) set
+steps-decoded : (T : Tables) (steps : List Step) (set : List ℕ) → stepsInC T steps set ≡ stepsPacked (lengthsIn T) (map stepIn steps) set
 unfolding run
 steps-decoded T [] set = refl
 steps-decoded T (step ∷ steps) set = ap (stepsInC T steps) (step-decoded T step set) ∙ steps-decoded T steps _
@@ -90,13 +79,23 @@ module _ (n : ℕ) (some : leastPoints ≤ n) (most : n ≤ mostPoints) (before 
       ap (λ (s : List ℕ). marksOf n (stepsPacked T steps s)) (fresh-set-left n before (in-limits some most) sized)
       ∙ run-held some T steps (freshMarks n) (fresh-byte-set n)
 
-  -- THE RUN of packed sets, from the set that *fresh marks* left in a buffer for this n: each edge of a tour that is 3-optimal under a table which the marks serve has mark 1
-  pub three-optimal-open-packed : (T : Tables) → length (T .low) ≡ edgeCount n → (steps : List Step) → KeepsTours ThreeOptimal n T (marksOf n (stepsPacked T steps (freshIn n before)))
-  three-optimal-open-packed T low-whole steps = subst (KeepsTours ThreeOptimal n T) (sym (held-after T steps)) (run-open n some T low-whole steps)
+  -- THE RUN of packed sets, from the set that *fresh marks* left in a buffer for this n: each edge of a tour that is shortest under a table which the marks serve has mark 1, and
+  -- of one that is 3-optimal where no sheet has a record of kind 4
+  module _ (T : Tables) (low-whole : length (T .low) ≡ edgeCount n) (steps : List Step) where
+    pub three-optimal-open-packed : OrderFree steps → KeepsTours ThreeOptimal n T (marksOf n (stepsPacked T steps (freshIn n before)))
+    three-optimal-open-packed free = subst (KeepsTours ThreeOptimal n T) (sym (held-after T steps)) (run-open n some T low-whole steps free)
+
+    pub shortest-open-packed : KeepsTours Shortest n T (marksOf n (stepsPacked T steps (freshIn n before)))
+    shortest-open-packed = subst (KeepsTours Shortest n T) (sym (held-after T steps)) (run-shortest n some T low-whole steps)
 
   -- THE RUN of the functions for C, from the set that `revosti_fresh_marks` left: tables and sheets are bytes, and the lengths are those that the tables' bytes are
-  pub three-optimal-open-in-C : (T : Tables) → length (whole32 (T .low)) ≡ edgeCount n → (steps : List Step) →
-      KeepsTours ThreeOptimal n (lengthsIn T) (marksOf n (stepsInC T steps (freshIn n before)))
-  three-optimal-open-in-C T low-whole steps =
-      subst (λ (s : List ℕ). KeepsTours ThreeOptimal n (lengthsIn T) (marksOf n s)) (sym (steps-decoded T steps (freshIn n before)))
-      (three-optimal-open-packed (lengthsIn T) low-whole (map decoded steps))
+  module _ (T : Tables) (low-whole : length (whole32 (T .low)) ≡ edgeCount n) (steps : List Step) where
+    pub three-optimal-open-in-C : OrderFree (map stepIn steps) → KeepsTours ThreeOptimal n (lengthsIn T) (marksOf n (stepsInC T steps (freshIn n before)))
+    three-optimal-open-in-C free =
+        subst (λ (s : List ℕ). KeepsTours ThreeOptimal n (lengthsIn T) (marksOf n s)) (sym (steps-decoded T steps (freshIn n before)))
+        (three-optimal-open-packed (lengthsIn T) low-whole (map stepIn steps) free)
+
+    pub shortest-open-in-C : KeepsTours Shortest n (lengthsIn T) (marksOf n (stepsInC T steps (freshIn n before)))
+    shortest-open-in-C =
+        subst (λ (s : List ℕ). KeepsTours Shortest n (lengthsIn T) (marksOf n s)) (sym (steps-decoded T steps (freshIn n before)))
+        (shortest-open-packed (lengthsIn T) low-whole (map stepIn steps))

@@ -3,14 +3,15 @@
 use Prim.Native.Nat.{ℕ, _≤_}
 use mathlib.Core.Path.{_≡_, refl, sym, _∙_, ap, subst}
 use mathlib.Core.Logic.{_⊎_, inl, inr}
-use mathlib.Core.List.{List, []}
+use mathlib.Core.List.{List, [], _∷_}
 use native.Mathlib.Omega.{arith}
 use lib.ListN.{length}
 use Rattle.lengths.specs.Edge.{edgeCount, place}
 use Rattle.lengths.specs.Instance.{leastPoints, mostPoints}
 use Rattle.lengths.specs.Table.{lengthOf}
+use Rattle.lengths.proofs.Tables.{length-symmetric}
 use Rattle.marks.specs.Fresh.{freshMarks}
-use Rattle.marks.specs.Mark.{struckMark, openMark, pendingMark, openUpTo}
+use Rattle.marks.specs.Mark.{markAt, struckMark, openMark, pendingMark, openUpTo}
 use Rattle.marks.specs.Pending.{settledAnswer, settledLeft}
 use Rattle.marks.specs.declared.pending.Settled.{Settled}
 use Rattle.marks.specs.declared.pending.Settled.the-variants as settling
@@ -18,8 +19,10 @@ use Rattle.marks.proofs.FreshMarks.{fresh-left}
 use Rattle.marks.proofs.Marks.{open-mark}
 use Rattle.marks.proofs.PackedSets.{some-edges}
 use Rattle.marks.proofs.PendingMarks.{settled-size, settled-open}
-use Rattle.tours.specs.Tour.{ThreeOptimal}
-use Rattle.argument.proofs.Safe.{run-keeps}
+use Rattle.tours.specs.Tour.{Uses, Shortest, ThreeOptimal}
+use Rattle.tours.proofs.ThreeOptimal.{shortest-optimal}
+use Rattle.argument.specs.Safety.{HasOrder}
+use Rattle.argument.specs.Sheet.{run}
 use Rattle.limits.proofs.LimitWays.{passed-ready}
 use Rattle.limits.specs.Mark.{markBetween}
 use Rattle.limits.specs.Tests.{readyBetween}
@@ -28,21 +31,37 @@ use Rattle.marking.specs.Mark.{markTested, markBy}
 use Rattle.marking.specs.Tests.{ready}
 use Rattle.marking.specs.declared.tests.Tested.{Tested}
 use Rattle.marking.specs.declared.tests.Tested.the-variants.{Points, Refused}
-use Rattle.demands.specs.Keeping.{Ordered, Serves, KeepsTours}
+use Rattle.demands.specs.Keeping.{Ordered, Serves, StepOrder, OrderFree, KeepsTours}
 use Rattle.demands.specs.Run.{Tables, Call, Step, marking, asking, confirming, withdrawing, marking-between, turning, stepped, stepsOf, freshFrom}
 use Rattle.demands.proofs.DeskTurns.{turn-kept}
-use Rattle.demands.proofs.Kept.{Kept, fresh-kept, tested-kept}
+use Rattle.demands.proofs.Kept.{Kept, OutOfReach, fresh-kept, tested-kept}
 use Rattle.demands.proofs.Monotone.{LengthsBetween, lengths-between, lengths-same}
+use Rattle.demands.proofs.Reordered.{shortest-not-reordered}
 use Rattle.demands.proofs.Sizes.{edge-count-injective, in-limits}
 
+-- new orders may occur in each step that has one
+unfoldable Allowed : (Orders : Type 0) → List Step → Type 0
+Allowed Orders [] = Unit {0}
+Allowed Orders (step ∷ steps) = (StepOrder step → Orders) × Allowed Orders steps
+
+free-allowed : (steps : List Step) → OrderFree steps → Allowed ⊥ steps
+unfolding OrderFree Allowed
+free-allowed [] free = tt
+free-allowed (step ∷ steps) free = (free .0, free-allowed steps (free .1))
+
+all-allowed : (steps : List Step) → Allowed (Unit {0}) steps
+unfolding Allowed
+all-allowed [] = tt
+all-allowed (step ∷ steps) = (λ o. tt, all-allowed steps)
+
 module _ {n : ℕ} (T : Tables) (some : leastPoints ≤ n) (low-whole : length (T .low) ≡ edgeCount n) {table : List ℕ} (served : Serves n T table) {t : List ℕ}
-    (best : ThreeOptimal n (lengthOf n table) t) where
+    (best : ThreeOptimal n (lengthOf n table) t) {Orders : Type 0} (reach : OutOfReach n table t Orders) where
   -- a sheet leaves the tour's edges open, marked or asked, whatever n and records it states: where its tests pass, they answer n, and the lengths by which the
   -- tour is 3-optimal lie between those of what is taken out and of what is put in
-  call-kept : (by : ℕ) (out put s marks : List ℕ) → Kept n t marks → (r : Tested) → ((p : ℕ) → r ≡ Points p → (p ≡ n) × LengthsBetween n out put table) →
+  call-kept : (by : ℕ) (out put s : List ℕ) → (HasOrder s → Orders) → (marks : List ℕ) → Kept n t marks → (r : Tested) → ((p : ℕ) → r ≡ Points p → (p ≡ n) × LengthsBetween n out put table) →
       Kept n t (markTested by r out put marks s .marks)
-  call-kept by out put s marks kept (Refused k) told = kept
-  call-kept by out put s marks kept (Points p) told = tested-kept some (told p refl .1) best by s marks kept (Points p) (λ q e. told q e .0)
+  call-kept by out put s may marks kept (Refused k) told = kept
+  call-kept by out put s may marks kept (Points p) told = tested-kept some (told p refl .1) best reach by s marks may kept (Points p) (λ q e. told q e .0)
 
   -- a call over the board's own table that passes states its n; over no table none passes
   own-passed : (m : ℕ) (marks : List ℕ) (p : ℕ) → ready m (T .own) marks ≡ Points p → (p ≡ n) × LengthsBetween n (T .own) (T .own) table
@@ -71,9 +90,9 @@ module _ {n : ℕ} (T : Tables) (some : leastPoints ≤ n) (low-whole : length (
       same : p ≡ n
       same = edge-count-injective p n (omega (arith, limited .listable .least)) (omega arith) (sym (limited .listable .limits .out-lengths .whole) ∙ low-whole)
 
-  sheet-kept : (by : ℕ) (call : Call) (marks : List ℕ) → Kept n t marks → Kept n t (markBy by (call .n) (T .own) marks (call .sheet) .marks)
+  sheet-kept : (by : ℕ) (call : Call) → (HasOrder (call .sheet) → Orders) → (marks : List ℕ) → Kept n t marks → Kept n t (markBy by (call .n) (T .own) marks (call .sheet) .marks)
   unfolding markBy
-  sheet-kept by call marks kept = call-kept by (T .own) (T .own) (call .sheet) marks kept (ready (call .n) (T .own) marks) (own-passed (call .n) marks)
+  sheet-kept by call may marks kept = call-kept by (T .own) (T .own) (call .sheet) may marks kept (ready (call .n) (T .own) marks) (own-passed (call .n) marks)
 
   -- confirming and withdrawing change pending marks alone, and the tour's edges have mark 1
   settle-kept : (mark : ℕ) (marks : List ℕ) → Kept n t marks → (r : Settled) → Kept n t (settledLeft r mark marks)
@@ -81,21 +100,27 @@ module _ {n : ℕ} (T : Tables) (some : leastPoints ≤ n) (low-whole : length (
   settle-kept mark marks kept settling.Done =
       record { whole = settled-size mark marks ∙ kept .whole; all-open = λ a b u. settled-open mark n marks a b (kept .all-open a b u) }
 
-  step-kept : (step : Step) (marks : List ℕ) → Kept n t marks → Kept n t (stepped T step marks)
+  step-kept : (step : Step) → (StepOrder step → Orders) → (marks : List ℕ) → Kept n t marks → Kept n t (stepped T step marks)
   unfolding markBetween
-  step-kept (marking call) marks kept = sheet-kept struckMark call marks kept
-  step-kept (asking call) marks kept = sheet-kept pendingMark call marks kept
-  step-kept (confirming m) marks kept = settle-kept struckMark marks kept (settledAnswer m marks)
-  step-kept (withdrawing m) marks kept = settle-kept openMark marks kept (settledAnswer m marks)
-  step-kept (marking-between call) marks kept =
-      call-kept struckMark (T .low) (T .high) (call .sheet) marks kept (readyBetween (call .n) (T .low) (T .high) marks) (between-passed (call .n) marks)
-  step-kept (turning state call) marks kept = turn-kept some best state (call .n) (T .own) (call .sheet) marks kept (own-passed (call .n) marks)
+  step-kept (marking call) may marks kept = sheet-kept struckMark call may marks kept
+  step-kept (asking call) may marks kept = sheet-kept pendingMark call may marks kept
+  step-kept (confirming m) may marks kept = settle-kept struckMark marks kept (settledAnswer m marks)
+  step-kept (withdrawing m) may marks kept = settle-kept openMark marks kept (settledAnswer m marks)
+  step-kept (marking-between call) may marks kept =
+      call-kept struckMark (T .low) (T .high) (call .sheet) may marks kept (readyBetween (call .n) (T .low) (T .high) marks) (between-passed (call .n) marks)
+  step-kept (turning state call) may marks kept = turn-kept some best reach state (call .n) (T .own) (call .sheet) may marks kept (own-passed (call .n) marks)
 
-  run-kept : (steps : List Step) → Kept n t (stepsOf T steps (freshMarks n))
-  run-kept steps = run-keeps (Kept n t) (stepped T) step-kept steps (freshMarks n) (fresh-kept some (lengths-same {table = table}) best)
+  steps-kept : (steps : List Step) → Allowed Orders steps → (marks : List ℕ) → Kept n t marks → Kept n t (stepsOf T steps marks)
+  unfolding run Allowed
+  steps-kept [] may marks kept = kept
+  steps-kept (step ∷ steps) may marks kept = steps-kept steps (may .1) (stepped T step marks) (step-kept step (may .0) marks kept)
+
+  run-kept : (steps : List Step) → Allowed Orders steps → (a b : ℕ) → Uses t a b → markAt (stepsOf T steps (freshMarks n)) (place n a b) ≡ openMark
+  unfolding openUpTo
+  run-kept steps may a b u = open-mark _ (place n a b) (steps-kept steps may (freshMarks n) (fresh-kept some (best .tour)) .all-open a b u)
 
 -- THE RUN: for every n from 4 to 180, all tables of a run whose low one has n(n - 1)/2 lengths, and every list of steps, each with the n it states, the marks that it
--- leaves have mark 1 at each edge of every tour that is 3-optimal under a table which they serve.
+-- leaves have mark 1 at each edge of every tour that is 3-optimal under a table which they serve, if no sheet has a record of kind 4 (02, Paper 10).
 -- On fresh marks all edges of the tour are open. Suppose that they are open before a step. If the step is a sheet that is refused before its
 -- first line, no mark changes. If not, it states the n of the tables, since n(n - 1)/2 tells n, and its lines are judged one after the other. An
 -- accepted line has a closed argument for its edge ab. If the tour used ab, its own two neighbours of each split point would be a feasible pair under the table, and
@@ -103,12 +128,27 @@ module _ {n : ℕ} (T : Tables) (some : leastPoints ≤ n) (low-whole : length (
 -- closing would settle a set of edges that the tour uses, over low and high and so under the table (`closes-under`), and one of its two moves would shorten the
 -- tour. So ab is no edge of the tour, and another mark for ab leaves the tour's edges open. A turn marks one such line at most. Confirming and withdrawing change
 -- pending marks alone, and no edge of the tour has one.
-pub run-open : (n : ℕ) → leastPoints ≤ n → (T : Tables) → length (T .low) ≡ edgeCount n → (steps : List Step) → KeepsTours ThreeOptimal n T (stepsOf T steps (freshMarks n))
-unfolding openUpTo
-run-open n some T low-whole steps table served t best a b u = open-mark _ (place n a b) (run-kept T some low-whole served best steps .all-open a b u)
+pub run-open : (n : ℕ) → leastPoints ≤ n → (T : Tables) → length (T .low) ≡ edgeCount n → (steps : List Step) → OrderFree steps →
+    KeepsTours ThreeOptimal n T (stepsOf T steps (freshMarks n))
+run-open n some T low-whole steps free table served t best =
+    run-kept T some low-whole served best {Orders = ⊥} (λ out put between may. absurd may) steps (free-allowed steps free)
+
+-- and of every tour that is shortest, whatever records the sheets have: it is 3-optimal, and no new order settles edges that it uses (`shortest-not-reordered`)
+pub run-shortest : (n : ℕ) → leastPoints ≤ n → (T : Tables) → length (T .low) ≡ edgeCount n → (steps : List Step) →
+    KeepsTours Shortest n T (stepsOf T steps (freshMarks n))
+run-shortest n some T low-whole steps table served t best =
+    run-kept T some low-whole served (shortest-optimal best) {Orders = Unit {0}}
+    (λ out put between may K u v vs uses R. shortest-not-reordered (between .under) (between .over) (length-symmetric n table) best uses R) steps (all-allowed steps)
 
 -- from the marks that *fresh marks* left in a buffer for this n
-pub three-optimal-open : (n : ℕ) → leastPoints ≤ n → n ≤ mostPoints → (T : Tables) → length (T .low) ≡ edgeCount n → (before : List ℕ) → length before ≡ edgeCount n →
-    (steps : List Step) → KeepsTours ThreeOptimal n T (stepsOf T steps (freshFrom n before))
-three-optimal-open n some most T low-whole before sized steps =
-    subst (λ (m : List ℕ). KeepsTours ThreeOptimal n T (stepsOf T steps m)) (sym (fresh-left n before (in-limits some most) sized)) (run-open n some T low-whole steps)
+module _ (n : ℕ) (some : leastPoints ≤ n) (most : n ≤ mostPoints) (T : Tables) (low-whole : length (T .low) ≡ edgeCount n) (before : List ℕ)
+    (sized : length before ≡ edgeCount n) (steps : List Step) where
+  pub three-optimal-open : OrderFree steps → KeepsTours ThreeOptimal n T (stepsOf T steps (freshFrom n before))
+  three-optimal-open free =
+      subst (λ (m : List ℕ). KeepsTours ThreeOptimal n T (stepsOf T steps m)) (sym (fresh-left n before (in-limits some most) sized))
+      (run-open n some T low-whole steps free)
+
+  pub shortest-open : KeepsTours Shortest n T (stepsOf T steps (freshFrom n before))
+  shortest-open =
+      subst (λ (m : List ℕ). KeepsTours Shortest n T (stepsOf T steps m)) (sym (fresh-left n before (in-limits some most) sized))
+      (run-shortest n some T low-whole steps)

@@ -80,6 +80,18 @@ steppedInC T (turning state call) set = turnInC state (call .n) (T .own) set (ca
 abbrev pub stepsInC : Tables → List Step → List ℕ → List ℕ
 stepsInC T = run (steppedInC T)
 
+-- the step over the numbers that its sheet's bytes are
+abbrev pub callIn : Call → Call
+callIn call = record { n = call .n; sheet = whole16 (call .sheet) }
+
+abbrev pub stepIn : Step → Step
+stepIn (marking call) = marking (callIn call)
+stepIn (asking call) = asking (callIn call)
+stepIn (confirming n) = confirming n
+stepIn (withdrawing n) = withdrawing n
+stepIn (marking-between call) = marking-between (callIn call)
+stepIn (turning state call) = turning state (callIn call)
+
 -- the lengths that the tables' bytes are
 abbrev pub lengthsIn : Tables → Tables
 lengthsIn T = record { low = whole32 (T .low); high = whole32 (T .high); own = whole32 (T .own) }

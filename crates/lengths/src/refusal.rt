@@ -43,6 +43,10 @@ pub const NOTHING_PENDING: u8 = 21;
 
 pub const BUFFER: u8 = 22;
 
+pub const NO_SEGMENT: u8 = 23;
+
+pub const NOT_SHORTER: u8 = 24;
+
 pub const LIMITS: u8 = 25;
 
 pub const PAGE: u8 = 26;

@@ -96,6 +96,10 @@ module _ (R : Rules) (open? : ℕ → ℕ → Bool) (s : List ℕ) (i : ℕ) {r 
   unfolding judgeRecord
   judge-case g = sym (judge-read g)
 
+  pub judge-visit : {v on : ℕ} → r ≡ variant.Visit v on → refused 10 i ≡ judge R open? s i
+  unfolding judgeRecord
+  judge-visit g = sym (judge-read g)
+
   pub judge-other : r ≡ variant.Other → refused 10 i ≡ judge R open? s i
   unfolding judgeRecord
   judge-other g = sym (judge-read g)

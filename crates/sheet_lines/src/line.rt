@@ -113,6 +113,7 @@ pub fn judge(
     match Sheet::record(sheet, i) {
         Record::Line(line) => judge_line(n, out, put, outs, puts, marks, sheet, count, i, line),
         Record::Case(_) => Judged::Refused(refusal::KIND, i),
+        Record::Visit(_, _) => Judged::Refused(refusal::KIND, i),
         Record::Other => Judged::Refused(refusal::KIND, i),
     }
 }

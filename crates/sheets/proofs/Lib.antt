@@ -1,3 +1,4 @@
 pub mod Looking
 pub mod Records
 pub mod Walking
+pub mod Visiting

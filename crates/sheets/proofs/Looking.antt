@@ -14,7 +14,7 @@ use Rattle.search.specs.asks.Pairs.{firstOf}
 use Rattle.search.specs.declared.pairs.NextPair.{NextPair}
 use Rattle.search.specs.declared.pairs.NextPair.the-variants.{Pair, End}
 use Rattle.argument.specs.Verdict.{Verdict, accepted, refused, guard}
-use Rattle.argument.specs.Record.{How, Record, line, case, other, records, recordAt, howFits, fits}
+use Rattle.argument.specs.Record.{How, Record, line, case, visit, other, records, recordAt, howFits, fits}
 use Rattle.argument.specs.Rules.{Rules}
 use Rattle.argument.specs.Walk.{Spot, Step, ends, takes, entering, noneLeft, isNext, readCase, look}
 use Rattle.argument.specs.Layout.{Enters}
@@ -23,7 +23,7 @@ use Rattle.argument.proofs.Steps.{look-entered}
 use Rattle.sheets.specs.asks.Sheet.{howOf, recordOf}
 use Rattle.sheets.specs.asks.Walk.{WholeRecords, pointsOnly, pairsOf, spotOf}
 use Rattle.sheets.specs.declared.sheet.Closing.{Closing}
-use Rattle.sheets.specs.declared.sheet.Closing.the-variants.{Split, ThreeOpt}
+use Rattle.sheets.specs.declared.sheet.Closing.the-variants.{Split, ThreeOpt, Reorder}
 use Rattle.sheets.specs.declared.sheet.Case.{Case}
 use Rattle.sheets.specs.declared.sheet.Line.{Line}
 use Rattle.sheets.specs.declared.sheet.Record as declared
@@ -51,6 +51,17 @@ module _ (n : ℕ) {closing : Closing} {p q r s : ℕ} (e : closing ≡ ThreeOpt
 
   pub three-opt-s : isPoint n p ≡ true → isPoint n q ≡ true → isPoint n r ≡ true → isPoint n s ≡ howFits n (howOf closing)
   three-opt-s hp hq hr = and-go hp (and-go hq (and-go hr refl)) ∙ sym three-opt-is
+
+module _ (n : ℕ) {closing : Closing} {u v first : ℕ} (e : closing ≡ Reorder u v first) where
+  order-is : howFits n (howOf closing) ≡ (isPoint n u && isPoint n v)
+  unfolding howFits
+  order-is = rw e
+
+  pub order-u : isPoint n u ≡ false → false ≡ howFits n (howOf closing)
+  order-u h = and-stop _ h ∙ sym order-is
+
+  pub order-v : isPoint n u ≡ true → isPoint n v ≡ howFits n (howOf closing)
+  order-v h = and-go h refl ∙ sym order-is
 
 module _ (n a b : ℕ) (how : How) where
   pub fits-not-a : isPoint n a ≡ false → false ≡ fits n a b how
@@ -137,6 +148,7 @@ module _ (R : Rules) (s : List ℕ) (left : ℕ) (K : List Edge) (c : ℕ) where
   unfolding readCase
   heads-read pairs last index high (line a b p first next) = refl
   heads-read pairs last index high (case a b how next) = ap (λ (t : Bool). guard (fits (R .n) a b how) 11 index λ _. guard t 14 index λ _. accepted (takes a b how next)) (heads-next pairs a b)
+  heads-read pairs last index high (visit v next) = refl
   heads-read pairs last index high other = refl
 
   pub look-heads : (pairs : List Edge) (last index high : ℕ) → look R s (spot left K c pairs last index high) ≡ look (pointsOnly (R .n)) s (spotOf (firstOf pairs) last index high)
@@ -170,6 +182,10 @@ module _ (R : Rules) (s : List ℕ) (q : Spot) (h : Enters s (q .high) (q .index
   pub look-line : {x : Line} → r ≡ variant.Line x → refused 10 (q .index) ≡ look R s q
   unfolding readCase
   look-line g = sym (look-read g)
+
+  pub look-visit : {v next : ℕ} → r ≡ variant.Visit v next → refused 10 (q .index) ≡ look R s q
+  unfolding readCase
+  look-visit g = sym (look-read g)
 
   pub look-other : r ≡ variant.Other → refused 10 (q .index) ≡ look R s q
   unfolding readCase

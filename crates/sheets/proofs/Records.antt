@@ -10,7 +10,7 @@ use lib.Dec.{leb, eqb}
 use lib.ListN.{length, getD}
 use borrow.Author.Tests.{eq-eqb, ne-eqb, le-leb, lt-leb, leb-true, eqb-true, eqb-false, not-true}
 use Rattle.lists.proofs.Bools.{and-left, and-right}
-use Rattle.argument.specs.Record.{Record, line, case, other, splits, threeOpts, records, field, bare, content, recordAt}
+use Rattle.argument.specs.Record.{Record, line, case, visit, other, splits, threeOpts, reorders, records, field, bare, content, recordAt}
 use Rattle.sheets.specs.Sheet.{wholeSheet, Readable, mostNumbers, mostRecords, recordSize}
 use Rattle.sheets.specs.asks.Sheet.{sheetAdmission}
 use Rattle.sheets.specs.declared.sheet.Sheet.{Sheet}
@@ -119,7 +119,7 @@ bare-is : (u v : ℕ) (r : Record) → u ≡ 0 → v ≡ 0 → bare u v r ≡ r
 unfolding bare
 bare-is u v r h g = rw (bare, h, g)
 
-module _ (kind a b u v c d next : ℕ) (h : kind ≡ 3 → ⊥) where
+module _ (kind a b u v c d next : ℕ) (h : kind ≡ 3 → ⊥) (below : kind ≤ 3) where
   content-not : (eqb u 0 && eqb v 0) ≡ false → content kind a b u v c d next ≡ other
   unfolding content
   content-not g = go (eqb kind 1) (eqb kind 2)
@@ -129,13 +129,19 @@ module _ (kind a b u v c d next : ℕ) (h : kind ≡ 3 → ⊥) where
             | true ↦ bare u v (line a b c d next)
             | false ↦ elim y [
               | true ↦ bare u v (case a b (splits c d) next)
-              | false ↦ elim (eqb kind 3) [ true ↦ case a b (threeOpts u v c d) next | false ↦ other ]
+              | false ↦ elim (eqb kind 3) [
+                | true ↦ case a b (threeOpts u v c d) next
+                | false ↦ elim (eqb kind 4) [
+                  | true ↦ bare c 0 (case a b (reorders u v d) next)
+                  | false ↦ elim (eqb kind 5) [ true ↦ bare b u (bare v c (bare d 0 (visit a next))) | false ↦ other ]
+                ]
+              ]
             ]
           ])
           ≡ other
       go true y = bare-not u v _ g
       go false true = bare-not u v _ g
-      go false false = rw (ne-eqb kind 3 h)
+      go false false = rw (ne-eqb kind 3 h, ne-eqb kind 4 (λ e. omega arith), ne-eqb kind 5 (λ e. omega arith))
 
 -- what the numbers mean, by the kind and by u and v
 module _ (kind a b u v c d next : ℕ) where
@@ -143,11 +149,11 @@ module _ (kind a b u v c d next : ℕ) where
   unfolding content
   exchange-content h = sym (ap (λ (k : ℕ). content k a b u v c d next) h)
 
-  pub other-u : (kind ≡ 3 → ⊥) → (u ≡ 0 → ⊥) → other ≡ content kind a b u v c d next
-  other-u h g = sym (content-not kind a b u v c d next h (rw (ne-eqb u 0 g)))
+  pub other-u : (kind ≡ 3 → ⊥) → kind ≤ 3 → (u ≡ 0 → ⊥) → other ≡ content kind a b u v c d next
+  other-u h l g = sym (content-not kind a b u v c d next h l (rw (ne-eqb u 0 g)))
 
-  pub other-v : (kind ≡ 3 → ⊥) → u ≡ 0 → (v ≡ 0 → ⊥) → other ≡ content kind a b u v c d next
-  other-v h e g = sym (content-not kind a b u v c d next h (rw (e, ne-eqb v 0 g)))
+  pub other-v : (kind ≡ 3 → ⊥) → kind ≤ 3 → u ≡ 0 → (v ≡ 0 → ⊥) → other ≡ content kind a b u v c d next
+  other-v h l e g = sym (content-not kind a b u v c d next h l (rw (e, ne-eqb v 0 g)))
 
   module _ (e : u ≡ 0) (f : v ≡ 0) where
     pub line-content : kind ≡ 1 → line a b c d next ≡ content kind a b u v c d next
@@ -158,9 +164,63 @@ module _ (kind a b u v c d next : ℕ) where
     unfolding content
     split-content h = sym (ap (λ (k : ℕ). content k a b u v c d next) h ∙ bare-is u v _ e f)
 
-  pub other-kind : (kind ≡ 1 → ⊥) → (kind ≡ 2 → ⊥) → (kind ≡ 3 → ⊥) → other ≡ content kind a b u v c d next
+  pub other-kind : (kind ≡ 1 → ⊥) → (kind ≡ 2 → ⊥) → (kind ≡ 3 → ⊥) → kind ≤ 3 → other ≡ content kind a b u v c d next
   unfolding content
-  other-kind g k h = rw (content, ne-eqb kind 1 g, ne-eqb kind 2 k, ne-eqb kind 3 h)
+  other-kind g k h l = rw (content, ne-eqb kind 1 g, ne-eqb kind 2 k, ne-eqb kind 3 h, ne-eqb kind 4 (λ e. omega arith), ne-eqb kind 5 (λ e. omega arith))
+
+  -- a kind above 3 (02, Paper 10)
+  module _ (up : 3 < kind) where
+    above : content kind a b u v c d next
+        ≡ elim (eqb kind 4) [
+          | true ↦ bare c 0 (case a b (reorders u v d) next)
+          | false ↦ elim (eqb kind 5) [ true ↦ bare b u (bare v c (bare d 0 (visit a next))) | false ↦ other ]
+        ]
+    unfolding content
+    above = rw (content, ne-eqb kind 1 (λ e. omega arith), ne-eqb kind 2 (λ e. omega arith), ne-eqb kind 3 (λ e. omega arith))
+
+    -- a field that is not 0
+    pub other-c : (c ≡ 0 → ⊥) → other ≡ content kind a b u v c d next
+    unfolding bare
+    other-c h = sym (above ∙ by (eqb kind 4) (eqb kind 5) (eqb b 0 && eqb u 0) (eqb v 0))
+      where
+        by : (k4 k5 t w : Bool) →
+            _≡_ {A = Record}
+            (elim k4 [
+              | true ↦ elim (eqb c 0 && eqb 0 0) [ true ↦ case a b (reorders u v d) next | false ↦ other ]
+              | false ↦ elim k5 [ true ↦ elim t [ true ↦ elim (w && eqb c 0) [ true ↦ bare d 0 (visit a next) | false ↦ other ] | false ↦ other ] | false ↦ other ]
+            ])
+            other
+        by true k5 t w = rw (ne-eqb c 0 h)
+        by false true true true = rw (ne-eqb c 0 h)
+        by false true true false = refl
+        by false true false w = refl
+        by false false t w = refl
+
+    pub order-content : c ≡ 0 → kind ≡ 4 → case a b (reorders u v d) next ≡ content kind a b u v c d next
+    unfolding content
+    order-content z h = sym (ap (λ (k : ℕ). content k a b u v c d next) h ∙ bare-is c 0 _ z refl)
+
+    module _ (n4 : kind ≡ 4 → ⊥) where
+      pub other-above : (kind ≡ 5 → ⊥) → other ≡ content kind a b u v c d next
+      other-above h = sym (above ∙ rw (ne-eqb kind 4 n4, ne-eqb kind 5 h))
+
+      visit-as : kind ≡ 5 → content kind a b u v c d next ≡ bare b u (bare v c (bare d 0 (visit a next)))
+      visit-as h = above ∙ rw (ne-eqb kind 4 n4, eq-eqb kind 5 h)
+
+      pub other-b : kind ≡ 5 → (b ≡ 0 → ⊥) → other ≡ content kind a b u v c d next
+      other-b h z = sym (visit-as h ∙ bare-not b u _ (rw (ne-eqb b 0 z)))
+
+      pub other-visit-u : kind ≡ 5 → b ≡ 0 → (u ≡ 0 → ⊥) → other ≡ content kind a b u v c d next
+      other-visit-u h y z = sym (visit-as h ∙ bare-not b u _ (rw (y, ne-eqb u 0 z)))
+
+      pub other-visit-v : kind ≡ 5 → b ≡ 0 → u ≡ 0 → (v ≡ 0 → ⊥) → other ≡ content kind a b u v c d next
+      other-visit-v h y x z = sym (visit-as h ∙ bare-is b u _ y x ∙ bare-not v c _ (rw (ne-eqb v 0 z)))
+
+      pub other-d : kind ≡ 5 → b ≡ 0 → u ≡ 0 → v ≡ 0 → c ≡ 0 → (d ≡ 0 → ⊥) → other ≡ content kind a b u v c d next
+      other-d h y x w q z = sym (visit-as h ∙ bare-is b u _ y x ∙ bare-is v c _ w q ∙ bare-not d 0 _ (rw (ne-eqb d 0 z)))
+
+      pub visit-content : kind ≡ 5 → b ≡ 0 → u ≡ 0 → v ≡ 0 → c ≡ 0 → d ≡ 0 → visit a next ≡ content kind a b u v c d next
+      visit-content h y x w q z = sym (visit-as h ∙ bare-is b u _ y x ∙ bare-is v c _ w q ∙ bare-is d 0 _ z refl)
 
 -- the numbers read are the record
 pub record-read : (s : List ℕ) (i : ℕ) {kind a b u v c d next : ℕ}

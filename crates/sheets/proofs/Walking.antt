@@ -28,20 +28,22 @@ use Rattle.closings.specs.declared.closing.ThreeOptOutcome.{ThreeOptOutcome}
 use Rattle.closings.specs.declared.closing.ThreeOptOutcome.the-variants.{Settled, NoMoves, NoSaving}
 use Rattle.sets.proofs.BeyondNumbers.{two-apart}
 use Rattle.rules.proofs.PairLists.{feasibleAfter-start, feasibleAfter-next}
+use Rattle.segments.specs.SegmentTest.{segment?, reordering}
 use Rattle.argument.specs.Verdict.{Verdict, accepted, refused, refusedBy}
 use Rattle.argument.specs.Record.{records, howFits}
 use Rattle.argument.specs.Rules.{Rules}
-use Rattle.argument.specs.Walk.{Spot, takes, look, opening, behind, close, walk}
+use Rattle.argument.specs.Walk.{Spot, takes, look, opening, behind, closeByOrder, close, walk}
 use Rattle.lengths.proofs.Instances.{is-point}
 use Rattle.argument.proofs.Tests.{means-fits}
 use Rattle.argument.proofs.Steps.{Taken, looked}
 use Rattle.argument.proofs.Fuel.{close-rises, walk-rises}
-use Rattle.argument.proofs.Equations.{walk-ends, walk-stops, walk-goes-on, walk-case-stops, close-splits, close-seventh, close-three-opts}
+use Rattle.argument.proofs.Equations.{walk-ends, walk-stops, walk-goes-on, walk-case-stops, close-splits, close-seventh, close-three-opts, close-reorders}
 use Rattle.sheets.specs.Rules.{rulesBetween}
 use Rattle.sheets.specs.asks.Sheet.{howOf}
+use Rattle.sheets.specs.asks.Visits.{OrderAsked}
 use Rattle.sheets.specs.asks.Walk.{walkedOf, lookedOf, pointsOnly, spotOf, ChainAsked, CaseAsked}
 use Rattle.sheets.specs.declared.sheet.Closing.{Closing}
-use Rattle.sheets.specs.declared.sheet.Closing.the-variants.{Split, ThreeOpt}
+use Rattle.sheets.specs.declared.sheet.Closing.the-variants.{Split, ThreeOpt, Reorder}
 use Rattle.sheets.specs.declared.sheet.Case.{Case}
 use Rattle.sheets.specs.declared.walk.Walked.{Walked}
 use Rattle.sheets.specs.declared.walk.Walked.the-variants as walked
@@ -135,9 +137,9 @@ module _ {n : ℕ} {out put outs puts marks sheet : List ℕ} {count : ℕ} {k :
               points = closing-fits _ _ _ _ (means-fits (t .fit));
             }
 
-        module _ {v : Walked} (z : walkedOf v ≡ close rules (walk rules sheet) left (edgeList k′) index (howOf (x′ .closing))) where
-          closes : {v′ : Walked} → v ≡ v′ → close rules (walk rules sheet) left (withPair (edgeList k) c (x′ .a) (x′ .b)) index (howOf (x′ .closing)) ≡ walkedOf v′
-          closes w = ap (λ (K : List Edge). close rules (walk rules sheet) left K index (howOf (x′ .closing))) (sym (added .edges)) ∙ sym z ∙ ap walkedOf w
+        module _ {v : Walked} (z : walkedOf v ≡ close rules sheet (walk rules sheet) left (edgeList k′) index (howOf (x′ .closing))) where
+          closes : {v′ : Walked} → v ≡ v′ → close rules sheet (walk rules sheet) left (withPair (edgeList k) c (x′ .a) (x′ .b)) index (howOf (x′ .closing)) ≡ walkedOf v′
+          closes w = ap (λ (K : List Edge). close rules sheet (walk rules sheet) left K index (howOf (x′ .closing))) (sym (added .edges)) ∙ sym z ∙ ap walkedOf w
 
           pub follow-case-stops : {m a : ℕ} → v ≡ walked.Refused m a → refused m a ≡ walk rules sheet (opening rules (suc left) (edgeList k) i c first)
           follow-case-stops {m} {a} w = sym (walk-case-stops rules sheet here _ _ _ _ (looks g) m a (closes w)) ∙ f .walks
@@ -177,18 +179,18 @@ module _ {n : ℕ} {out put outs puts marks sheet : List ℕ} {count : ℕ} {k :
   fitting : {how : Closing} → closing ≡ how → howFits n (howOf how) ≡ true
   fitting e = ap (λ (x : Closing). howFits n (howOf x)) (sym e) ∙ asked .points
 
-  closed-as : (i : ℕ) {how : Closing} → closing ≡ how → close case-rules (walk case-rules sheet) left (edgeList k) i (howOf how) ≡ close case-rules (walk case-rules sheet) left (edgeList k) i (howOf closing)
-  closed-as i e = ap (λ (x : Closing). close case-rules (walk case-rules sheet) left (edgeList k) i (howOf x)) (sym e)
+  closed-as : (i : ℕ) {how : Closing} → closing ≡ how → close case-rules sheet (walk case-rules sheet) left (edgeList k) i (howOf how) ≡ close case-rules sheet (walk case-rules sheet) left (edgeList k) i (howOf closing)
+  closed-as i e = ap (λ (x : Closing). close case-rules sheet (walk case-rules sheet) left (edgeList k) i (howOf x)) (sym e)
 
   module _ {point first : ℕ} (e : closing ≡ Split point first) where
-    pub close-too-deep : (i : ℕ) → left ≡ 0 → refused 13 i ≡ close case-rules (walk case-rules sheet) left (edgeList k) i (howOf closing)
+    pub close-too-deep : (i : ℕ) → left ≡ 0 → refused 13 i ≡ close case-rules sheet (walk case-rules sheet) left (edgeList k) i (howOf closing)
     close-too-deep i z = sym (close-seventh case-rules sheet left (edgeList k) i point first z) ∙ closed-as i e
 
     pub close-chain : (left ≡ 0 → ⊥) → ChainAsked n out put outs puts marks sheet count k (left - 1) point
     unfolding howFits
     close-chain z = record { tried = asked .tried; held = asked .held; room = omega (arith, asked .room); centre = is-point n point (fitting e) }
 
-    pub close-walks : (i : ℕ) {v : Verdict ℕ} → (left ≡ 0 → ⊥) → v ≡ walk case-rules sheet (opening case-rules (suc (left - 1)) (edgeList k) i point first) → v ≡ close case-rules (walk case-rules sheet) left (edgeList k) i (howOf closing)
+    pub close-walks : (i : ℕ) {v : Verdict ℕ} → (left ≡ 0 → ⊥) → v ≡ walk case-rules sheet (opening case-rules (suc (left - 1)) (edgeList k) i point first) → v ≡ close case-rules sheet (walk case-rules sheet) left (edgeList k) i (howOf closing)
     close-walks i z w =
         let l : suc (left - 1) ≡ left = omega arith in
         w ∙ ap (λ (m : ℕ). walk case-rules sheet (opening case-rules m (edgeList k) i point first)) l ∙ sym (close-splits case-rules sheet left (edgeList k) i point first (omega arith)) ∙ closed-as i e
@@ -210,17 +212,29 @@ module _ {n : ℕ} {out put outs puts marks sheet : List ℕ} {count : ℕ} {k :
     close-three-opt-asked = let l = asked .tried .admitted .limits in (three-opt-over (l .out-lengths .whole), three-opt-over (l .put-lengths .whole))
 
     module _ (i : ℕ) {v : ThreeOptOutcome} (z : v ≡ threeOptOutcome (lengthOf n out) (lengthOf n put) (edgeList k) p q r s) where
-      outcome-as : {v′ : ThreeOptOutcome} → v ≡ v′ → refusedBy (refusalOf v′) i i ≡ close case-rules (walk case-rules sheet) left (edgeList k) i (howOf closing)
+      outcome-as : {v′ : ThreeOptOutcome} → v ≡ v′ → refusedBy (refusalOf v′) i i ≡ close case-rules sheet (walk case-rules sheet) left (edgeList k) i (howOf closing)
       outcome-as g = ap (λ (x : ThreeOptOutcome). refusedBy (refusalOf x) i i) (sym g ∙ z) ∙ sym (close-three-opts case-rules sheet left (edgeList k) i p q r s) ∙ closed-as i e
 
-      pub close-settled : v ≡ Settled → accepted i ≡ close case-rules (walk case-rules sheet) left (edgeList k) i (howOf closing)
+      pub close-settled : v ≡ Settled → accepted i ≡ close case-rules sheet (walk case-rules sheet) left (edgeList k) i (howOf closing)
       unfolding refusalOf refusedBy
       close-settled g = outcome-as g
 
-      pub close-no-moves : v ≡ NoMoves → refused 15 i ≡ close case-rules (walk case-rules sheet) left (edgeList k) i (howOf closing)
+      pub close-no-moves : v ≡ NoMoves → refused 15 i ≡ close case-rules sheet (walk case-rules sheet) left (edgeList k) i (howOf closing)
       unfolding refusalOf refusedBy
       close-no-moves g = outcome-as g
 
-      pub close-no-saving : v ≡ NoSaving → refused 16 i ≡ close case-rules (walk case-rules sheet) left (edgeList k) i (howOf closing)
+      pub close-no-saving : v ≡ NoSaving → refused 16 i ≡ close case-rules sheet (walk case-rules sheet) left (edgeList k) i (howOf closing)
       unfolding refusalOf refusedBy
       close-no-saving g = outcome-as g
+
+  module _ {u v first : ℕ} (e : closing ≡ Reorder u v first) where
+    pub close-order-asked : OrderAsked n out put sheet count k u v
+    unfolding howFits
+    close-order-asked =
+        let h = and-true _ _ (fitting e) in
+        let a = asked .tried .admitted in
+        record { limits = a .limits; whole = a .whole; held = asked .held; first = is-point n u (h .0); last = is-point n v (h .1) }
+
+    pub close-by-orders : (i : ℕ) {w : Verdict ℕ} → w ≡ closeByOrder n (segment? (edgeList k) u v) (reordering (lengthOf n out) (lengthOf n put) (edgeList k) u v) sheet i first
+        → w ≡ close case-rules sheet (walk case-rules sheet) left (edgeList k) i (howOf closing)
+    close-by-orders i z = z ∙ sym (close-reorders case-rules sheet left (edgeList k) i u v first) ∙ closed-as i e

@@ -8,6 +8,8 @@ use Rattle.closings.specs.ClosingTest.{threeOptOutcome, refusalOf}
 use Rattle.marks.specs.Mark.{struckMark, openIn, markIn}
 use Rattle.rules.specs.Pair.{FeasiblePair}
 use Rattle.rules.specs.Pairs.{feasiblePairs}
+use Rattle.segments.specs.Segment.{Reorders}
+use Rattle.segments.specs.SegmentTest.{segment?, reordering}
 use Rattle.argument.specs.Rules.{Rules}
 use Rattle.argument.specs.Sheet.{Marking}
 
@@ -18,8 +20,11 @@ rulesWhere n out put open? =
       n = n;
       Feasible = FeasiblePair n (lengthOf n out) (lengthOf n put) open?;
       Settles = Closes (lengthOf n out) (lengthOf n put);
+      Reorders = Reorders (lengthOf n out) (lengthOf n put);
       pairs = feasiblePairs n (lengthOf n out) (lengthOf n put) open?;
       closing = λ K p q r s. refusalOf (threeOptOutcome (lengthOf n out) (lengthOf n put) K p q r s);
+      segment = segment?;
+      reordering = reordering (lengthOf n out) (lengthOf n put);
     }
 
 -- the rules of a sheet under these marks, over two tables (02, Paper 11) and over one

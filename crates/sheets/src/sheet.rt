@@ -1,6 +1,7 @@
 // Sheets and their records: 01's "The sheet". A sheet is 16-bit numbers as little-endian bytes.
 use endian::bytes::number16;
 ghost use mathlib.Core.Path.{_≡_};
+ghost use Prim.Native.Nat.{_<_};
 ghost use Rattle.endian.specs.Bytes.{whole16};
 ghost use Rattle.sheets.specs.Sheet.{Readable};
 ghost use Rattle.sheets.specs.asks.Sheet.{sheetAdmission, recordOf};
@@ -17,10 +18,12 @@ pub enum SheetAdmission {
     Refused,
 }
 
-// How a case is closed: by a split at a point whose first case is the record `first`, or by 3-opt (01's crossing).
+// How a case is closed: by a split at a point whose first case is the record `first`, by 3-opt (01's crossing), or by a new order of the
+// segment from u to v, whose first point the record `first` names (02, Paper 10: a stretch).
 pub enum Closing {
     Split { point: u16, first: u16 },
     ThreeOpt { p: u16, q: u16, r: u16, s: u16 },
+    Reorder { u: u16, v: u16, first: u16 },
 }
 
 // A case: its pair, its closing and the index of the next case.
@@ -40,10 +43,12 @@ pub struct Line {
     pub next: u16,
 }
 
-// What a record is. `Other` is a record of no kind, or one whose u or v should be 0 and is not.
+// What a record is. `Visit` names a point of a new order and the index of the next; `Other` is a record of no kind, or one with a field
+// that should be 0 and is not.
 pub enum Record {
     Line(Line),
     Case(Case),
+    Visit(u16, u16),
     Other,
 }
 
@@ -112,6 +117,9 @@ impl Record {
                 next: next,
             });
         }
+        if 3 < kind {
+            return Record::of_order(kind, a, b, u, v, c, d, next);
+        }
         if u != 0 {
             return Record::Other;
         }
@@ -137,5 +145,44 @@ impl Record {
             });
         }
         Record::Other
+    }
+
+    // The record that eight numbers of a kind above 3 are (02, Paper 10): a case with a new order, or a point of one.
+    fn of_order(kind: u16, a: u16, b: u16, u: u16, v: u16, c: u16, d: u16, next: u16) -> Record
+        requires { ⌜ 3 < kind ⌝ }
+        ensures { λ r. ⌜ recordOf r ≡ content kind a b u v c d next ⌝ }
+    {
+        if c != 0 {
+            return Record::Other;
+        }
+        if kind == 4 {
+            let closing = Closing::Reorder {
+                u: u,
+                v: v,
+                first: d,
+            };
+            return Record::Case(Case {
+                a: a,
+                b: b,
+                closing: closing,
+                next: next,
+            });
+        }
+        if kind != 5 {
+            return Record::Other;
+        }
+        if b != 0 {
+            return Record::Other;
+        }
+        if u != 0 {
+            return Record::Other;
+        }
+        if v != 0 {
+            return Record::Other;
+        }
+        if d != 0 {
+            return Record::Other;
+        }
+        Record::Visit(a, next)
     }
 }

@@ -3,6 +3,7 @@ use crate::sheet::Case;
 use crate::sheet::Closing;
 use crate::sheet::Record;
 use crate::sheet::Sheet;
+use crate::visits::close_by_order;
 use closings::closing::ThreeOptOutcome;
 use closings::closing::close_by_three_opt;
 use lengths::instance::Instance;
@@ -58,6 +59,12 @@ fn closing_fits(n: u16, closing: Closing) -> bool
                 return false;
             }
             is_point(n, s)
+        }
+        Closing::Reorder { u, v, first: _ } => {
+            if !is_point(n, u) {
+                return false;
+            }
+            is_point(n, v)
         }
     }
 }
@@ -126,6 +133,7 @@ fn look(
     match Sheet::record(sheet, index) {
         Record::Case(case) => look_at_case(n, case, last, index, high, next),
         Record::Line(_) => Looked::Refused(refusal::KIND, index),
+        Record::Visit(_, _) => Looked::Refused(refusal::KIND, index),
         Record::Other => Looked::Refused(refusal::KIND, index),
     }
 }
@@ -212,7 +220,7 @@ fn close_case(
     closing: Closing,
 ) -> Walked
     requires { ⌜ CaseAsked n (whole32 (now out)) (whole32 (now put)) (now outs) (now puts) (marksOf n (now marks)) (whole16 (now sheet)) count k left closing ⌝ }
-    ensures { λ r. ⌜ walkedOf r ≡ close (rulesBetween n (whole32 (now (out .entry))) (whole32 (now (put .entry))) (marksOf n (now (marks .entry))))
+    ensures { λ r. ⌜ walkedOf r ≡ close (rulesBetween n (whole32 (now (out .entry))) (whole32 (now (put .entry))) (marksOf n (now (marks .entry)))) (whole16 (now (sheet .entry)))
         (walk (rulesBetween n (whole32 (now (out .entry))) (whole32 (now (put .entry))) (marksOf n (now (marks .entry)))) (whole16 (now (sheet .entry)))) left (edgeList k) i (howOf closing) ⌝ }
 {
     match closing {
@@ -241,5 +249,17 @@ fn close_case(
             ThreeOptOutcome::NoMoves => Walked::Refused(refusal::CROSSING, i),
             ThreeOptOutcome::NoSaving => Walked::Refused(refusal::SAVING, i),
         },
+        Closing::Reorder { u, v, first } => close_by_order(
+            n,
+            out,
+            put,
+            sheet,
+            count,
+            k,
+            i,
+            u,
+            v,
+            first,
+        ),
     }
 }

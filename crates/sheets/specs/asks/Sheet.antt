@@ -6,9 +6,9 @@ use Rattle.argument.specs.Record as R
 use Rattle.sheets.specs.declared.sheet.SheetAdmission.{SheetAdmission}
 use Rattle.sheets.specs.declared.sheet.SheetAdmission.the-variants.{Admitted, Refused}
 use Rattle.sheets.specs.declared.sheet.Closing.{Closing}
-use Rattle.sheets.specs.declared.sheet.Closing.the-variants.{Split, ThreeOpt}
+use Rattle.sheets.specs.declared.sheet.Closing.the-variants.{Split, ThreeOpt, Reorder}
 use Rattle.sheets.specs.declared.sheet.Record.{Record}
-use Rattle.sheets.specs.declared.sheet.Record.the-variants.{Line, Case, Other}
+use Rattle.sheets.specs.declared.sheet.Record.the-variants.{Line, Case, Visit, Other}
 use Rattle.sheets.specs.Sheet.{wholeSheet}
 
 unfoldable pub sheetAdmission : ℕ → SheetAdmission
@@ -18,8 +18,10 @@ sheetAdmission numbers = elim (wholeSheet numbers) [ true ↦ Admitted (record {
 abbrev pub howOf : Closing → R.How
 howOf (Split point first) = R.splits point first
 howOf (ThreeOpt p q r s) = R.threeOpts p q r s
+howOf (Reorder u v first) = R.reorders u v first
 
 abbrev pub recordOf : Record → R.Record
 recordOf (Line l) = R.line (l .a) (l .b) (l .point) (l .first) (l .next)
 recordOf (Case c) = R.case (c .a) (c .b) (howOf (c .closing)) (c .next)
+recordOf (Visit v next) = R.visit v next
 recordOf Other = R.other

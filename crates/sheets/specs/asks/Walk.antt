@@ -1,7 +1,7 @@
 -- What the functions of the walk answer and ask, in terms of the walk's own definitions.
 use Prim.Native.Nat.{ℕ, _+_, _*_, _≤_}
 use mathlib.Core.Path.{_≡_}
-use mathlib.Core.Bool.{true}
+use mathlib.Core.Bool.{true, false}
 use mathlib.Core.List.{List, [], _∷_}
 use lib.ListN.{length}
 use Rattle.lengths.specs.Edge.{Edge, edge, Point, edgeCount}
@@ -36,7 +36,17 @@ lookedOf (looked.Refused number rec) = refused number rec
 
 -- rules of which only the number of points is asked
 abbrev pub pointsOnly : ℕ → Rules
-pointsOnly n = record { n = n; Feasible = λ K c x y. ⊥; Settles = λ K p q r s. ⊥; pairs = λ K c. []; closing = λ K p q r s. 0 }
+pointsOnly n =
+    record {
+      n = n;
+      Feasible = λ K c x y. ⊥;
+      Settles = λ K p q r s. ⊥;
+      Reorders = λ K u v vs. ⊥;
+      pairs = λ K c. [];
+      closing = λ K p q r s. 0;
+      segment = λ K u v. false;
+      reordering = λ K u v vs. 0;
+    }
 
 -- a spot of which only the next pair, the index and the two records are asked
 abbrev pub pairsOf : NextPair → List Edge

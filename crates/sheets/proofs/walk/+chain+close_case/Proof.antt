@@ -10,7 +10,7 @@ use borrow.Fn.PlainCycle.{Measures, is, falls, and}
 use Rattle.endian.specs.Bytes.{whole16, whole32}
 use Rattle.argument.specs.Record.{records}
 use Rattle.marks.specs.Packed.{marksOf}
-use Rattle.sheets.proofs.Walking.{Following, chain-split, follow-start, follow-search, follow-few, follow-ends, follow-stops, follow-case, follow-case-stops, follow-falls, follow-on, close-too-deep, close-chain, close-walks, close-three-opt-asked, close-settled, close-no-moves, close-no-saving}
+use Rattle.sheets.proofs.Walking.{Following, chain-split, follow-start, follow-search, follow-few, follow-ends, follow-stops, follow-case, follow-case-stops, follow-falls, follow-on, close-too-deep, close-chain, close-walks, close-three-opt-asked, close-settled, close-no-moves, close-no-saving, close-order-asked, close-by-orders}
 use Rattle.sheets.proofs.walk.chain.Reads as chain
 use Rattle.sheets.proofs.walk.chain.Kinds as chain-kinds
 use Rattle.sheets.proofs.walk.+chain+close_case.Lts-chain as chain-lts
@@ -19,6 +19,7 @@ use Rattle.sheets.proofs.walk.close_case.Kinds as close-case-kinds
 use Rattle.sheets.proofs.walk.+chain+close_case.Lts-close_case as close-case-lts
 use Rattle.sheets.proofs.walk.look.Reads as look-reads
 use Rattle.closings.proofs.closing.close_by_three_opt.Reads as close-by-three-opt-reads
+use Rattle.sheets.proofs.visits.close_by_order.Reads as close-by-order-reads
 use Rattle.sets.proofs.edge_set.EdgeSet.with_pair.Reads as with-pair-reads
 use Rattle.sets.proofs.neighbours.neighbours_of.Reads as neighbours-of-reads
 use Rattle.search.proofs.candidates.list_candidates.Reads as list-candidates-reads
@@ -52,7 +53,7 @@ abbrev chain-calls : ℕ → chain-lts.Claims
 chain-calls t = (prepare-reads.Asked, prepare-reads.Learnt, neighbours-of-reads.Asked, neighbours-of-reads.Learnt, list-candidates-reads.Asked, list-candidates-reads.Learnt, next-pair-reads.Asked, next-pair-reads.Learnt, look-reads.Asked, look-reads.Learnt, with-pair-reads.Asked, with-pair-reads.Learnt, close-case-below t, close-case.Post)
 
 abbrev close-case-calls : ℕ → close-case-lts.Claims
-close-case-calls t = (chain-below t, chain.Post, close-by-three-opt-reads.Asked, close-by-three-opt-reads.Learnt)
+close-case-calls t = (chain-below t, chain.Post, close-by-three-opt-reads.Asked, close-by-three-opt-reads.Learnt, close-by-order-reads.Asked, close-by-order-reads.Learnt)
 
 abbrev chain-Inv-loop : chain-lts.InvT-loop
 chain-Inv-loop n out put outs puts marks sheet count k left i c first legs bound centre candidates rank x₀ y₀ last₀ index₀ high₀ x y last index high =
@@ -143,6 +144,12 @@ close-case-enum-told-2 t c = search needs
 close-case-enum-told-3 : (t : ℕ) → close-case-lts.Need-enum-told-3 (close-case-calls t) (close-case-at t) close-case.Post
 close-case-enum-told-3 t c = search needs
 
+close-case-enum-known-closing-3 : (t : ℕ) → close-case-lts.Need-enum-known-closing-3 (close-case-calls t) (close-case-at t) close-case.Post
+close-case-enum-known-closing-3 t c = search needs
+
+close-case-close-by-order-requires : (t : ℕ) → close-case-lts.Need-close-by-order-requires (close-case-calls t) (close-case-at t) close-case.Post
+close-case-close-by-order-requires t c κs = close-order-asked (c .before .before .before .before .before .before .before .before .before .pre .1) (c .before .closing3 .given .1)
+
 close-case-returns-2 : (t : ℕ) → close-case-lts.Need-returns-2 (close-case-calls t) (close-case-at t) close-case.Post
 close-case-returns-2 t c = close-walks (c .before .before .before .before .before .before .before .before .before .before .before .pre .1) (c .before .before .before .closing .given .1) _ (c .before .if1 .left) (c .chain .ensures)
 
@@ -154,6 +161,9 @@ close-case-returns-4 t c = close-no-moves (c .before .before .before .before .be
 
 close-case-returns-5 : (t : ℕ) → close-case-lts.Need-returns-5 (close-case-calls t) (close-case-at t) close-case.Post
 close-case-returns-5 t c = close-no-saving (c .before .before .before .before .before .before .before .before .before .before .before .before .pre .1) (c .before .before .before .before .closing2 .given .1) _ (c .before .before .close-by-three-opt .ensures) (c .enum-told3 .given .1)
+
+close-case-returns-6 : (t : ℕ) → close-case-lts.Need-returns-6 (close-case-calls t) (close-case-at t) close-case.Post
+close-case-returns-6 t c = close-by-orders (c .before .before .before .before .before .before .before .before .before .before .pre .1) (c .before .before .closing3 .given .1) _ (c .close-by-order .ensures)
 
 pub +chain+close-case-spec : {M : Type 1} → statement M
 +chain+close-case-spec = close μ-chain μ-close-case (λ t. chain-lts.spec (chain-calls t)
@@ -192,7 +202,10 @@ pub +chain+close-case-spec : {M : Type 1} → statement M
     (close-case-enum-told t)
     (close-case-enum-told-2 t)
     (close-case-enum-told-3 t)
+    (close-case-enum-known-closing-3 t)
+    (close-case-close-by-order-requires t)
     (close-case-returns-2 t)
     (close-case-returns-3 t)
     (close-case-returns-4 t)
     (close-case-returns-5 t)
+    (close-case-returns-6 t)

@@ -1,7 +1,7 @@
 -- `sheets::walk::closing_fits` meets its contract: each return is a way out of `howFits`. Assumes nothing.
 use mathlib.Core.Path.{sym, _∙_}
 use borrow.Author.Tests.{not-true, not-false}
-use Rattle.sheets.proofs.Looking.{split-fits, three-opt-p, three-opt-q, three-opt-r, three-opt-s}
+use Rattle.sheets.proofs.Looking.{split-fits, three-opt-p, three-opt-q, three-opt-r, three-opt-s, order-u, order-v}
 use borrow.Author.Needs.{needs}
 use Rattle.sheets.proofs.walk.closing_fits.Statement.{statement}
 use Rattle.sheets.proofs.walk.closing_fits.Tie as tie
@@ -36,11 +36,26 @@ returns-3 c = let q = c .before .before in let p = q .before .before in three-op
 is-point-requires-5 : tie.Need-is-point-requires-5
 is-point-requires-5 c κs = search needs
 
+enum-known-closing-3 : tie.Need-enum-known-closing-3
+enum-known-closing-3 c = search needs
+
+is-point-requires-6 : tie.Need-is-point-requires-6
+is-point-requires-6 c κs = search needs
+
 returns-4 : tie.Need-returns-4
-returns-4 c = c .is-point .ensures ∙ split-fits _ (c .before .before .closing .given .1)
+returns-4 c = order-u _ (c .before .before .before .closing3 .given .1) (sym (c .before .is-point6 .ensures) ∙ not-true _ (c .if4 .taken))
+
+is-point-requires-7 : tie.Need-is-point-requires-7
+is-point-requires-7 c κs = search needs
 
 returns-5 : tie.Need-returns-5
-returns-5 c = let r = c .before in let q = r .before .before in let p = q .before .before in c .is-point5 .ensures ∙ three-opt-s _ (p .before .before .before .closing2 .given .1) (sym (p .before .is-point2 .ensures) ∙ not-false _ (p .if1 .left)) (sym (q .before .is-point3 .ensures) ∙ not-false _ (q .if2 .left)) (sym (r .before .is-point4 .ensures) ∙ not-false _ (r .if3 .left))
+returns-5 c = c .is-point .ensures ∙ split-fits _ (c .before .before .closing .given .1)
+
+returns-6 : tie.Need-returns-6
+returns-6 c = let r = c .before in let q = r .before .before in let p = q .before .before in c .is-point5 .ensures ∙ three-opt-s _ (p .before .before .before .closing2 .given .1) (sym (p .before .is-point2 .ensures) ∙ not-false _ (p .if1 .left)) (sym (q .before .is-point3 .ensures) ∙ not-false _ (q .if2 .left)) (sym (r .before .is-point4 .ensures) ∙ not-false _ (r .if3 .left))
+
+returns-7 : tie.Need-returns-7
+returns-7 c = let u = c .before in c .is-point7 .ensures ∙ order-v _ (u .before .before .before .closing3 .given .1) (sym (u .before .is-point6 .ensures) ∙ not-false _ (u .if4 .left))
 
 pub closing-fits-spec : {M : Type 1} → statement M
 closing-fits-spec =
@@ -56,5 +71,10 @@ closing-fits-spec =
     is-point-requires-4
     returns-3
     is-point-requires-5
+    enum-known-closing-3
+    is-point-requires-6
     returns-4
-    returns-5)
+    is-point-requires-7
+    returns-5
+    returns-6
+    returns-7)

@@ -3,7 +3,7 @@ use mathlib.Core.Path.{sym}
 use native.Mathlib.Omega.{arith}
 use Rattle.argument.proofs.Steps.{looks-end, refuse-end, refuse-above, refuse-low}
 use Rattle.argument.proofs.Tests.{none-left}
-use Rattle.sheets.proofs.Looking.{above-all, not-above, entered, none-at-end, some-at-pair, look-case, look-line, look-other}
+use Rattle.sheets.proofs.Looking.{above-all, not-above, entered, none-at-end, some-at-pair, look-case, look-line, look-visit, look-other}
 use borrow.Author.Needs.{needs}
 use Rattle.sheets.proofs.walk.look.Statement.{statement}
 use Rattle.sheets.proofs.walk.look.Tie as tie
@@ -41,6 +41,9 @@ enum-told-3 c = search needs
 enum-told-4 : tie.Need-enum-told-4
 enum-told-4 c = search needs
 
+enum-told-5 : tie.Need-enum-told-5
+enum-told-5 c = search needs
+
 returns-5 : tie.Need-returns-5
 returns-5 c = let i = c .before .before .before .before .before in look-case _ _ _ (entered (i .before .before .before .before .pre) (i .before .if2 .left) (i .if3 .left)) (c .before .before .before .before .«record» .ensures) (c .before .before .case .given .1) (c .look-at-case .ensures)
 
@@ -48,7 +51,10 @@ returns-6 : tie.Need-returns-6
 returns-6 c = let i = c .before .before .before in look-line _ _ _ (entered (i .before .before .before .before .pre) (i .before .if2 .left) (i .if3 .left)) (c .before .before .«record» .ensures) (c .enum-told3 .given .1)
 
 returns-7 : tie.Need-returns-7
-returns-7 c = let i = c .before .before .before in look-other _ _ _ (entered (i .before .before .before .before .pre) (i .before .if2 .left) (i .if3 .left)) (c .before .before .«record» .ensures) (c .enum-told4 .given .1)
+returns-7 c = let i = c .before .before .before in look-visit _ _ _ (entered (i .before .before .before .before .pre) (i .before .if2 .left) (i .if3 .left)) (c .before .before .«record» .ensures) (c .enum-told4 .given .1)
+
+returns-8 : tie.Need-returns-8
+returns-8 c = let i = c .before .before .before in look-other _ _ _ (entered (i .before .before .before .before .pre) (i .before .if2 .left) (i .if3 .left)) (c .before .before .«record» .ensures) (c .enum-told5 .given .1)
 
 pub look-spec : {M : Type 1} → statement M
 look-spec =
@@ -65,6 +71,8 @@ look-spec =
     look-at-case-requires
     enum-told-3
     enum-told-4
+    enum-told-5
     returns-5
     returns-6
-    returns-7)
+    returns-7
+    returns-8)
