@@ -5,6 +5,7 @@ mod cases;
 mod fixtures;
 mod handing;
 mod moved;
+mod orders;
 mod records;
 mod sheet_checks;
 
@@ -15,6 +16,7 @@ fn main() {
     let t = records::run(t);
     let t = cases::run(t);
     let t = moved::run(t);
+    let t = orders::run(t);
     let t = asking::run(t);
     t.print();
 }
