@@ -45,12 +45,13 @@
  *
  * Within an asked sheet a pending edge counts as struck; the pair list and the tour check count it as open. Savings read no marks.
  *
- * docs/RULES.md has the rules that they keep to, and what the words here mean (standing pair, split, crossing, saving).
+ * docs/RULES.md has the rules that they keep to, and what the words here mean (standing pair, split, crossing, stretch, saving).
  * What is proved of them: demands 1 to 3 of README.md. In particular, whatever sheets are marked, asked, confirmed and withdrawn from fresh
  * marks over one table, provided that nobody else writes the table or the marks meanwhile (open is REVOSTI_OPEN here):
  *
  *   - no edge of a shortest tour is ever struck or pending;
- *   - nor of a tour that cannot be made shorter by taking out at most three of its edges and putting in as many: all its edges stay open;
+ *   - nor of a tour that cannot be made shorter by taking out at most three of its edges and putting in as many: all its edges stay open,
+ *     provided that no sheet has a record of kind REVOSTI_STRETCH, which may take out more;
  *   - every point keeps at least two open edges;
  *   - at least n edges stay open.
  *
@@ -99,7 +100,9 @@ enum {
 
     REVOSTI_LINE = 1,     /* kind 1: strike a-b, split at c, first case d, next line */
     REVOSTI_SPLIT = 2,    /* kind 2: case with pair a, b, split at c, first case d, next case */
-    REVOSTI_CROSSING = 3  /* kind 3: case with pair a, b, crossing of u-v, centres c and d, next case */
+    REVOSTI_CROSSING = 3, /* kind 3: case with pair a, b, crossing of u-v, centres c and d, next case */
+    REVOSTI_STRETCH = 4,  /* kind 4: case with pair a, b, new order of the stretch from u to v, c 0, first point d, next case */
+    REVOSTI_STRETCH_POINT = 5 /* kind 5: a point of a new order, a, and the next point; all else 0 */
 };
 
 /* Refusal numbers. 0 is none. */
@@ -115,7 +118,7 @@ enum {
     REVOSTI_SHEET = 7,           /* the sheet is not 1 to 4,000 whole records */
     REVOSTI_INDEX_ABOVE = 8,     /* an index above the record count; names the record that has the index */
     REVOSTI_INDEX_NOT_ABOVE = 9, /* an index not above the highest record entered; names the record that has the index */
-    REVOSTI_KIND = 10,           /* wrong kind for its chain, or u or v not 0 in kinds 1 and 2 */
+    REVOSTI_KIND = 10,           /* wrong kind for its chain; or not 0: u or v in kinds 1 and 2, c in kind 4, b, u, v, c or d in kind 5 */
     REVOSTI_POINT = 11,          /* a point outside 1 to n, or a = b; of a saving, an edge taken out with both ends the same */
     REVOSTI_EDGE_STRUCK = 12,    /* the edge is struck already, or pending where a sheet is asked */
     REVOSTI_SEVENTH_SPLIT = 13,  /* more than six splits one inside another */
@@ -128,6 +131,9 @@ enum {
     REVOSTI_SOMETHING_PENDING = 20, /* marking or asking while an edge is pending */
     REVOSTI_NOTHING_PENDING = 21,   /* confirming or withdrawing while none is */
     REVOSTI_BUFFER = 22,            /* a view is lent fewer than six bytes, a page fewer than its text has, the desks fewer than 50 */
+    REVOSTI_NO_STRETCH = 23,        /* K with the pair has no stretch from u to v, or the chain does not name its inner points, each once;
+                                       names the record of kind 4 */
+    REVOSTI_NOT_SHORTER = 24,       /* the new order of a stretch is not shorter; names the record of kind 4 */
     REVOSTI_LIMITS = 25,            /* a low length above its high one */
     REVOSTI_PAGE = 26,              /* page number 0 or past the last */
     REVOSTI_PAGE_TEXT = 27,         /* a text that is not such a page; names its first wrong, missing or surplus line */
@@ -187,6 +193,8 @@ uint64_t revosti_unpack_marks(uint32_t n, const uint8_t *packed, size_t packed_l
  * Marks a sheet: strikes each line's edge whose argument is complete, one line after the other, and stops at the first refusal.
  * Refusals in this order: 1, 2, 5, 6, 20, 7; then 8 and 9 on each index followed; 10 and 11 on each record entered, then 12 on a line, and 14,
  * 13, 15, 16 on a case (14 before 13). A chain that ends with standing pairs left gets 14 at its last record, or at the split's owner.
+ * A case with a new order gets 23 where there is no such stretch; then its chain of points is followed to the end, with 8 to 11; then
+ * it gets 23 where the chain does not name the inner points, each once, and 24 where the new order is not shorter.
  * Answer: refusal number + 256 * record + 16,777,216 * lines accepted; take it apart with the functions below. The record is 0 where no
  * record is at fault. It changes marks alone: a call that is refused by 1 to 7 or 20 none; one that stops at a record keeps the strikes of
  * the lines accepted before it.

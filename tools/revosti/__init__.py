@@ -34,8 +34,8 @@ Tables come back as arrays of typecode "I", and such an array is lent to a call 
 numbers will do as well, but are copied at each call, which takes 40 times as long as a saving.
 Marks are a packed set in a bytearray, two bits an edge in the same order, four edges a byte: `mark_of` reads the mark of an edge (OPEN,
 PENDING or STRUCK), `marks_size` gives the bytes of a set. A byte set has a byte an edge; only pack_marks and unpack_marks take and give it.
-A sheet is any number of records of eight numbers: kind, a, b, u, v, c, d, next. A slip is a number. A TSPLIB text is bytes
-(`Path("board.tsp").read_bytes()`), and so is a page. docs/RULES.md has the rules, docs/FORMATS.md the texts.
+A sheet is any number of records of eight numbers: kind (1 to 5), a, b, u, v, c, d, next. A slip is a number. A TSPLIB text is bytes
+(`Path("board.tsp").read_bytes()`), and so is a page. docs/RULES.md has the rules, docs/FORMATS.md the texts and the kinds of records.
 
 Faulty input raises a Refusal, and a refused call changes nothing, but for a sheet that stops at a record: the strikes of the lines accepted
 before stay. A number that does not fit its format (32 bits for n, rule, coordinates and lengths, 64 for a slip, 16 for all others) is an

@@ -12,7 +12,8 @@ REFUSALS = {
        "ends inside the coordinates or is longer than 65,448 bytes.",
     8: "An index of the record is above the record count.",
     9: "An index of the record is not above the highest record entered.",
-    10: "The record has the wrong kind for its chain, or u or v is not 0 in kinds 1 and 2.",
+    10: "The record has the wrong kind for its chain, or a field is not 0: u or v in kinds 1 and 2, c in kind 4, "
+        "b, u, v, c or d in kind 5.",
     11: "A point is outside 1 to n, or a = b; for a saving also, both ends of an edge taken out are the same.",
     12: "The edge is struck already.",
     13: "The case opens a seventh split; at most six splits lie one inside another.",
@@ -27,6 +28,9 @@ REFUSALS = {
     20: "Something is pending: confirm or withdraw it first.",
     21: "Nothing is pending: there is nothing to confirm or withdraw.",
     22: "The buffer is too short: a view has six bytes, a page 25 a line, the desks 50.",
+    23: "K with the pair has no stretch from u to v, one path with an inner point, or the chain does not name its "
+        "inner points, each once.",
+    24: "The new order of the stretch is not shorter.",
     25: "A low length is above its high one.",
     26: "The page number is 0 or past the last.",
     27: "The text is not such a page.",
@@ -37,7 +41,7 @@ REFUSALS = {
 
 def meaning(number: int) -> str:
     """A refusal's meaning."""
-    return REFUSALS.get(number, "This number is not one of 1 to 22 and 25 to 29.")
+    return REFUSALS.get(number, "This number is not one of 1 to 29.")
 
 
 class Refusal(Exception):
