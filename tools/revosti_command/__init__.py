@@ -20,6 +20,7 @@ fault        what a sheet lacks where it is refused
 explain      a verdict in words, and for JSON
 case         one record of a sheet: K, its split, its pairs
 saving       what a rule takes out and puts in, in words
+segment      the stretch that a case puts in another order, in words
 slip         what examiner and candidate see of a marked sheet, in words
 hall         a folder in which eight desks hand in and are served
 tour         tours read and told

@@ -8,16 +8,17 @@ from html import escape
 from typing import NamedTuple
 
 from .case import Case
-from .edges import edge
+from .edges import edge, path_name
 from .labels import place_labels
 from .marks import NAMES, marked
+from .parts import CROSSING, STRETCH
 from .words import counted
 
 WIDTH, MARGIN, MIN_HEIGHT = 1200, 50, 240
-COLUMNS, ROW, FEW = 3, 34, 3  # of the legend
+COLUMNS, ROW, FEW, LETTERS = 3, 34, 3, 28  # of the legend; so many letters fit a column
 # Okabe and Ito's colours: they differ for colour-blind readers too.
-PAPER, INK, SLATE, ORANGE, GREEN, BLUE, PURPLE, RED = (
-    "#fcfbf7", "#1a1a1a", "#3f4f5f", "#d55e00", "#009e73", "#0072b2", "#cc79a7", "#c1121f")
+PAPER, INK, SLATE, ORANGE, GREEN, BLUE, PURPLE, RED, AMBER = (
+    "#fcfbf7", "#1a1a1a", "#3f4f5f", "#d55e00", "#009e73", "#0072b2", "#cc79a7", "#c1121f", "#e69f00")
 
 
 class Scene(NamedTuple):
@@ -51,7 +52,7 @@ def draw(scene):
         edge_group("pending", view, shown["pending"]),
         *(case_groups(view, case) if case else []),
         hole_group(view), *([ring_group(view, case.points)] if case else []),
-        label_group(view, [*scene.legs, *(case.k if case else [])]),
+        label_group(view, [*scene.legs, *(case.k + legs_of(case.order) if case else [])]),
         legend_group(view, rows),
     ]
     return page(view, style(view, shown, bool(case)), body)
@@ -116,9 +117,10 @@ def style(view, shown, case):
 
 
 def case_style():
-    """The look of a case: K thick, the edges of standing pairs dashed, darker where no case names the pair, split point
-    or centres ringed."""
+    """The look of a case: K thick, the edges of standing pairs dashed, darker where no case names the pair, split point,
+    centres or ends of a stretch ringed. A new order is thinner than the stretch, so that both show where they agree."""
     return [f".k {{ stroke: {INK}; stroke-width: 7; }}", f".crossed {{ stroke: {BLUE}; stroke-width: 7; }}",
+            f".stretch {{ stroke: {BLUE}; stroke-width: 10; }}", f".order {{ stroke: {AMBER}; stroke-width: 4; }}",
             f".named {{ stroke: {PURPLE}; stroke-width: 3.5; stroke-dasharray: 12 7; }}",
             f".due {{ stroke: {RED}; stroke-width: 3.5; stroke-dasharray: 12 7; }}",
             f".ring {{ fill: none; stroke: {RED}; stroke-width: 4; }}"]
@@ -159,11 +161,18 @@ def label_group(view, legs):
 
 
 def case_groups(view, case):
-    """K, the edge that is crossed, and the edges of the standing pairs at the split point."""
+    """K, the edge that is crossed, the stretch and its new order, and the edges of the standing pairs at the split
+    point."""
     due, pairs = (sorted({edge(case.points[0], x) for pair in some for x in pair} - set(case.k)) for some in (case.due, case.pairs))
-    return [edge_group("k", view, [e for e in case.k if not (case.crossed and e == edge(*case.crossed))]),
-            edge_group("crossed", view, [edge(*case.crossed)] if case.crossed else []),
+    crossed, stretch = [edge(*case.crossed)] if case.crossed else [], legs_of(case.stretch)
+    return [edge_group("k", view, [e for e in case.k if e not in crossed + stretch]), edge_group("crossed", view, crossed),
+            edge_group("stretch", view, stretch), edge_group("order", view, legs_of(case.order)),
             edge_group("named", view, [e for e in pairs if e not in due]), edge_group("due", view, due)]
+
+
+def legs_of(path):
+    """The edges of a path, if there is one."""
+    return [edge(a, b) for a, b in path.legs if a != b] if path else []
 
 
 def ring_group(view, points):
@@ -187,12 +196,24 @@ def case_rows(scene):
     """The legend's rows for a case."""
     case = scene.case
     rows = [("k", f"record {scene.record}: K, {counted(len(case.k), 'edge')}")]
-    if case.crossed:
+    if case.kind == CROSSING:
         return [*rows, ("crossed", f"crossed: {case.crossed[0]}-{case.crossed[1]}"),
                 ("ring", f"centres {case.points[0]} and {case.points[1]}")]
+    if case.kind == STRETCH:
+        look = "k" if set(case.k) - set(legs_of(case.stretch)) else "stretch"
+        return [(look, rows[0][1]), *path_row("stretch", "stretch", case.stretch), *path_row("order", "new order", case.order),
+                ("ring", f"from {case.points[0]} to {case.points[1]}")]
     rows += [("ring", f"split at {case.points[0]}")]
     named = [pair for pair in case.pairs if pair not in case.due]
     return rows + [(name, f"{words}: {few(pairs)}") for name, words, pairs in (("named", "with a case", named), ("due", "due", case.due)) if pairs]
+
+
+def path_row(name, words, path):
+    """The legend's row for a path and its length, if there is one, by its points where they fit."""
+    if path is None:
+        return []
+    whole = f"{words} {path_name(path.points)}: {path.length:,}"
+    return [(name, whole if len(whole) <= LETTERS else f"{words}: length {path.length:,}")]
 
 
 def few(pairs):

@@ -15,6 +15,11 @@ def name(a, b):
     return f"{min(a, b)}-{max(a, b)}"
 
 
+def path_name(points):
+    """A path in words, in its order."""
+    return "-".join(map(str, points))
+
+
 def edges(n):
     """All edges, in edge order."""
     return list(combinations(range(1, n + 1), 2))

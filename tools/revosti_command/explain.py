@@ -101,12 +101,17 @@ def fault_block(sheet, verdict):
     if verdict.record == 0:
         return ["No record is at fault."]
     rows = record_rows(sheet.parts.records)
-    at = verdict.record - 1
+    at = next((i for i, row in enumerate(rows) if row.first <= verdict.record <= row.last), len(rows))
     line = text_line(sheet, verdict)
     source = f", line {line} of the text" if line else ""
     start = max(0, at - AROUND)
-    return [f"Record {verdict.record} is at fault{source}:"] + [
+    return [f"Record {verdict.record} is at fault{within(rows[at:at + 1], verdict.record)}{source}:"] + [
         shown(row, verdict.record) for row in rows[start:at + AROUND + 1]]
+
+
+def within(rows, record):
+    """Where a record stands that has no row of its own: in that of the new order that it is a point of."""
+    return "".join(f", point {record - row.first} of the order of record {row.first}" for row in rows if row.first < record)
 
 
 def text_line(sheet, verdict):
@@ -116,8 +121,8 @@ def text_line(sheet, verdict):
 
 def shown(row, record):
     """A row with its number, and a marker at the record at fault."""
-    marker = ">" if row.record == record else " "
-    return f"{marker} {row.record:>5}  {row.text}"
+    marker = ">" if row.first <= record <= row.last else " "
+    return f"{marker} {row.first:>5}  {row.text}"
 
 
 def as_json(sheet, verdict):

@@ -1,7 +1,8 @@
 """What a sheet lacks, where it is refused: a sentence or two, or none where file and library do not settle it. Nothing
 here is a guess.
 
-The pairs that are due come from the proved marker (`standing`), what a crossing saves from the library.
+The pairs that are due come from the proved marker (`standing`), what a crossing saves from the library; the path that
+K has where a new order is refused is followed here (`segment`).
 """
 
 from typing import NamedTuple
@@ -9,10 +10,12 @@ from typing import NamedTuple
 from revosti import LEAST_POINTS, MOST_POINTS, Refusal, crossing_saving
 
 from .edges import RULES, degree, edge, ends
-from .nest import holds_split, nest
-from .parts import CROSSING, LINE, MAX_COORDINATE, MAX_FILE, MAX_RECORDS, RECORD, Beside, join
+from .nest import holds_chain, holds_split, kinds_under, nest
+from .parts import (CROSSING, LINE, MAX_COORDINATE, MAX_FILE, MAX_RECORDS, POINTS_OF, RECORD, STRETCH, STRETCH_POINT, ZERO_IN, Beside,
+                    join)
+from .segment import measured_path, no_segment, not_shorter, other_points, segment_of
 from .standing import edges_of, standing
-from .words import counted
+from .words import counted, either
 
 MOST_DUE = 12  # pairs that a sentence names
 
@@ -34,7 +37,7 @@ def detail(parts, verdict):
     if verdict.refusal == 14:
         return due_pairs(sight)
     find = {8: above_count, 9: not_rising, 10: wrong_shape, 11: wrong_points, 12: struck_before, 13: open_splits,
-            15: broken_conditions, 16: best_saving}.get(verdict.refusal)
+            15: broken_conditions, 16: best_saving, 23: no_stretch, 24: no_shorter_order}.get(verdict.refusal)
     return Detail(find(sight) if find else None)
 
 
@@ -97,7 +100,7 @@ class Sight:
         return self.records[number - 1]
 
     def owners(self, number):
-        """The records whose splits a record lies in, outermost first."""
+        """The records whose chains a record lies in, outermost first."""
         found = []
         while self.places[number].owner:
             number = self.places[number].owner
@@ -113,8 +116,17 @@ class Sight:
         return found
 
     def chain(self, owner):
-        """The records of the chain of a split, first to last."""
+        """The records of the chain of a split or a new order, first to last."""
         return [number for number, place in self.places.items() if place.owner == owner]
+
+    def named(self, owner):
+        """The points that the chain of a new order names, or None if the chain is not in order."""
+        chain = self.chain(owner)
+        records = [self.get(k) for k in chain]
+        indexes = [self.get(owner).d, *(record.next for record in records)]
+        shaped = all(self.places[k].shaped for k in chain) and indexes == [*chain, 0]
+        sound = shaped and all(self.sound(record) and not unwanted(record) for record in records)
+        return [record.a for record in records] if sound else None
 
     def way(self, number):
         """The records from the line to a record, or None if one of them is not in order."""
@@ -129,9 +141,7 @@ class Sight:
 
     def sound(self, record):
         """Whether a record passes 01's test 11."""
-        fields = [record.a, record.b, record.c]
-        fields += [record.u, record.v, record.d] if record.kind == CROSSING else []
-        return record.a != record.b and all(1 <= p <= self.n for p in fields)
+        return record.a != record.b and all(1 <= getattr(record, name) <= self.n for name in POINTS_OF[record.kind])
 
     def standing(self, owner):
         """The pairs that stand at the split of a record, or None."""
@@ -143,7 +153,7 @@ def above_count(sight):
     """Refusal 8: the index above the count, the first in the order followed."""
     record, count = sight.record, len(sight.records)
     has = f"the sheet has {counted(count, 'record')}."
-    if holds_split(record) and record.d > count:
+    if holds_chain(record) and record.d > count:
         return f"Its first index is {record.d}; {has}"
     return f"Its next index is {record.next}; {has}" if record.next > count else None
 
@@ -151,7 +161,7 @@ def above_count(sight):
 def not_rising(sight):
     """Refusal 9: a first index up to its own record, or else the next index."""
     record = sight.record
-    if holds_split(record) and 0 < record.d <= sight.number:
+    if holds_chain(record) and 0 < record.d <= sight.number:
         return f"Its first index is {record.d}."
     return f"Its next index is {record.next}." if record.next else None
 
@@ -162,18 +172,23 @@ def wrong_shape(sight):
     if place is None:
         return None
     if not place.shaped:
-        wanted = "1" if place.depth == 0 else "2 or 3"
+        wanted = either(map(str, kinds_under(sight.get(place.owner) if place.owner else None)))
         return f"Its kind is {record.kind}; its chain takes kind {wanted}."
-    if holds_split(record) and (record.u or record.v):
-        return f"Here u is {record.u} and v is {record.v}."
-    return None
+    odd = unwanted(record)
+    return f"Here {' and '.join(f'{name} is {value}' for name, value in odd)}." if odd else None
+
+
+def unwanted(record):
+    """The fields of a record that are to be 0 and are not, each with its name."""
+    return [(name, getattr(record, name)) for name in ZERO_IN[record.kind] if getattr(record, name)]
 
 
 def wrong_points(sight):
     """Refusal 11."""
     record = sight.record
-    fields = [(name, getattr(record, name)) for name in ("abcuvd" if record.kind == CROSSING else "abc")]
-    return outside(fields, sight.n) or (f"Here a and b are both {record.a}." if record.a == record.b else None)
+    fields = [(name, getattr(record, name)) for name in POINTS_OF.get(record.kind, "")]
+    same = record.a == record.b and record.kind != STRETCH_POINT
+    return outside(fields, sight.n) or (f"Here a and b are both {record.a}." if same else None)
 
 
 def outside(fields, n):
@@ -203,7 +218,7 @@ def open_splits(sight):
 
 def due_pairs(sight):
     """Refusal 14: the pairs that are due, if they can be told."""
-    if sight.place is None or not sight.place.shaped:
+    if sight.place is None or not sight.place.shaped or sight.record.kind == STRETCH_POINT:
         return Detail()
     record, rest = sight.record, []
     if sight.place.owner:
@@ -271,7 +286,12 @@ def saving_of(sight):
 
 def crossed(sight):
     """K at a crossing, its own pair in it, or None."""
-    if sight.place is None or sight.record.kind != CROSSING or not sight.place.shaped:
+    return edges_at(sight, CROSSING)
+
+
+def edges_at(sight, kind):
+    """K at a record of a kind, its own pair in it, or None."""
+    if sight.place is None or sight.record.kind != kind or not sight.place.shaped:
         return None
     return sight.edges(sight.number)
 
@@ -289,3 +309,28 @@ def broken(record, k):
         (edge(c, d) in k, f"{c}-{d} is in K"),
     ]
     return list(dict.fromkeys(text for wrong, text in tests if wrong))
+
+
+def no_stretch(sight):
+    """Refusal 23: why K has no such stretch, or what its points and the chain's differ by."""
+    k, (u, v) = edges_at(sight, STRETCH), sight.record[3:5]
+    if not k:
+        return None
+    points, named = segment_of(k, u, v), sight.named(sight.number)
+    if points is None:
+        return no_segment(k, u, v)
+    return None if named is None else other_points(points, named)
+
+
+def no_shorter_order(sight):
+    """Refusal 24: both lengths."""
+    paths = reordered(sight)
+    return not_shorter(*paths, sight.lengths.high is not None) if all(paths) else None
+
+
+def reordered(sight):
+    """The stretch of a case and its new order, each with its length; None for one that there is not."""
+    k, (u, v) = edges_at(sight, STRETCH), sight.record[3:5]
+    points, named = k and segment_of(k, u, v), sight.named(sight.number)
+    return (measured_path(sight.lengths, points, put_in=False) if points else None,
+            measured_path(sight.lengths, [u, *named, v], put_in=True) if k and named is not None else None)

@@ -17,7 +17,9 @@ MAX_COORDINATE = 1_000_000
 MAX_RECORDS = 4_000
 MAX_FILE = 65_448
 
-LINE, SPLIT, CROSSING = 1, 2, 3
+LINE, SPLIT, CROSSING, STRETCH, STRETCH_POINT = 1, 2, 3, 4, 5  # kinds
+POINTS_OF = {LINE: "abc", SPLIT: "abc", CROSSING: "abuvcd", STRETCH: "abuv", STRETCH_POINT: "a"}  # fields that are points, by kind
+ZERO_IN = {LINE: "uv", SPLIT: "uv", CROSSING: "", STRETCH: "c", STRETCH_POINT: "buvcd"}  # fields that are 0, by kind
 
 
 class Record(NamedTuple):

@@ -3,7 +3,7 @@
 from typing import NamedTuple
 
 from .edges import RULES
-from .parts import CROSSING, LINE, MAX_16, MAX_32, POINT, SPLIT, Beside, Parts, Record
+from .parts import CROSSING, LINE, MAX_16, MAX_32, POINT, SPLIT, STRETCH, STRETCH_POINT, ZERO_IN, Beside, Parts, Record
 from .scan import scan
 
 NUMBERS = {name: rule for rule, name in RULES.items()}  # of the rules, by name
@@ -48,7 +48,7 @@ def read_rest(lines, board):
 
 def after_records(chains):
     """What may stand after the records read so far."""
-    return '"strike", "pair", "record", "unused" or "bytes"' if chains.lines else '"strike"'
+    return '"strike", "pair", "point", "record", "unused" or "bytes"' if chains.lines else '"strike"'
 
 
 def close(lines, wanted):
@@ -127,7 +127,7 @@ def read_bytes(lines):
 def read_records(lines):
     """All record lines here."""
     chains = Chains()
-    readers = {"strike": read_strike, "pair": read_pair,
+    readers = {"strike": read_strike, "pair": read_pair, "point": read_visit,
                "record": read_raw, "unused": read_unused}
     while lines[0].peek() in readers:
         line = lines.popleft()
@@ -139,7 +139,7 @@ def read_records(lines):
 
 def read_strike(line, chains):
     """`strike A-B, split at C` and options."""
-    chains.place(line, is_line=True)
+    chains.place(line)
     line.word("strike")
     a, b = read_edge(line)
     line.word(",")
@@ -147,16 +147,24 @@ def read_strike(line, chains):
 
 
 def read_pair(line, chains):
-    """`pair A-B: split at C` or `pair A-B: crossing P-Q, centres R S`."""
-    chains.place(line, is_line=False)
+    """`pair A-B:` and a split, a crossing or a new order."""
+    chains.place(line)
     line.word("pair")
     a, b = read_edge(line)
     line.word(":")
-    if line.peek() == "split":
-        chains.add_split(line, SPLIT, a, b)
-        return
-    if line.peek() != "crossing":
-        line.missed('"split" or "crossing"')
+    match line.peek():
+        case "split":
+            chains.add_split(line, SPLIT, a, b)
+        case "crossing":
+            read_crossing(line, chains, a, b)
+        case "order":
+            read_order(line, chains, a, b)
+        case _:
+            line.missed('"split", "crossing" or "order"')
+
+
+def read_crossing(line, chains, a, b):
+    """`crossing P-Q, centres R S`."""
     line.word("crossing")
     u, v = read_edge(line)
     line.word(",")
@@ -165,9 +173,35 @@ def read_pair(line, chains):
     chains.add(line, [CROSSING, a, b, u, v, c, d, 0], read_options(line, ("next",)))
 
 
+def read_order(line, chains, a, b):
+    """`order U-X-..-V`, all points on the line, or `order from U to V`, with a line for each point under it."""
+    line.word("order")
+    below = line.take("from")
+    if not below and not line.starts_number():
+        line.missed('a point or "from"')
+    u, *points, v = read_ends(line) if below else read_path(line)
+    options = read_options(line, (*ZERO_IN[STRETCH], "first", "next"))
+    chains.add(line, fields(STRETCH, options, a=a, b=b, u=u, v=v), options, "point" if below else None)
+    chains.add_points(line, points)
+
+
+def read_visit(line, chains):
+    """`point X` and options: a point of a new order."""
+    chains.place(line)
+    line.word("point")
+    a = read_point_number(line)
+    options = read_options(line, (*ZERO_IN[STRETCH_POINT], "next"))
+    chains.add(line, fields(STRETCH_POINT, options, a=a), options)
+
+
+def fields(kind, options, **known):
+    """The eight numbers of a record: those that are known, those that its options give, else 0."""
+    return [kind, *(known.get(name, options.get(name, 0)) for name in Record._fields[1:])]
+
+
 def read_raw(line, chains):
     """`record` and eight numbers: a member of its chain of any kind."""
-    chains.place(line, is_line=None)
+    chains.place(line)
     line.word("record")
     numbers = read_eight(line)
     chains.add(line, numbers, {"first": numbers[6], "next": numbers[7]})
@@ -178,7 +212,7 @@ def read_unused(line, chains):
     if not chains.lines:
         line.fail('expected "strike" or "record": record 1 is the first line, never unused')
     line.word("unused")
-    chains.append(line, read_eight(line), {}, holds=False)
+    chains.append(line, read_eight(line), {})
 
 
 def read_eight(line):
@@ -198,6 +232,21 @@ def read_edge(line):
     return a, read_point_number(line)
 
 
+def read_ends(line):
+    """Two points with "to" between."""
+    u = read_point_number(line)
+    line.word("to")
+    return u, read_point_number(line)
+
+
+def read_path(line):
+    """Two points or more with hyphens between."""
+    points = [*read_edge(line)]
+    while line.take("-"):
+        points.append(read_point_number(line))
+    return points
+
+
 def read_options(line, words):
     """Options such as `, next 7`, each at most once, in the order of `words`."""
     options = {}
@@ -212,10 +261,11 @@ def read_options(line, words):
 
 class Level:
     """An open chain: its indentation, the number of the record that holds it
-    (0 for the chain of lines) and of the last record in it (0 for none)."""
+    (0 for the chain of lines), the word that its lines begin with, and the
+    number of the last record in it (0 for none)."""
 
-    def __init__(self, indent, owner):
-        self.indent, self.owner, self.last = indent, owner, 0
+    def __init__(self, indent, owner, word):
+        self.indent, self.owner, self.word, self.last = indent, owner, word, 0
 
 
 class Chains:
@@ -224,32 +274,36 @@ class Chains:
     def __init__(self):
         self.records = []   # lists of eight numbers, by number from 1
         self.given = []     # for each, the options that the text gives
-        self.holds = []     # for each, whether cases can be indented under it
+        self.holds = []     # for each, the word of lines that can be indented under it, or None
         self.lines = []     # for each, its line of text
         self.levels = []
 
-    def append(self, line, numbers, given, holds):
+    def append(self, line, numbers, given, holds=None):
         """A record with the next number."""
         self.records.append(numbers)
         self.given.append(given)
         self.holds.append(holds)
         self.lines.append(line.number)
 
-    def place(self, line, is_line):
+    def place(self, line):
         """Find the chain that a line continues, by its indentation, and hold
-        its kind against that chain; None fits any."""
+        its first word against that chain; "record" fits any."""
         line.only_blanks()
         if not self.levels:
-            self.levels.append(Level(line.indent, 0))
+            self.levels.append(Level(line.indent, 0, "strike"))
         if line.indent > self.levels[-1].indent:
             self.open(line)
         self.close(line)
-        inside = self.levels[-1].owner > 0
-        if is_line is True and inside:
-            line.fail(f'expected "pair" inside a split, found "strike"; '
-                      f"a strike has the indentation of the first, {self.levels[0].indent}")
-        if is_line is False and not inside:
-            line.fail('expected "strike", found "pair"; a pair is indented under its split')
+        wanted, found = self.levels[-1].word, line.peek()
+        if found not in (wanted, "record"):
+            inside = {"strike": "", "pair": " inside a split", "point": " inside an order"}[wanted]
+            line.fail(f'expected "{wanted}"{inside}, found "{found}"; {self.belongs(found)}')
+
+    def belongs(self, word):
+        """Where a line that begins with a word belongs."""
+        if word == "strike":
+            return f"a strike has the indentation of the first, {self.levels[0].indent}"
+        return "a pair is indented under its split" if word == "pair" else 'a point is indented under its "order from"'
 
     def close(self, line):
         """Leave the chains that a line is too far left for."""
@@ -261,21 +315,29 @@ class Chains:
                       f"as above, found {line.indent}")
 
     def open(self, line):
-        """Open the chain of cases of the record just read."""
+        """Open the chain of cases or points of the record just read."""
         owner = self.levels[-1].last
         if not self.holds[owner - 1]:
             line.fail("expected no further indentation: the record above it holds no split")
-        self.levels.append(Level(line.indent, owner))
+        self.levels.append(Level(line.indent, owner, self.holds[owner - 1]))
 
     def add_split(self, line, kind, a, b):
         """A record that holds a split: `split at C` and options."""
         line.word("split")
         line.word("at")
         c = read_point_number(line)
-        options = read_options(line, ("u", "v", "first", "next"))
-        self.add(line, [kind, a, b, options.get("u", 0), options.get("v", 0), c, 0, 0], options, holds=True)
+        options = read_options(line, (*ZERO_IN[kind], "first", "next"))
+        self.add(line, fields(kind, options, a=a, b=b, c=c), options, "pair")
 
-    def add(self, line, numbers, options, holds=False):
+    def add_points(self, line, points):
+        """The points of the order just read, each a record behind the last."""
+        last, word, field = len(self.records), "first", 6
+        for point in points:
+            self.append(line, fields(STRETCH_POINT, {}, a=point), {})
+            self.link(line, last, word, field, len(self.records))
+            last, word, field = len(self.records), "next", 7
+
+    def add(self, line, numbers, options, holds=None):
         """A member of the chain that `place` has found."""
         for word, field in (("first", 6), ("next", 7)):
             numbers[field] = options.get(word, numbers[field])

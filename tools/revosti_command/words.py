@@ -23,6 +23,12 @@ def are(number):
     return "is" if number == 1 else "are"
 
 
+def either(words):
+    """Some words to choose from: a, b or c."""
+    *first, last = words
+    return f"{', '.join(first)} or {last}" if first else last
+
+
 def listed(words):
     """Some words: a, b and c."""
     *first, last = words

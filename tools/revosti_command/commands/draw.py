@@ -16,7 +16,7 @@ NAME, GROUP = "draw", "Boards"
 HELP = "the board as SVG: holes, edges by mark, a tour, or one case of a sheet"
 ABOUT = """Draws a board with the marks that marking its sheet leaves, or with those of a set: open edges are drawn
 through, struck ones dashed, pending ones dotted. --record shows one case: K thick, the split point or the centres
-ringed, the pairs that stand there dashed."""
+ringed, the pairs that stand there dashed; of a new order, the stretch and, thinner, its points in the new order."""
 EXAMPLE = "revosti draw examples/square.tsp --tour 1,2,3,4 -o square.svg"
 
 

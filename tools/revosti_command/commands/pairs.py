@@ -6,6 +6,7 @@ from ..case import case_of
 from ..edges import name
 from ..fault import outside
 from ..options import add_board, add_high, add_json, add_out, add_set, answer, lengths_of, load_board, marks_for, point, record
+from ..parts import CROSSING, STRETCH
 from ..words import Complaint, counted
 
 NAME, GROUP = "pairs", "Boards"
@@ -13,6 +14,7 @@ HELP = "the pairs that stand at a split"
 ABOUT = """Lists the pairs that stand at C under the edge A-B, or with --record those at the split of a record of the
 sheet, at any depth, in the order in which a chain names its cases."""
 EXAMPLE = "revosti pairs examples/square.tsp 1 2 3"
+CLOSED_BY = {CROSSING: "crossing", STRETCH: "new order"}
 
 
 def add(command):
@@ -53,8 +55,8 @@ def listed(lengths, marks, a, b, c):
 def at_record(parts, lengths, marks, number):
     """The pairs at the split of a record, its split point, and K there."""
     case = case_of(parts, lengths, marks, number)
-    if case.crossed:
-        raise Complaint(f"--record: record {number} has a crossing, and no split")
+    if case.kind in CLOSED_BY:
+        raise Complaint(f"--record: record {number} has a {CLOSED_BY[case.kind]}, and no split")
     return case.pairs, case.points[0], case.k
 
 
