@@ -1,9 +1,10 @@
-"""The rules once more, in the plainest way: lengths, K and standing pairs (01, Points, lengths, marks; Standing pairs).
+"""The rules once more, in the plainest way: lengths, K and standing pairs (01, Points, lengths, marks; Standing pairs), and stretches
+(02, Paper 10).
 
 Tests hold the library against them; nothing that runs rests on them.
 """
 
-from itertools import combinations
+from itertools import combinations, permutations
 from math import isqrt
 
 RULES = {1: "EUC_2D", 2: "CEIL_2D", 3: "ATT", 4: "MAN_2D", 5: "MAX_2D"}  # TSPLIB's names
@@ -49,6 +50,10 @@ class Board:
         """l(ab)."""
         return length_of(self.rule, self.points[a - 1], self.points[b - 1])
 
+    def path_length(self, points):
+        """The length of a path."""
+        return sum(self.length(a, b) for a, b in zip(points, points[1:]))
+
     def compatible(self, e, f):
         """01, Standing pairs, formula 1."""
         (p, q), (x, y), l = e, f, self.length
@@ -83,6 +88,19 @@ def degree(k, point):
 def ends(k, point):
     """The other ends of the edges of K at a point."""
     return [a if b == point else b for a, b in k if point in (a, b)]
+
+
+def paths(k, u, v):
+    """Every path of K from u to v, ends included, no point twice."""
+    inner = sorted({p for e in k for p in e} - {u, v})
+    orders = [(u, *some, v) for count in range(len(inner) + 1) for some in permutations(inner, count)]
+    return [order for order in orders if all(edge(a, b) in k for a, b in zip(order, order[1:]))]
+
+
+def stretch(k, u, v):
+    """The inner points of the stretch from u to v, or () where K has none: the one path, with an inner point."""
+    found = paths(k, u, v) if u != v else []
+    return found[0][1:-1] if len(found) == 1 else ()
 
 
 def fits_tour(k, n):

@@ -131,7 +131,8 @@ class Built(unittest.TestCase):
 
     def test_examples(self):
         wanted = {"square": 0, "case_missing": 14, "coordinate_too_large": 4, "coordinates_cut": 7, "header_cut": 7, "index_not_above": 9,
-                  "no_records": 7, "point_moved": 14, "record_broken": 7, "rule_6": 3, "three_points": 1}
+                  "no_records": 7, "point_moved": 14, "record_broken": 7, "rule_6": 3, "stretch": 0, "stretch_not_shorter": 24,
+                  "stretch_point_twice": 23, "three_points": 1}
         self.assertEqual(set(wanted), {file.stem for file in (ROOT / "examples").glob("*.bin")})
         for name, number in wanted.items():
             run = subprocess.run([ROOT / "bin/mark", ROOT / f"examples/{name}.bin"], capture_output=True, text=True, check=False)

@@ -7,8 +7,9 @@ from unittest import mock
 from support import EXAMPLES, NINE, Folder, Run
 
 from packing import packed
-from revosti_command.parts import join
+from revosti_command.parts import join, split
 from revosti_command.read import pack
+from revosti_command.write import unpack
 
 COUNT = 6_000
 SQUARE, WEIGHTS, WIDE, LINES = (EXAMPLES / name for name in ("square.tsp", "square_weights.tsp", "wide_weights.tsp", "square.txt"))
@@ -46,6 +47,7 @@ class Damaged(Folder):
     def setUp(self):
         super().setUp()
         self.text, self.sheet = NINE.read_bytes(), join(pack(NINE.read_text()).parts)
+        self.order = (EXAMPLES / "stretch.bin").read_bytes()
         self.marks, self.small = self.put("a.marks", packed([1] * 36)), self.put("b.marks", packed([1, 0, 2, 1, 1, 1]))
         Run("fresh", SQUARE, "--marks", self.folder / "c.marks")
         self.print = (self.folder / "c.marks.fingerprint").read_bytes()
@@ -62,8 +64,11 @@ class Damaged(Folder):
                  ("draw", file), ("draw", file, "--record", 22), ("pairs", file, "--record", 22), ("pairs", file, 1, 2, 3),
                  ("unpack", file),
                  ("saving", file, "exchange", 1, 2, 3, 4), ("tour", file, "1,2,3,4,5,6,7,8,9"), ("explain", file, "--high", NINE)]
+        orders = [("explain", file), ("explain", file, "--json"), ("draw", file, "--record", 3), ("draw", file, "--record", 4),
+                  ("pairs", file, "--record", 3), ("slip", file), ("unpack", file, "-n")]
+        order = unpack(split(self.order)).encode()
         return [(self.text, whole), (self.text, [("pack", file)]), (self.sheet, whole), (self.sheet, [("unpack", file, "--tsplib")]),
-                (LINES.read_bytes(), beside)]
+                (LINES.read_bytes(), beside), (self.order, orders), (order, [*orders[:-1], ("pack", file)])]
 
     def of_boards(self):
         """TSPLIB texts."""

@@ -182,6 +182,54 @@ class Command(Folder):
         self.assertEqual((len(p.groups["rings"]), p.texts("legend")[1:4]),
                          (2, ["record 10: K, 5 edges", "crossed: 4-8", "centres 2 and 5"]))
 
+    def test_case_with_a_new_order(self):
+        p = Picture(Run("draw", EXAMPLES / "stretch.bin", "--record", 3).out)
+        self.assertEqual([p.edges(g) for g in ("k", "crossed", "stretch", "order", "named", "due")], [0, 0, 5, 5, 0, 0])
+        self.assertEqual((len(p.groups["rings"]), p.texts("legend")[1:5]),
+                         (2, ["record 3: K, 5 edges", "stretch 4-3-2-1-6-5: 48", "new order 4-6-2-3-1-5: 47", "from 4 to 5"]))
+        spots = p.spots()
+        for name, path in (("stretch", (4, 3, 2, 1, 6, 5)), ("order", (4, 6, 2, 3, 1, 5))):
+            ends = [(*spots[min(e) - 1], *spots[max(e) - 1]) for e in zip(path, path[1:])]
+            wanted = {f"M{x} {y}L{z} {w}" for x, y, z, w in ends}
+            drawn = {piece for fan in p.groups[name] for piece in re.findall(r"M[^M]*", fan.get("d"))}
+            self.assertEqual(drawn, wanted)
+        self.assertEqual([group for group in p.groups if group in ("k", "stretch", "order", "holes")], ["k", "stretch", "order", "holes"])
+
+    def test_new_order_of_a_part_of_k(self):
+        p = Picture(self.reordered("4-2-3-1"))
+        self.assertEqual([p.edges(g) for g in ("k", "stretch", "order")], [2, 3, 3])
+        self.assertEqual(p.texts("legend")[2:5], ["stretch 4-3-2-1: 30", "new order 4-2-3-1: 31", "from 4 to 1"])
+
+    def test_new_order_of_no_stretch(self):
+        p = Picture(self.reordered("4-2-2-3"))
+        self.assertEqual([p.edges(g) for g in ("k", "stretch", "order")], [5, 0, 2])
+        self.assertEqual(p.texts("legend")[2:4], ["new order 4-2-2-3: 18", "from 4 to 3"])
+
+    def test_new_order_that_is_none(self):
+        p = Picture(self.reordered("4-9-5"))
+        self.assertEqual([p.edges(g) for g in ("k", "stretch", "order")], [0, 5, 0])
+        self.assertEqual(p.texts("legend")[1:4], ["record 3: K, 5 edges", "stretch 4-3-2-1-6-5: 48", "from 4 to 5"])
+
+    def test_long_new_order(self):
+        p = Picture(self.reordered("4" + "-2-3" * 9 + "-5"))
+        self.assertEqual(p.texts("legend")[3], "new order: length 98")
+
+    def test_new_order_looks_like_nothing_else(self):
+        css = Picture(self.reordered("4-6-2-3-1-5")).root.find(f"{SVG}style").text
+        looks = dict(re.findall(r"^\.(\w+) \{ stroke: ([^;]*); ", css, re.M))
+        self.assertEqual([name for name, colour in looks.items() if colour == looks["order"]], ["order"])
+        widths = {name: float(width) for name, width in re.findall(r"^\.(\w+) \{ stroke: [^;]*; stroke-width: ([\d.]+)", css, re.M)}
+        self.assertLess(widths["order"], widths["stretch"])
+
+    def reordered(self, order):
+        """The picture of the case of the example with another new order."""
+        text = Run("unpack", EXAMPLES / "stretch.bin").text.replace("order 4-6-2-3-1-5", f"order {order}")
+        return Run("draw", "--record", 3, data=text.encode()).out
+
+    def test_a_point_of_an_order_is_no_case(self):
+        run = Run("draw", EXAMPLES / "stretch.bin", "--record", 4)
+        self.assertEqual(run.all, (2, "", "revosti: --record: record 4 is a point of the order of record 3, and no case\n"))
+
     def test_no_case(self):
         for record, words in ((0, "found 0"), (72, "which has 71 records, found 72"), ("x", 'expected a record, found "x"')):
             run = Run("draw", NINE, "--record", record)

@@ -27,7 +27,7 @@ RECORDS = [
     ("strike 1-3, split at 2, next 4, first 1", 1, 31, 'expected the end of the line, found ","'),
     ("strike 1-3, split at 2, first 4, first 1", 1, 34, 'expected "next", found "first"'),
     ("strike 1-3, split at 2\n  pair 1-2, split at 3", 2, 11, 'expected ":", found ","'),
-    ("strike 1-3, split at 2\n  pair 1-2: cross 3", 2, 13, 'expected "split" or "crossing", found "cross"'),
+    ("strike 1-3, split at 2\n  pair 1-2: cross 3", 2, 13, 'expected "split", "crossing" or "order", found "cross"'),
     ("strike 1-3, split at 2\n  pair 1-2: crossing 3-4 centres 1 2", 2, 26, 'expected ",", found "centres"'),
     ("strike 1-3, split at 2\n  pair 1-2: crossing 3-4, centers 1 2", 2, 27, 'expected "centres", found "centers"'),
     ("strike 1-3, split at 2\n  pair 1-2: crossing 3-4, centres 1", 2, 36, "expected a point, found the end of the line"),
@@ -57,12 +57,43 @@ RECORDS = [
     ("5 1 1", 1, 1, 'expected "strike", found "5"'),
     ("Strike 1-3, split at 2", 1, 1, 'expected "strike", found "Strike"'),
     ("strike 1-3, split at 2\nstroke 1", 2, 1,
-     'expected "strike", "pair", "record", "unused" or "bytes", found "stroke"'),
+     'expected "strike", "pair", "point", "record", "unused" or "bytes", found "stroke"'),
     ("bytes 1", 1, 7, 'expected a byte as two hexadecimal digits, found "1"'),
     ("bytes 0g", 1, 7, 'expected a byte as two hexadecimal digits, found "0g"'),
     ("bytes 01\nstrike 1-3, split at 2", 2, 1, 'expected the end of the text, found "strike"'),
     ("strike 1–3, split at 2", 1, 9, 'expected "-", found "–"'),
     ("strike 1\x003", 1, 9, 'expected "-", found character 0'),
+]
+
+# the same for lines under "strike 1-3, split at 2"
+ORDERS = [
+    ("  pair 1-2: order", 2, 18, 'expected a point or "from", found the end of the line'),
+    ("  pair 1-2: order x", 2, 19, 'expected a point or "from", found "x"'),
+    ("  pair 1-2: order 1", 2, 20, 'expected "-", found the end of the line'),
+    ("  pair 1-2: order 1-", 2, 21, "expected a point, found the end of the line"),
+    ("  pair 1-2: order 1-2-", 2, 23, "expected a point, found the end of the line"),
+    ("  pair 1-2: order 1-2-65536", 2, 23, "expected a point from 0 to 65535, found 65536"),
+    ("  pair 1-2: order 1-2 3", 2, 23, 'expected a comma or the end of the line, found "3"'),
+    ("  pair 1-2: order 1-2, u 3", 2, 24, 'expected "c" or "first" or "next", found "u"'),
+    ("  pair 1-2: order 1-2, next 3, first 4", 2, 30, 'expected the end of the line, found ","'),
+    ("  pair 1-2: order from", 2, 23, "expected a point, found the end of the line"),
+    ("  pair 1-2: order from 1-2", 2, 25, 'expected "to", found "-"'),
+    ("  pair 1-2: order from 1 to", 2, 28, "expected a point, found the end of the line"),
+    ("  pair 1-2: order from 1 to 2 3", 2, 31, 'expected a comma or the end of the line, found "3"'),
+    ("  pair 1-2: order 1-3-2\n    point 3", 3, 5, "expected no further indentation: the record above it holds no split"),
+    ("  pair 1-2: order 1-3-2\n    pair 1-3: split at 2", 3, 5, "expected no further indentation: the record above it holds no split"),
+    ("  pair 1-2: order from 1 to 2\n    point", 3, 10, "expected a point, found the end of the line"),
+    ("  pair 1-2: order from 1 to 2\n    point 3, a 4", 3, 14,
+     'expected "b" or "u" or "v" or "c" or "d" or "next", found "a"'),
+    ("  pair 1-2: order from 1 to 2\n    point 3, u 1, b 2", 3, 19, 'expected "v" or "c" or "d" or "next", found "b"'),
+    ("  pair 1-2: order from 1 to 2\n    point 3\n      point 4", 4, 7,
+     "expected no further indentation: the record above it holds no split"),
+    ("  pair 1-2: order from 1 to 2\n    pair 1-3: split at 2", 3, 5,
+     'expected "point" inside an order, found "pair"; a pair is indented under its split'),
+    ("  pair 1-2: order from 1 to 2\n    strike 1-3, split at 2", 3, 5,
+     'expected "point" inside an order, found "strike"; a strike has the indentation of the first, 0'),
+    ("  point 3", 2, 3, 'expected "pair" inside a split, found "point"; a point is indented under its "order from"'),
+    ("point 3", 2, 1, 'expected "strike", found "point"; a point is indented under its "order from"'),
 ]
 
 # whole text, line, column, message
@@ -116,6 +147,12 @@ class Errors(unittest.TestCase):
             with self.subTest(text[:60]):
                 self.check(SQUARE_HEAD + text, below + line, column, message)
 
+    def test_orders(self):
+        below = SQUARE_HEAD.count("\n")
+        for text, line, column, message in ORDERS:
+            with self.subTest(text):
+                self.check(f"{SQUARE_HEAD}strike 1-3, split at 2\n{text}", below + line, column, message)
+
     def test_heads(self):
         for text, line, column, message in HEADS:
             with self.subTest(text):
@@ -125,6 +162,8 @@ class Errors(unittest.TestCase):
         text = SQUARE_HEAD + "strike 1-2, split at 3\n" * 41
         with mock.patch("revosti_command.read.MAX_16", 40):
             self.check(text, 47, 1, "expected at most 40 records, this is record 41")
+            order = "  pair 1-2: order 1" + "-3" * 40
+            self.check(f"{SQUARE_HEAD}strike 1-2, split at 3\n{order}", 8, 3, "expected at most 40 records, this is record 41")
 
     def test_command_says_it(self):
         run = Run("pack", data=b"rule 1\npoints x\n")

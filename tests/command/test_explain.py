@@ -26,7 +26,7 @@ KEYS = {1: "4 to 180", 2: "not 2n numbers", 3: "outside 1 to 5", 4: "above 1,000
         14: "next standing one", 15: "edge or centres break", 16: "No labelling",
         17: "each point from 1 to n exactly once", 18: "fewer than twice as many places",
         19: "no TSPLIB text", 20: "Something is pending", 21: "Nothing is pending", 22: "a view has six bytes",
-        25: "A low length is above its high one", 26: "page number is 0", 27: "not such a page",
+        23: "no stretch from u to v", 24: "is not shorter", 25: "A low length is above its high one", 26: "page number is 0", 27: "not such a page",
         28: "outside 1 to 8", 29: "still has a line"}
 
 
@@ -79,8 +79,8 @@ class Numbers(unittest.TestCase):
             "Struck: 2 edges. Pending: 0 edges. Open: 4 edges.\n"))
 
     def test_unknown_number(self):
-        for number in (23, 24, 40):
-            self.assertIn("not one of 1 to 22 and 25 to 29", told(SQUARE_RECORDS, number, 1))
+        for number in (30, 40):
+            self.assertIn("not one of 1 to 29", told(SQUARE_RECORDS, number, 1))
 
     def test_some_lines_around(self):
         lines = [(1, 1, 2, 0, 0, 3, 0, k + 1) for k in range(1, 20)] + [(1, 1, 2, 0, 0, 3, 0, 0)]
@@ -125,16 +125,27 @@ class Details(unittest.TestCase):
                                        (9, (1, 0), "Its first index is 1."),
                                        (9, (0, 1), "Its next index is 1.")):
             self.assertIn(words, told([(1, 1, 3, 0, 0, 2, *fields)], refusal, 1))
+        for first, refusal, words in ((7, 8, "Its first index is 7; the sheet has 2 records."), (2, 9, "Its first index is 2.")):
+            self.assertIn(words, told([(1, 1, 3, 0, 0, 2, 2, 0), (4, 1, 3, 1, 2, 0, first, 0)], refusal, 2))
 
     def test_shapes(self):
         self.assertIn("Its kind is 2; its chain takes kind 1.", told([(2, 1, 3, 0, 0, 2, 0, 0)], 10, 1))
-        self.assertIn("Here u is 0 and v is 5.", told([(1, 1, 3, 0, 5, 2, 0, 0)], 10, 1))
-        cases = [(1, 1, 3, 0, 0, 2, 2, 0), (1, 1, 3, 0, 0, 2, 0, 0)]
-        self.assertIn("Its kind is 1; its chain takes kind 2 or 3.", told(cases, 10, 2))
+        self.assertIn("Here v is 5.", told([(1, 1, 3, 0, 5, 2, 0, 0)], 10, 1))
+        self.assertIn("Here u is 4 and v is 5.", told([(1, 1, 3, 4, 5, 2, 0, 0)], 10, 1))
+        line = (1, 1, 3, 0, 0, 2, 2, 0)
+        for kind in (1, 5):
+            self.assertIn(f"Its kind is {kind}; its chain takes kind 2, 3 or 4.", told([line, (kind, 1, 3, 0, 0, 2, 0, 0)], 10, 2))
+        order = (4, 1, 3, 1, 2, 0, 3, 0)
+        self.assertIn("Its kind is 2; its chain takes kind 5.", told([line, order, (2, 1, 3, 0, 0, 2, 0, 0)], 10, 3))
+        self.assertIn("Here c is 7.", told([line, order[:5] + (7, 0, 0)], 10, 2))
+        self.assertIn("Here b is 1 and d is 9.", told([line, order, (5, 4, 1, 0, 0, 0, 9, 0)], 10, 3))
 
     def test_points(self):
         self.assertIn("Here a is 0 and c is 5; n is 4.", told([(1, 0, 3, 0, 0, 5, 0, 0)], 11, 1))
         self.assertIn("Here a and b are both 3.", told([(1, 3, 3, 0, 0, 2, 0, 0)], 11, 1))
+        line, order = (1, 1, 3, 0, 0, 2, 2, 0), (4, 1, 3, 9, 2, 0, 3, 0)
+        self.assertIn("Here u is 9; n is 4.", told([line, order], 11, 2))
+        self.assertIn("Here a is 5; n is 4.", told([line, order, (5, 5, 0, 0, 0, 0, 0, 0)], 11, 3))
 
     def test_struck_before(self):
         twice = [(1, 1, 3, 0, 0, 2, 0, 2), (1, 3, 1, 0, 0, 2, 0, 0)]

@@ -2,10 +2,11 @@
 
 import itertools
 import random
+import re
 import struct
 import unittest
 
-from support import NINE, SQUARE_RECORDS, binary
+from support import EXAMPLES, NINE, SQUARE_HEAD, SQUARE_RECORDS, binary
 
 from revosti_command.parts import join, split
 from revosti_command.read import pack
@@ -25,8 +26,12 @@ def random_index(r, k, count):
 def random_record(r, k, count):
     """A record that often fits its place."""
     odd = r.choice([0, 0, 0, 7, 65535])
-    kind = r.choice([1, 2, 2, 3, 3, 0, r.randrange(65536)])
+    kind = r.choice([1, 2, 2, 3, 3, 4, 5, 5, 0, r.randrange(65536)])
     point = lambda: r.choice([r.randrange(1, 9), r.randrange(65536)])
+    if kind == 4:
+        return kind, point(), point(), point(), point(), odd, random_index(r, k, count), random_index(r, k, count)
+    if kind == 5 and r.random() < 0.8:
+        return kind, point(), 0, 0, 0, 0, 0, r.choice([0, k + 1, random_index(r, k, count)])
     u, v = (point(), point()) if kind == 3 else (odd, r.choice([0, odd]))
     d = point() if kind == 3 else random_index(r, k, count)
     return kind, point(), point(), u, v, point(), d, random_index(r, k, count)
@@ -41,6 +46,23 @@ def random_file(r):
     data = binary(records, points, r.choice([r.randrange(7), r.randrange(2**32)]), stated,
                   r.randbytes(r.choice([0, 0, r.randrange(16)])))
     return data[:r.randrange(len(data) + 1)] if r.random() < 0.15 else data
+
+
+def random_chain(r, depth):
+    """The lines of a chain of cases, as `unpack` writes them, splits, crossings and new orders one inside another."""
+    lines = []
+    for _ in range(r.randrange(4)):
+        a, b, c, d = (r.randrange(1, 10) for _ in range(4))
+        order = "-".join(str(r.randrange(1, 181)) for _ in range(r.randrange(2, 15)))
+        closing = r.choice([f"split at {c}", f"crossing {a}-{c}, centres {b} {d}", f"order {order}"])
+        lines += [f"{'  ' * depth}pair {a}-{b}: {closing}"]
+        lines += random_chain(r, depth + 1) if closing.startswith("split") and depth < 6 else []
+    return lines
+
+
+def random_sheet(r):
+    """The lines of a sheet on the square."""
+    return [line for _ in range(r.randrange(1, 5)) for line in ("strike 1-2, split at 3", *random_chain(r, 1))]
 
 
 class Both(unittest.TestCase):
@@ -79,9 +101,27 @@ class RoundTrip(Both):
         for _ in range(2000):
             self.there_and_back(random_file(r))
 
+    def test_random_sheets(self):
+        r, orders, inside = random.Random(8), 0, 0
+        for _ in range(400):
+            text = SQUARE_HEAD + "\n".join([*random_sheet(r), ""])
+            self.assertEqual(self.there_and_back(packed(text)), text)
+            orders, inside = orders + text.count("order"), inside + len(re.findall(r"^ {6,}pair .* order", text, re.M))
+        self.assertGreater(min(orders, inside), 200)
+
+    def test_damaged_order(self):
+        r, sheet, rows = random.Random(9), (EXAMPLES / "stretch.bin").read_bytes(), set()
+        for _ in range(3000):
+            data = bytearray(sheet)
+            for _ in range(r.randrange(1, 4)):
+                data[r.randrange(56, len(data))] = r.choice([0, 1, 4, 5, 6, 7, 8, r.randrange(256)])
+            text = self.there_and_back(bytes(data))
+            rows |= set(re.findall(r"order from|order \d|point \d+, [a-z]|, first|, c |, next|record 4|record 5|unused 5", text))
+        self.assertGreaterEqual(len(rows), 9)
+
     def test_all_pairs_of_records(self):
         plain = [(kind, 1, 2, u, 0, 3, d, after)
-                 for kind in (1, 2, 3, 9) for u in (0, 5) for d in range(4) for after in range(4)]
+                 for kind in (1, 2, 3, 4, 5, 9) for u in (0, 5) for d in range(4) for after in range(4)]
         for first, second in itertools.product(plain[::3], plain):
             self.there_and_back(binary([first, second], []))
 
@@ -110,6 +150,12 @@ class RoundTrip(Both):
             data = random_file(r)
             self.assertEqual(packed(unpack(split(data), numbers=True)), data)
 
+    def test_three_records_with_an_order(self):
+        order = [(4, 1, 2, 3, 4, c, d, after) for c in (0, 5) for d in range(5) for after in range(5)]
+        points = [(kind, 7, b, 0, 0, 0, d, after) for kind in (5, 4, 2) for b, d in ((0, 0), (1, 0), (0, 3)) for after in range(6)]
+        for second, third in itertools.product(order, points):
+            self.there_and_back(binary([(1, 1, 2, 0, 0, 3, 2, 0), second, third, (5, 8, 0, 0, 0, 0, 0, 0)], []))
+
     def test_good_sheet_needs_no_indexes(self):
         text = self.there_and_back(packed(NINE.read_text()))
         self.assertEqual(text, NINE.read_text())
@@ -128,6 +174,18 @@ class Extremes(Both):
         deep = [(1 if k == 1 else 2, 1, 2, 0, 0, 3, k + 1, 0) for k in range(1, 4001)]
         text = self.there_and_back(binary(deep))
         self.assertLess(len(text), 400_000)
+
+    def test_longest_order(self):
+        chain = [(5, k % 181, 0, 0, 0, 0, 0, k + 1 if k < 4000 else 0) for k in range(3, 4001)]
+        text = self.there_and_back(binary([(1, 1, 2, 0, 0, 3, 2, 0), (4, 1, 2, 3, 4, 0, 3, 0), *chain]))
+        self.assertEqual(text.count("\n"), SQUARE_HEAD.count("\n") + 2)
+
+    def test_order_20_deep(self):
+        for depth in (19, 20, 21):
+            deep = [(1 if k == 1 else 2, 1, 2, 0, 0, 3, k + 1, 0) for k in range(1, depth + 1)]
+            order = [(4, 1, 2, 3, 4, 0, depth + 2, 0), (5, 7, 0, 0, 0, 0, 0, 0)]
+            text = self.there_and_back(binary(deep + order))
+            self.assertEqual(("order 3-7-4" in text, "order 3-4, first 22" in text), (depth == 19, depth == 20))
 
     def test_longest_file(self):
         self.there_and_back(binary([(1, 1, 2, 0, 0, 3, 0, k + 1) for k in range(1, 4001)],

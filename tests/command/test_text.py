@@ -2,7 +2,7 @@
 
 import unittest
 
-from support import SQUARE_HEAD, SQUARE_POINTS, SQUARE_RECORDS, binary
+from support import EXAMPLES, SQUARE_HEAD, SQUARE_POINTS, SQUARE_RECORDS, binary
 
 from revosti_command.parts import join, split
 from revosti_command.read import pack
@@ -77,6 +77,49 @@ class Unpack(unittest.TestCase):
                          LINE_TEXT + "\n  pair 1-2: crossing 3-4, centres 1 2, next 99\n"
                          + LINE_TEXT + "\n")
 
+    def test_order(self):
+        order = (4, 1, 2, 3, 4, 0, 3, 0)
+        points = [(5, 7, 0, 0, 0, 0, 0, 4), (5, 8, 0, 0, 0, 0, 0, 0)]
+        self.assertEqual(records_text(LINE[:6] + (2, 0), order, *points), LINE_TEXT + "\n  pair 1-2: order 3-7-8-4\n")
+        self.assertEqual(records_text(LINE[:6] + (2, 0), order[:6] + (0, 0)), LINE_TEXT + "\n  pair 1-2: order 3-4\n")
+
+    def test_order_among_others(self):
+        self.assertEqual(records_text(
+            (1, 1, 2, 0, 0, 5, 2, 9), (4, 3, 7, 1, 2, 0, 3, 5), (5, 6, 0, 0, 0, 0, 0, 4), (5, 8, 0, 0, 0, 0, 0, 0),
+            (2, 3, 9, 0, 0, 8, 6, 0), (4, 1, 4, 6, 9, 0, 7, 8), (5, 2, 0, 0, 0, 0, 0, 0), (3, 2, 4, 5, 6, 7, 8, 0),
+            (1, 4, 3, 0, 0, 2, 0, 0)),
+            "strike 1-2, split at 5\n"
+            "  pair 3-7: order 1-6-8-2\n"
+            "  pair 3-9: split at 8\n"
+            "    pair 1-4: order 6-2-9\n"
+            "    pair 2-4: crossing 5-6, centres 7 8\n"
+            "strike 4-3, split at 2\n")
+
+    def test_odd_order(self):
+        line, last = LINE[:6] + (2, 0), (5, 7, 0, 0, 0, 0, 0, 0)
+        for order, words in (((4, 1, 2, 3, 4, 5, 3, 0), "order 3-7-4, c 5"), ((4, 1, 2, 3, 4, 0, 3, 9), "order 3-7-4, next 9"),
+                             ((4, 1, 2, 3, 4, 6, 3, 1), "order 3-7-4, c 6, next 1")):
+            self.assertEqual(records_text(line, order, last), f"{LINE_TEXT}\n  pair 1-2: {words}\n")
+        self.assertEqual(records_text(line, (4, 1, 2, 3, 4, 0, 9, 0)), f"{LINE_TEXT}\n  pair 1-2: order 3-4, first 9\n")
+
+    def test_order_that_no_line_can_say(self):
+        line, order = LINE[:6] + (2, 0), (4, 1, 2, 3, 4, 0, 3, 0)
+        for points, words in (([(5, 7, 0, 0, 0, 0, 0, 9)], "    point 7, next 9\n"),
+                              ([(5, 7, 1, 2, 3, 4, 5, 6)], "    point 7, b 1, u 2, v 3, c 4, d 5, next 6\n"),
+                              ([(5, 7, 0, 0, 0, 0, 0, 5), (0,) * 8, (5, 8, 0, 0, 0, 0, 0, 0)],
+                               "    point 7\n    unused 0 0 0 0 0 0 0 0\n    point 8\n"),
+                              ([(5, 7, 0, 0, 0, 0, 0, 4), (2, 1, 2, 0, 0, 3, 9, 5), (5, 8, 0, 0, 0, 0, 0, 0)],
+                               "    point 7\n    record 2 1 2 0 0 3 9 5\n    point 8\n"),
+                              ([(4, 7, 1, 2, 3, 0, 0, 0)], "    record 4 7 1 2 3 0 0 0\n")):
+            self.assertEqual(records_text(line, order, *points), f"{LINE_TEXT}\n  pair 1-2: order from 3 to 4\n{words}")
+        self.assertEqual(records_text(line, (4, 1, 2, 3, 4, 0, 4, 0), (0,) * 8, (5, 7, 0, 0, 0, 0, 0, 0)),
+                         f"{LINE_TEXT}\n  pair 1-2: order from 3 to 4\n    unused 0 0 0 0 0 0 0 0\n    point 7\n")
+
+    def test_order_or_point_out_of_place(self):
+        self.assertEqual(records_text((4, 1, 2, 3, 4, 0, 2, 0), (5, 7, 0, 0, 0, 0, 0, 0)),
+                         "record 4 1 2 3 4 0 2 0\nunused 5 7 0 0 0 0 0 0\n")
+        self.assertEqual(records_text(LINE[:6] + (2, 0), (5, 7, 0, 0, 0, 0, 0, 0)), f"{LINE_TEXT}\n  record 5 7 0 0 0 0 0 0\n")
+
     def test_short_files(self):
         self.assertEqual(unpack(split(b"")), "bytes\n")
         self.assertEqual(unpack(split(b"\x0a\xff")), "bytes 0a ff\n")
@@ -100,6 +143,8 @@ class Unpack(unittest.TestCase):
         text = unpack(split(binary(SQUARE_RECORDS)), numbers=True)
         self.assertRegex(text, r"(?m)^strike 1-3, split at 2 +# 1$")
         self.assertRegex(text, r"(?m)^strike 2-4, split at 1 +# 2$")
+        text = unpack(split((EXAMPLES / "stretch.bin").read_bytes()), numbers=True)
+        self.assertRegex(text, r"(?m)^    pair 1-5: order 4-6-2-3-1-5 +# 3 to 7$")
 
 
 class Pack(unittest.TestCase):
@@ -132,6 +177,24 @@ class Pack(unittest.TestCase):
                           (2, 3, 9, 0, 0, 8, 4, 5), (2, 1, 4, 0, 0, 6, 0, 0),
                           (2, 4, 9, 0, 0, 8, 0, 0), (1, 4, 3, 0, 0, 2, 0, 0)])
 
+    def test_order(self):
+        self.assertEqual(records_of("strike 1-2, split at 5\n"
+                                    "  pair 3-7: order 1 - 6-8 -2 # a new order\n"
+                                    "  pair 3-9: order from 8 to 9\n"
+                                    "       point 4\n"
+                                    "       point 3\n"
+                                    "  pair 4-9: order 8-9\n"
+                                    "strike 4-3, split at 2\n"),
+                         [(1, 1, 2, 0, 0, 5, 2, 9), (4, 3, 7, 1, 2, 0, 3, 5), (5, 6, 0, 0, 0, 0, 0, 4), (5, 8, 0, 0, 0, 0, 0, 0),
+                          (4, 3, 9, 8, 9, 0, 6, 8), (5, 4, 0, 0, 0, 0, 0, 7), (5, 3, 0, 0, 0, 0, 0, 0), (4, 4, 9, 8, 9, 0, 0, 0),
+                          (1, 4, 3, 0, 0, 2, 0, 0)])
+
+    def test_given_indexes_of_an_order_win(self):
+        self.assertEqual(records_of("strike 1-2, split at 3\n  pair 1-2: order 1-3-4-2, c 5, first 0, next 9\n"
+                                    "  pair 1-3: order from 1 to 3, first 9\n    point 2, b 1, u 2, v 3, c 4, d 5, next 0\n    point 4\n"),
+                         [(1, 1, 2, 0, 0, 3, 2, 0), (4, 1, 2, 1, 2, 5, 0, 9), (5, 3, 0, 0, 0, 0, 0, 4), (5, 4, 0, 0, 0, 0, 0, 0),
+                          (4, 1, 3, 1, 3, 0, 9, 0), (5, 2, 1, 2, 3, 4, 5, 0), (5, 4, 0, 0, 0, 0, 0, 0)])
+
     def test_whole_sheet_may_be_indented(self):
         self.assertEqual(records_of("    strike 1-2, split at 3\n      pair 1-2: split at 4\n"
                                     "    strike 1-2, split at 3\n"),
@@ -159,6 +222,8 @@ class Pack(unittest.TestCase):
     def test_record_lines_are_told(self):
         text = SQUARE_HEAD + "\n# one\nstrike 1-2, split at 3\n\n  pair 1-2: split at 4\n"
         self.assertEqual(pack(text).lines, [9, 11])
+        text = SQUARE_HEAD + "strike 1-2, split at 3\n\n  pair 1-2: order 1-3-4-2\n  pair 1-3: order from 1 to 3\n    point 2\n"
+        self.assertEqual(pack(text).lines, [7, 9, 9, 9, 10, 11])
 
 
 if __name__ == "__main__":

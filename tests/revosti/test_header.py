@@ -1,7 +1,8 @@
 """The inline functions for packed sets in include/revosti.h, compiled as C99 and as C++, against sets made by another way; and those for
-the answers of a saving and of a TSPLIB text and for a slip."""
+the answers of a saving and of a TSPLIB text and for a slip. Its names for kinds and refusals are those of Python."""
 
 import ctypes
+import re
 import shutil
 import subprocess
 import tempfile
@@ -12,6 +13,8 @@ from pathlib import Path
 from support import ROOT
 
 from packing import SIZES, packed, some
+from revosti.refusal import REFUSALS
+from revosti_command import parts
 
 STRICT = ("-Wall", "-Wextra", "-Wpedantic", "-Wconversion", "-Werror", "-O2", "-shared", "-fPIC")
 SOURCE = """
@@ -114,6 +117,23 @@ class Inline:
     def test_refusal_of_other_answers(self):
         for answer, number in ((21, 21), (18, 18), (16 + 256 * 3, 16), (14 + 256 * 4000 + 16_777_216 * 7, 14), (65536 * 40 + 256, 0)):
             self.assertEqual(self.functions.refusal(answer), number)
+
+
+class Names(unittest.TestCase):
+    """The numbers behind the names."""
+
+    HEADER = (ROOT / "include/revosti.h").read_text(encoding="utf-8")
+
+    def test_kinds(self):
+        names = ("LINE", "SPLIT", "CROSSING", "STRETCH", "STRETCH_POINT")
+        found = re.findall(r"REVOSTI_(\w+) = (\d+),? +/\* kind (\d+): ", self.HEADER)
+        self.assertEqual(found, [(name, str(kind), str(kind)) for kind, name in enumerate(names, 1)])
+        self.assertEqual([getattr(parts, name) for name in names], [1, 2, 3, 4, 5])
+
+    def test_refusals(self):
+        found = dict(re.findall(r"REVOSTI_(\w+) = (\d+)", self.HEADER.partition("/* Refusal numbers.")[2].partition("};")[0]))
+        self.assertEqual(list(map(int, found.values())), [0, *REFUSALS])
+        self.assertEqual((found["NO_STRETCH"], found["NOT_SHORTER"], found["LIMITS"]), ("23", "24", "25"))
 
 
 class Compiled(unittest.TestCase):
