@@ -12,8 +12,8 @@ from revosti.refusal import REFUSALS
 from revosti_command.edges import edges
 from revosti_command.lengths import Lengths, measured
 from revosti_command.marks import NAMES
-from revosti_command.parts import split
-from revosti_command.read import pack
+from revosti_command.parts import ZERO_IN, Record, split
+from revosti_command.read import pack, pack_beside
 from revosti_command.tsplib import complaint
 from revosti_command.verdict import dry
 
@@ -57,6 +57,34 @@ class Formats(unittest.TestCase):
         run = Run("explain", data=re.sub(r"\n.*crossing.*", "", self.text).encode())
         self.assertEqual(run.status, 1)
         self.assertIn(block("Refused"), run.text)
+
+
+class Stretch(unittest.TestCase):
+    """The sheet with a new order is the example, its records are those shown, and what is told of its damages is so."""
+
+    def test_text(self):
+        self.assertEqual(block("# one line"), (EXAMPLES / "stretch.txt").read_text())
+        written = re.findall(r"^(\d+): ([\d ]+?)  ", block("3: 4 1 5"), re.M)
+        records = split((EXAMPLES / "stretch.bin").read_bytes()).records
+        self.assertEqual(written, [(str(k), " ".join(map(str, record))) for k, record in enumerate(records, 1) if k > 2])
+
+    def test_kinds(self):
+        section = PAGE.partition("A record has eight 16-bit numbers.")[2].partition("\nIndex 0 ends")[0]
+        rows = [[cell.strip() for cell in row.split("|")[2:-1]] for row in section.splitlines() if row.startswith("| ")][1:]
+        self.assertEqual([int(row[0]) for row in rows], list(ZERO_IN))
+        for kind, *row in rows:
+            named = dict(zip(Record._fields[1:], row))
+            self.assertEqual([name for name in named if named[name] == "0"], list(ZERO_IN[int(kind)]))
+
+    def test_sentences(self):
+        for name, number, start in (("stretch_point_twice", 23, "The stretch is 4-3"), ("stretch_not_shorter", 24, "The stretch 4-3")):
+            self.assertIn(f"Refused, number {number}: {REFUSALS[number]}\n{block(start)}", Run("explain", EXAMPLES / f"{name}.bin").text)
+
+    def test_options(self):
+        rows = re.findall(r"^\| `(pair 1-5: order from 4 to 5|point 6, [^`]*)` \|", PAGE, re.M)
+        self.assertEqual(len(rows), 2)
+        records = pack_beside(split(binary())._replace(records=[]), f"strike 1-2, split at 3\n  {rows[0]}\n    {rows[1]}\n").parts.records
+        self.assertEqual(records[1:], [(4, 1, 5, 4, 5, 0, 3, 0), (5, 6, 1, 2, 3, 4, 5, 0)])
 
 
 class Marks(unittest.TestCase):
