@@ -1,5 +1,6 @@
--- THE RUN: no list of steps (marking, asking, confirming, withdrawing, marking over low and high, turns of desks) from fresh marks leaves an edge of a 3-optimal tour struck or
--- pending, under any table that its marks serve. Here of the marks of the edges; `PackedRuns` says it of packed sets and of the functions for C. Assumes nothing.
+-- THE RUN: no list of steps (marking, asking, confirming, withdrawing, marking over low and high, turns of desks) from fresh marks leaves an edge of
+-- a shortest tour struck or pending, under any table that its marks serve; nor one of a 3-optimal tour, where no sheet has a record of kind 4. Here of the
+-- marks of the edges; `PackedRuns` says it of packed sets and of the functions for C. Assumes nothing.
 use Prim.Native.Nat.{ℕ, _≤_}
 use mathlib.Core.Path.{_≡_, refl, sym, _∙_, ap, subst}
 use mathlib.Core.Logic.{_⊎_, inl, inr}
