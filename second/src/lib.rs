@@ -1,6 +1,6 @@
 //! A second program for strike sheets, read from documents 01 and 02 alone.
 //!
-//! Names: a feasible pair is 01's standing pair; K is `EdgeSet`.
+//! Names: a feasible pair is 01's standing pair; K is `EdgeSet`; a segment is Paper 10's stretch.
 //! `kit` holds the generator, the naive checker, brute force and the comparison.
 
 pub mod bytes;
@@ -20,6 +20,7 @@ pub mod pairs;
 pub mod program;
 pub mod refusal;
 pub mod saving;
+pub mod segment;
 pub mod sheet;
 pub mod slip;
 pub mod tour;

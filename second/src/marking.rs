@@ -1,5 +1,5 @@
-//! *Mark a sheet* (01, The sheet; Each operation and its refusals), asking it (02, Paper 3) and marking it over two tables
-//! (Paper 11).
+//! *Mark a sheet* (01, The sheet; Each operation and its refusals), asking it (02, Paper 3), marking it over two tables
+//! (Paper 11), and cases closed by a new order of a segment (Paper 10).
 
 use crate::crossing::Crossing;
 use crate::edge_set::EdgeSet;
@@ -9,7 +9,8 @@ use crate::marks::{Marks, PENDING, STRUCK};
 use crate::packed::{put_mark, some_pending};
 use crate::pairs::Split;
 use crate::refusal::{demand, Fault, Refusal};
-use crate::sheet::{Case, Closing, Line, Sheet};
+use crate::segment::{Order, Segment};
+use crate::sheet::{Case, Closing, Line, Point, Sheet};
 
 /// The answer: the fault that stopped the sheet, if any, and the number of lines accepted.
 #[derive(Clone, Copy, Debug, PartialEq, Eq)]
@@ -139,7 +140,7 @@ impl<'a> Walk<'a> {
         demand(split.next_pair().is_none(), Refusal::Pair, holder)
     }
 
-    /// Closes a case whose pair is in K: 13 and its split, or 15 and 16.
+    /// Closes a case whose pair is in K: 13 and its split, 15 and 16, or 23 and 24.
     fn close(&mut self, marks: Marks, index: u16, case: &Case, left: usize) -> Result<(), Fault> {
         match case.closing {
             Closing::Split { c, first } => {
@@ -150,6 +151,28 @@ impl<'a> Walk<'a> {
                 let crossing = Crossing { p, q, r, s };
                 crossing.closes(&self.known, self.lengths).map_err(|refusal| Fault { refusal, record: index })
             }
+            Closing::Reordering { u, v, first } => self.reorder(index, (u, v), first),
         }
+    }
+
+    /// 23, no such segment; its chain of points; 23, not its inner points; 24.
+    fn reorder(&mut self, index: u16, (u, v): (u16, u16), first: u16) -> Result<(), Fault> {
+        let fault = |refusal| Fault { refusal, record: index };
+        let segment = Segment::find(&self.known, self.lengths.order.n, u, v).ok_or(fault(Refusal::NoSegment))?;
+        let order = self.points(index, first)?;
+        segment.shortened_by(&order, self.lengths).map_err(fault)
+    }
+
+    /// Follows the chain of points that record `owner` holds to its end, however long it is.
+    fn points(&mut self, owner: u16, first: u16) -> Result<Order, Fault> {
+        let mut order = Order::default();
+        let (mut holder, mut index) = (owner, first);
+        while index != 0 {
+            self.follow(holder, index)?;
+            let Point { point, next } = self.sheet.point(self.lengths.order.n, index)?;
+            order.push(point);
+            (holder, index) = (index, next);
+        }
+        Ok(order)
     }
 }

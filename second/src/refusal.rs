@@ -26,6 +26,8 @@ pub enum Refusal {
     SomethingPending = 20,
     NothingPending = 21,
     Buffer = 22,
+    NoSegment = 23,
+    NotShorter = 24,
     LowAboveHigh = 25,
     Page = 26,
     PageText = 27,

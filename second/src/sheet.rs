@@ -1,4 +1,4 @@
-//! Records and their first tests (01, The sheet; tests 7, 10, 11).
+//! Records and their first tests (01, The sheet; 02, Paper 10; tests 7, 10, 11).
 
 use crate::refusal::{demand, Fault, Refusal};
 
@@ -19,17 +19,25 @@ pub struct Line {
     pub next: u16,
 }
 
-/// Kinds 2 and 3: the pair, the closing, the next case.
+/// Kinds 2, 3 and 4: the pair, the closing, the next case.
 pub struct Case {
     pub pair: (u16, u16),
     pub closing: Closing,
     pub next: u16,
 }
 
-/// "A case record carries one of two closings, a split or a crossing."
+/// "A case record carries one of two closings, a split or a crossing", or Paper 10's: the ends of a segment and the first
+/// of the chain that names its new order.
 pub enum Closing {
     Split { c: u16, first: u16 },
     Crossing { p: u16, q: u16, r: u16, s: u16 },
+    Reordering { u: u16, v: u16, first: u16 },
+}
+
+/// Kind 5: a point of a new order, the next one.
+pub struct Point {
+    pub point: u16,
+    pub next: u16,
 }
 
 impl<'a> Sheet<'a> {
@@ -40,6 +48,8 @@ impl<'a> Sheet<'a> {
     pub const LINE: u16 = 1;
     pub const CASE_SPLIT: u16 = 2;
     pub const CASE_CROSSING: u16 = 3;
+    pub const CASE_REORDERING: u16 = 4;
+    pub const SEGMENT_POINT: u16 = 5;
 
     /// Test 7: 1 to 4,000 whole records.
     pub fn read(numbers: &'a [u16]) -> Result<Self, Refusal> {
@@ -82,9 +92,22 @@ impl<'a> Sheet<'a> {
                 demand(points(n, a, b, &[u, v, c, d]), Refusal::PointField, index)?;
                 Closing::Crossing { p: u, q: v, r: c, s: d }
             }
+            Self::CASE_REORDERING => {
+                demand(c == 0, Refusal::Kind, index)?;
+                demand(points(n, a, b, &[u, v]), Refusal::PointField, index)?;
+                Closing::Reordering { u, v, first: d }
+            }
             _ => return Err(Fault { refusal: Refusal::Kind, record: index }),
         };
         Ok(Case { pair: (a, b), closing, next })
+    }
+
+    /// The record at `index` as a point of a new order: 10, 11.
+    pub fn point(&self, n: u16, index: u16) -> Result<Point, Fault> {
+        let [kind, point, b, u, v, c, d, next] = self.record(index);
+        demand(kind == Self::SEGMENT_POINT && [b, u, v, c, d] == [0; 5], Refusal::Kind, index)?;
+        demand((1..=n).contains(&point), Refusal::PointField, index)?;
+        Ok(Point { point, next })
     }
 }
 

@@ -31,6 +31,7 @@ pub mod set_faults;
 pub mod sets;
 pub mod sets_met;
 pub mod sheets;
+pub mod six_points;
 pub mod slips;
 pub mod slips_met;
 pub mod spoil;

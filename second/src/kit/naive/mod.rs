@@ -11,6 +11,7 @@ mod pages;
 mod reader;
 mod rules;
 mod savings;
+mod segments;
 mod sets;
 mod slip;
 pub mod texts;

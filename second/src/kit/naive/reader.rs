@@ -39,10 +39,21 @@ impl Reader<'_> {
     pub fn first_tests(&self, index: usize, kinds: &[usize]) -> Result<Vec<usize>, Stop> {
         let record = self.records[index - 1].clone();
         let (kind, a, b, u, v, c, d) = (record[0], record[1], record[2], record[3], record[4], record[5], record[6]);
-        if !kinds.contains(&kind) || (kind != 3 && u != 0) || (kind != 3 && v != 0) {
+        let unused = match kind {
+            3 => vec![],
+            4 if self.board.slip == Some(Slip::CentreUnread) => vec![],
+            4 => vec![c],
+            _ => vec![u, v],
+        };
+        if !kinds.contains(&kind) || unused.iter().any(|&field| field != 0) {
             return Err((10, index));
         }
-        let fields = if kind == 3 { vec![a, b, u, v, c, d] } else { vec![a, b, c] };
+        let fields = match kind {
+            3 => vec![a, b, u, v, c, d],
+            4 if self.board.slip == Some(Slip::EndsUnread) => vec![a, b],
+            4 => vec![a, b, u, v],
+            _ => vec![a, b, c],
+        };
         if !fields.iter().all(|&v| self.point(v)) || a == b {
             return Err((11, index));
         }
@@ -60,13 +71,17 @@ impl Reader<'_> {
     ) -> Result<(), Stop> {
         let record = &self.records[index - 1];
         let most = if self.board.slip == Some(Slip::SevenSplits) { 7 } else { 6 };
-        let too_deep = record[0] == 2 && depth + 1 > most;
+        let splits = record[0] == 2 || record[0] == 4 && self.board.slip == Some(Slip::ReorderingDeeper);
+        let too_deep = splits && depth + 1 > most;
         if self.board.slip == Some(Slip::SplitBeforePair) && too_deep {
             return Err((13, index));
         }
         let more = with(&with(k, (c, record[1])), (c, record[2]));
         if self.board.slip == Some(Slip::CrossingBeforePair) && record[0] == 3 && !has(&more, (record[3], record[4])) {
             return Err((15, index));
+        }
+        if self.board.slip == Some(Slip::SegmentBeforePair) && record[0] == 4 && self.no_segment(&more, index) {
+            return Err((23, index));
         }
         if next != Some(&(record[1], record[2])) {
             return Err((14, index));
@@ -90,11 +105,13 @@ impl Reader<'_> {
         let (mut last, mut index, mut named) = (owner, first, 0);
         while index != 0 {
             self.enter(last, index)?;
-            let record = self.first_tests(index, &[2, 3])?;
+            let record = self.first_tests(index, &[2, 3, 4])?;
             self.case_tests(index, k, c, pairs.get(named), depth)?;
             let more = with(&with(k, (c, record[1])), (c, record[2]));
             if record[0] == 2 {
                 self.chain(marks, &more, index, record[5], record[6], depth + 1)?;
+            } else if record[0] == 4 {
+                self.reorder(&more, index)?;
             } else {
                 let fault = self.board.crossing(&more, [record[3], record[4], record[5], record[6]]);
                 if fault != 0 {

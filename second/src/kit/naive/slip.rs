@@ -280,6 +280,48 @@ pub enum Slip {
     ShortDesksOpened,
     /// Any index that is not 0 is a line left.
     UnservedLineLeft,
+    /// An order that is as short as the old path closes a case.
+    OrderAsShort,
+    /// Where K is a closed tour, one of its two paths is the segment.
+    ClosedTourTaken,
+    /// A segment may have no inner point.
+    NoInnerPoint,
+    /// A segment is a whole path of K.
+    PathEndsOnly,
+    /// The chain of points is entered before the segment is looked for.
+    ChainBeforeSegment,
+    /// 23 before 14.
+    SegmentBeforePair,
+    /// 24 before 23 at the end of the chain.
+    ShorterBeforePoints,
+    /// 23 and 24 name the last record of the chain.
+    PointNamed,
+    /// A chain may name an inner point twice.
+    PointTwice,
+    /// A chain may leave inner points out.
+    PointMissing,
+    /// A chain may name any points, as many as there are inner ones.
+    AnyPoints,
+    /// A new order is read from v to u.
+    OrderBackwards,
+    /// A new order counts low.
+    OrderCountsLow,
+    /// The old path counts high.
+    OldPathHigh,
+    /// A chain of more than twelve points is not followed to its end.
+    LongChainCut,
+    /// Records of points do not raise the highest one entered.
+    PointsNotEntered,
+    /// d of a point may be anything.
+    PointFieldUnread,
+    /// 11 does not read a point of a chain.
+    PointUnread,
+    /// c of a case with a new order may be anything.
+    CentreUnread,
+    /// 11 does not read the ends of a segment.
+    EndsUnread,
+    /// A new order counts as a split: six splits around it are too many.
+    ReorderingDeeper,
 }
 
 impl Slip {
@@ -432,5 +474,30 @@ impl Slip {
         Slip::PastDesksCleared,
         Slip::ShortDesksOpened,
         Slip::UnservedLineLeft,
+    ];
+
+    /// Those of new orders of segments.
+    pub const SEGMENTS: [Slip; 21] = [
+        Slip::OrderAsShort,
+        Slip::ClosedTourTaken,
+        Slip::NoInnerPoint,
+        Slip::PathEndsOnly,
+        Slip::ChainBeforeSegment,
+        Slip::SegmentBeforePair,
+        Slip::ShorterBeforePoints,
+        Slip::PointNamed,
+        Slip::PointTwice,
+        Slip::PointMissing,
+        Slip::AnyPoints,
+        Slip::OrderBackwards,
+        Slip::OrderCountsLow,
+        Slip::OldPathHigh,
+        Slip::LongChainCut,
+        Slip::PointsNotEntered,
+        Slip::PointFieldUnread,
+        Slip::PointUnread,
+        Slip::CentreUnread,
+        Slip::EndsUnread,
+        Slip::ReorderingDeeper,
     ];
 }
