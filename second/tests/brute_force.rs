@@ -7,7 +7,7 @@ use second::kit::boards::{self, Board};
 use second::kit::brute::Shortest;
 use second::kit::coverage::Coverage;
 use second::kit::drafts::sheet_bytes;
-use second::kit::kept::Kept;
+use second::kit::kept::{Kept, RunMarks};
 use second::kit::rng::Rng;
 use second::kit::sets::packed;
 use second::kit::sheets::{self, Plan};
@@ -26,15 +26,18 @@ fn sheet(rng: &mut Rng, lengths: &Intervals, marks: &[u8]) -> Vec<u8> {
     }
 }
 
-/// A sheet marked or asked, or what is pending confirmed or withdrawn; the number for C.
-fn step(rng: &mut Rng, lengths: &Intervals, table: &[u8], marks: &mut [u8]) -> u64 {
-    let n = u32::from(lengths.order.n);
-    match rng.below(5) {
-        0 => confirm(n, marks),
-        1 => withdraw(n, marks),
-        2 => mark_sheet(n, table, marks, &sheet(rng, lengths, marks)),
-        _ => ask_sheet(n, table, marks, &sheet(rng, lengths, marks)),
-    }
+/// A sheet marked or asked, or what is pending confirmed or withdrawn; the lines accepted.
+fn step(rng: &mut Rng, lengths: &Intervals, table: &[u8], marks: &mut RunMarks) -> u64 {
+    let (n, mut set) = (u32::from(lengths.order.n), marks.set.clone());
+    let sheet = sheet(rng, lengths, &set);
+    let lines = match rng.below(5) {
+        0 => confirm(n, &mut set),
+        1 => withdraw(n, &mut set),
+        2 => mark_sheet(n, table, &mut set, &sheet),
+        _ => ask_sheet(n, table, &mut set, &sheet),
+    } >> 24;
+    marks.marked(set, &sheet, lines);
+    lines
 }
 
 /// Takes step after step and answers the number of lines accepted.
@@ -42,11 +45,11 @@ fn run(rng: &mut Rng, board: &Board, steps: usize) -> u64 {
     let lengths = Intervals::exact(board.n, &board.table);
     let kept = Kept::new(rng, board);
     let table: Vec<u8> = board.table.iter().flat_map(|l| l.to_le_bytes()).collect();
-    let mut marks = vec![0; packed_size(board.n)];
-    fresh_marks(u32::from(board.n), &mut marks);
+    let mut marks = RunMarks::new(vec![0; packed_size(board.n)]);
+    fresh_marks(u32::from(board.n), &mut marks.set);
     let mut strikes = 0;
     for _ in 0..steps {
-        strikes += step(rng, &lengths, &table, &mut marks) >> 24;
+        strikes += step(rng, &lengths, &table, &mut marks);
         let held = kept.hold(board, &marks, strikes, &mut Coverage::default());
         assert_eq!(held, Ok(()), "{board:?}");
     }

@@ -4,6 +4,7 @@ use second::kit::checker::{Checker, Second};
 use second::kit::compare::Comparison;
 use second::kit::coverage::Coverage;
 use second::kit::naive::{Naive, Slip};
+use second::kit::segment_faults::SegmentFault;
 use second::kit::sets_met::READERS;
 
 #[test]
@@ -338,6 +339,65 @@ fn desks_are_demanded() {
         "a turn after a sheet cut before the line that waits",
     ] {
         demanded(unmet.to_string());
+    }
+}
+
+/// Before the first case no new order has been met.
+#[test]
+fn segments_are_demanded() {
+    let missing = Coverage::default().missing();
+    let demanded = |unmet: String| assert!(missing.contains(&unmet), "{unmet}");
+    for operation in ["mark a sheet", "ask a sheet", "mark between", "turn"] {
+        for unmet in ["23", "24", "a new order accepted", "23 before the chain", "23 after the chain"] {
+            demanded(format!("{operation}: {unmet}"));
+        }
+    }
+    [23, 24].iter().for_each(|number| demanded(format!("program: {number}")));
+    (1..=12).for_each(|inner| demanded(format!("an order of {inner} inner points not shorter")));
+    (3..=12).for_each(|inner| demanded(format!("an order of {inner} inner points accepted")));
+    (1..=6).for_each(|depth| demanded(format!("an order inside {depth} splits not shorter")));
+    (2..=6).for_each(|depth| demanded(format!("an order inside {depth} splits accepted")));
+    SegmentFault::ALL.iter().for_each(|(_, name)| demanded(format!("a new order with {name}")));
+    for unmet in [
+        "accepted new orders",
+        "strikes of sheets with a new order held against all shortest tours",
+        "strikes of sheets with a new order over two tables held against all shortest tours between",
+        "strikes of turns with a new order held against all shortest tours",
+        "3-opt tours longer than another with an edge struck by a sheet with a new order",
+        "the six points",
+        "orders that save over two different tables",
+        "orders that save over the low table alone, not over two",
+        "orders that save over the high table alone, not over two",
+    ] {
+        demanded(unmet.to_string());
+    }
+}
+
+/// Cases until the comparison finds a slip in new orders, and what it finds, in the second program against the naive one or
+/// in both.
+fn found_in_segments(slip: Slip, both: bool) -> String {
+    let naive = Naive { slip: Some(slip) };
+    let one: &dyn Checker = if both { &naive } else { &Second };
+    let mut comparison = Comparison::new(one, &naive, &naive, 7);
+    let Err(difference) = comparison.run_segments(2_000) else { panic!("{slip:?} is not found") };
+    let what = difference.0.split(" differs").next().unwrap();
+    println!("{slip:?}: {what}, {}", difference.0.lines().next().unwrap());
+    what.to_string()
+}
+
+#[test]
+fn slips_in_segments_are_found() {
+    for slip in Slip::SEGMENTS {
+        assert_eq!(found_in_segments(slip, false), "new order", "{slip:?}");
+    }
+}
+
+/// Paper 10's law, where both programs make the slip: each damage gets its refusal, and an order is accepted exactly where it
+/// is shorter.
+#[test]
+fn slips_of_both_are_found_by_the_damage_to_segments() {
+    for slip in Slip::SEGMENTS {
+        assert_eq!(found_in_segments(slip, true), "new order by its damage", "{slip:?}");
     }
 }
 

@@ -8,6 +8,7 @@ use super::moves_met::MovesMet;
 use super::pages_met::PagesMet;
 use super::rules_met::RulesMet;
 use super::savings_met::SavingsMet;
+use super::segments_met::SegmentsMet;
 use super::sets_met::SetsMet;
 use super::slips_met::SlipsMet;
 use super::texts_met::TextsMet;
@@ -51,8 +52,8 @@ const DEMANDS: [(Operation, &str, &[usize]); Operation::COUNT] = [
     (FreshMarks, "fresh marks", &[0, 1, 6]),
     (PackMarks, "pack marks", &[0, 1, 6]),
     (UnpackMarks, "unpack marks", &[0, 1, 6]),
-    (MarkSheet, "mark a sheet", &[0, 1, 2, 5, 6, 20, 7, 8, 9, 10, 11, 12, 13, 14, 15, 16]),
-    (AskSheet, "ask a sheet", &[0, 1, 2, 5, 6, 20, 7, 8, 9, 10, 11, 12, 13, 14, 15, 16]),
+    (MarkSheet, "mark a sheet", &[0, 1, 2, 5, 6, 20, 7, 8, 9, 10, 11, 12, 13, 14, 15, 16, 23, 24]),
+    (AskSheet, "ask a sheet", &[0, 1, 2, 5, 6, 20, 7, 8, 9, 10, 11, 12, 13, 14, 15, 16, 23, 24]),
     (Confirm, "confirm", &[0, 1, 6, 21]),
     (Withdraw, "withdraw", &[0, 1, 6, 21]),
     (ListPairs, "list pairs", &[0, 1, 2, 5, 6, 11, 12, 18]),
@@ -62,7 +63,7 @@ const DEMANDS: [(Operation, &str, &[usize]); Operation::COUNT] = [
     (CrossingSaving, "crossing saving", &[0, 1, 2, 5, 11]),
     (ExaminerView, "examiner view", &[0, 22]),
     (CandidateView, "candidate view", &[0, 22]),
-    (MarkBetween, "mark between", &[0, 1, 2, 5, 25, 6, 20, 7, 8, 9, 10, 11, 12, 13, 14, 15, 16]),
+    (MarkBetween, "mark between", &[0, 1, 2, 5, 25, 6, 20, 7, 8, 9, 10, 11, 12, 13, 14, 15, 16, 23, 24]),
     (ListBetween, "list between", &[0, 1, 2, 5, 25, 6, 11, 12, 18]),
     (ReadTsplib, "read a text", &[0, 1, 2, 4, 5, 19]),
     (TsplibPoints, "points of a text", &[0, 19]),
@@ -71,8 +72,8 @@ const DEMANDS: [(Operation, &str, &[usize]); Operation::COUNT] = [
     (OpenDesks, "open desks", &[0, 22]),
     (HandIn, "hand in", &[0, 22, 28, 29, 1, 2, 5, 6, 20, 7]),
     (NextDesk, "next desk", &[0, 22]),
-    (Turn, "turn", &[0, 22, 1, 2, 5, 6, 20, 7, 8, 9, 10, 11, 12, 13, 14, 15, 16]),
-    (Program, "program", &[0, 1, 3, 4, 7, 8, 9, 10, 11, 12, 13, 14, 15, 16]),
+    (Turn, "turn", &[0, 22, 1, 2, 5, 6, 20, 7, 8, 9, 10, 11, 12, 13, 14, 15, 16, 23, 24]),
+    (Program, "program", &[0, 1, 3, 4, 7, 8, 9, 10, 11, 12, 13, 14, 15, 16, 23, 24]),
 ];
 
 impl Operation {
@@ -109,6 +110,8 @@ pub enum Event {
     /// Crossings of accepted lines: an end of a centre is p or q, or none is.
     CrossingShared,
     CrossingApart,
+    /// Cases of accepted lines that a new order of a segment closes.
+    Reorderings,
     /// K has thirteen edges, the most there are, at a crossing of an accepted line.
     FullSet,
     /// K is a whole tour at a split or crossing of an accepted line.
@@ -167,7 +170,7 @@ pub enum Event {
 
 use Event::*;
 
-const EVENTS: [(Event, &str); 47] = [
+const EVENTS: [(Event, &str); 48] = [
     (TourOpen, "tours with all edges open"),
     (TourStruck, "tours with a struck edge"),
     (NoPairs, "splits listed without a pair"),
@@ -182,6 +185,7 @@ const EVENTS: [(Event, &str); 47] = [
     (SplitWithoutPair, "accepted splits without a pair"),
     (CrossingShared, "accepted crossings with an end that is p or q"),
     (CrossingApart, "accepted crossings with all ends apart"),
+    (Reorderings, "accepted new orders"),
     (FullSet, "accepted crossings with thirteen edges in K"),
     (FullTour, "accepted closings with a whole tour as K"),
     (FileRefused, "program: file refused by 7"),
@@ -232,6 +236,7 @@ pub struct Coverage {
     pub texts: TextsMet,
     pub pages: PagesMet,
     pub desks: DesksMet,
+    pub segments: SegmentsMet,
     /// Accepted lines by the number of splits one inside another, from 1.
     depths: [u64; Sheet::MOST_SPLITS + 1],
     /// Accepted lines by the size of the board.
@@ -257,6 +262,7 @@ impl Default for Coverage {
             texts: TextsMet::default(),
             pages: PagesMet::default(),
             desks: DesksMet::default(),
+            segments: SegmentsMet::default(),
             depths: [0; Sheet::MOST_SPLITS + 1],
             sizes: [0; SIZES.len()],
         }
@@ -302,6 +308,7 @@ impl Coverage {
         missing.extend(self.texts.missing());
         missing.extend(self.pages.missing());
         missing.extend(self.desks.missing());
+        missing.extend(self.segments.missing());
         let unmet = (1..=Sheet::MOST_SPLITS).filter(|&depth| self.depths[depth] == 0);
         missing.extend(unmet.map(|depth| format!("accepted line at depth {depth}")));
         let unmet = SIZES.iter().zip(self.sizes).filter(|&(_, lines)| lines == 0);
@@ -356,7 +363,7 @@ impl fmt::Display for Coverage {
         }
         writeln!(f, "measure: {}\nprogram: {}\n{}", self.measure_rules, self.program_rules, self.sets)?;
         write!(f, "{}{}\n{}{}", self.savings, self.moves, self.slips, self.limits)?;
-        write!(f, "{}\n{}{}", self.texts, self.pages, self.desks)?;
+        write!(f, "{}\n{}{}{}", self.texts, self.pages, self.desks, self.segments)?;
         write!(f, "accepted lines by depth:")?;
         for depth in 1..=Sheet::MOST_SPLITS {
             write!(f, " {depth}: {}", self.depths[depth])?;

@@ -1,5 +1,6 @@
 //! Sheets from arguments: records in the order they are entered, with gaps of junk.
 
+use super::orders::Reordering;
 use super::rng::Rng;
 use super::search::{Argument, CaseTree, ClosingTree, SplitTree};
 use crate::crossing::Crossing;
@@ -99,13 +100,26 @@ impl Draft {
         let record = match &case.closing {
             ClosingTree::Split(split) => [Sheet::CASE_SPLIT, a, b, 0, 0, split.c, 0, 0],
             ClosingTree::Crossing(crossing) => crossing_record(rng, (a, b), *crossing),
+            ClosingTree::Reordering(Reordering { u, v, .. }) => [Sheet::CASE_REORDERING, a, b, *u, *v, 0, 0, 0],
         };
         let index = self.push(rng, record);
         self.notes.push(CaseNote { index, known: known.clone(), depth });
-        if let ClosingTree::Split(split) = &case.closing {
-            self.chain(rng, index, split, known, depth + 1);
+        match &case.closing {
+            ClosingTree::Split(split) => self.chain(rng, index, split, known, depth + 1),
+            ClosingTree::Crossing(_) => {}
+            ClosingTree::Reordering(reordering) => self.points(rng, index, &reordering.order),
         }
         index
+    }
+
+    /// Adds the chain of points that record `owner` holds.
+    fn points(&mut self, rng: &mut Rng, owner: usize, order: &[u16]) {
+        let (mut holder, mut field) = (owner, FIRST);
+        for &point in order {
+            let index = self.push(rng, point_record(point));
+            self.set(holder, field, index);
+            (holder, field) = (index, NEXT);
+        }
     }
 }
 
@@ -114,6 +128,11 @@ pub fn crossing_record(rng: &mut Rng, (a, b): (u16, u16), crossing: Crossing) ->
     let (u, v) = either_order(rng, crossing.p, crossing.q);
     let (r, s) = either_order(rng, crossing.r, crossing.s);
     [Sheet::CASE_CROSSING, a, b, u, v, r, s, 0]
+}
+
+/// A point of a new order, the last.
+pub fn point_record(point: u16) -> Record {
+    [Sheet::SEGMENT_POINT, point, 0, 0, 0, 0, 0, 0]
 }
 
 fn either_order(rng: &mut Rng, a: u16, b: u16) -> (u16, u16) {

@@ -57,10 +57,10 @@ impl<'a> Entered<'a> {
         while index != 0 {
             let record = self.record(index);
             let before = known.add_pair(c, (record[1], record[2]));
-            if record[0] == Sheet::CASE_SPLIT {
-                inside = inside.max(self.chain(known, record[5], record[FIRST], depth + 1));
-            } else {
-                self.count_crossing(known, &record);
+            match record[0] {
+                Sheet::CASE_SPLIT => inside = inside.max(self.chain(known, record[5], record[FIRST], depth + 1)),
+                Sheet::CASE_REORDERING => self.count_reordering(&record),
+                _ => self.count_crossing(known, &record),
             }
             known.cut_back(before);
             index = record[NEXT];
@@ -86,6 +86,15 @@ impl<'a> Entered<'a> {
             if let (true, Some(mover)) = (moved.shuts_out(), moved.decides()) {
                 self.coverage.moves.left_out(Place { depth, on_k: known.degree(c) > 0, mover });
             }
+        }
+    }
+
+    /// Follows the chain of points.
+    fn count_reordering(&mut self, record: &Record) {
+        self.coverage.event(Event::Reorderings, 1);
+        let mut index = record[FIRST];
+        while index != 0 {
+            index = self.record(index)[NEXT];
         }
     }
 

@@ -1,6 +1,6 @@
-//! What marks keep through any run from fresh marks: the edges of all shortest tours (demand 3) and of tours that three
-//! exchanges cannot shorten stay open, neither struck nor pending (02, Paper 3), and so two open edges at every point and n
-//! in all (Paper 9).
+//! What marks keep through any run from fresh marks: the edges of all shortest tours (demand 3) stay open, neither struck nor
+//! pending (02, Paper 3), and so two open edges at every point and n in all (Paper 9); and without records of kind 4 those of
+//! tours that three exchanges cannot shorten (Papers 9 and 10).
 
 use std::cmp::Reverse;
 
@@ -9,8 +9,10 @@ use super::brute::{self, Shortest};
 use super::coverage::{Coverage, Event};
 use super::drafts::sheet_bytes;
 use super::rng::Rng;
+use super::segments_met::SegmentEvent;
 use super::sets;
 use super::three_opt;
+use crate::bytes::numbers;
 use crate::lengths::Lengths;
 use crate::marks::{OPEN, PENDING};
 use crate::sheet::Sheet;
@@ -26,6 +28,31 @@ pub struct Kept {
     tours: Vec<Vec<u16>>,
     /// How many of them are longer than the shortest tour that is known.
     longer: usize,
+}
+
+/// Marks that a run has left.
+#[derive(Clone, Debug)]
+pub struct RunMarks {
+    pub set: Vec<u8>,
+    /// Whether a sheet with a record of kind 4 has struck an edge on the way to them.
+    pub reordered: bool,
+}
+
+impl RunMarks {
+    pub fn new(set: Vec<u8>) -> RunMarks {
+        RunMarks { set, reordered: false }
+    }
+
+    /// The marks that a sheet has left, of which so many lines were accepted.
+    pub fn marked(&mut self, set: Vec<u8>, sheet: &[u8], lines: u64) {
+        self.reordered |= lines > 0 && has_reordering(sheet);
+        self.set = set;
+    }
+}
+
+/// Whether a sheet has a record of kind 4.
+pub fn has_reordering(sheet: &[u8]) -> bool {
+    numbers(sheet).chunks_exact(Sheet::FIELDS).any(|record| record[0] == Sheet::CASE_REORDERING)
 }
 
 /// What marks have lost: its name and what there is to see.
@@ -49,6 +76,12 @@ impl Kept {
         Kept { shortest, tours, longer }
     }
 
+    /// With this tour alone, which is longer than a shortest one.
+    pub fn with_longer(board: &Board, tour: &[u16]) -> Kept {
+        let shortest = Shortest::of(&Lengths::new(board.n, &board.table));
+        Kept { shortest: Some(shortest), tours: vec![tour.to_vec()], longer: 1 }
+    }
+
     /// All shortest tours, of a board that is small enough.
     pub fn shortest(&self) -> Option<&Shortest> {
         self.shortest.as_ref()
@@ -67,27 +100,43 @@ impl Kept {
     }
 
     /// Holds marks that a run has left against all of this; `lines` are those that its last step accepted.
-    pub fn hold(&self, board: &Board, marks: &[u8], lines: u64, coverage: &mut Coverage) -> Result<(), Loss> {
+    pub fn hold(&self, board: &Board, marks: &RunMarks, lines: u64, coverage: &mut Coverage) -> Result<(), Loss> {
         self.lost(board, marks)?;
-        let open = open_edges(board.n, marks);
+        let open = open_edges(board.n, &marks.set);
         self.count(&open, lines, coverage);
-        self.count_pending(sets::marks(marks).filter(|&mark| mark == PENDING).count() as u64, coverage);
+        let pending = sets::marks(&marks.set).filter(|&mark| mark == PENDING).count() as u64;
+        if self.shortest.is_some() {
+            coverage.event(Event::PendingShortest, pending);
+        }
+        if marks.reordered {
+            coverage.segments.event(SegmentEvent::ThreeOptStruck, self.struck(board, &marks.set));
+        } else {
+            self.count_tours(&open, pending, coverage);
+        }
         Ok(())
     }
 
-    /// The first that marks have lost of all of this.
-    pub fn lost(&self, board: &Board, marks: &[u8]) -> Result<(), Loss> {
+    /// The first that marks have lost of all of this; tours that three exchanges cannot shorten count where no new order has
+    /// struck an edge.
+    pub fn lost(&self, board: &Board, marks: &RunMarks) -> Result<(), Loss> {
         let lengths = Lengths::new(board.n, &board.table);
-        enough_open(&open_edges(board.n, marks))?;
-        for tour in &self.tours {
-            if let Some((a, b)) = three_opt::lost_edge(&lengths, tour, marks) {
+        enough_open(&open_edges(board.n, &marks.set))?;
+        for tour in self.tours.iter().filter(|_| !marks.reordered) {
+            if let Some((a, b)) = three_opt::lost_edge(&lengths, tour, &marks.set) {
                 return Err(("3-opt tour", format!("edge {a}-{b} of {tour:?}\n")));
             }
         }
-        match self.shortest.as_ref().and_then(|shortest| shortest.lost_edge(marks)) {
+        match self.shortest.as_ref().and_then(|shortest| shortest.lost_edge(&marks.set)) {
             Some(place) => Err(("lost edge", format!("place {place}\n"))),
             None => Ok(()),
         }
+    }
+
+    /// How many longer tours that three exchanges cannot shorten have an edge struck or pending.
+    pub fn struck(&self, board: &Board, marks: &[u8]) -> u64 {
+        let lengths = Lengths::new(board.n, &board.table);
+        let lost = |tour: &&Vec<u16>| three_opt::lost_edge(&lengths, tour, marks).is_some();
+        self.tours[..self.longer].iter().filter(lost).count() as u64
     }
 
     fn count(&self, open: &[usize], lines: u64, coverage: &mut Coverage) {
@@ -95,22 +144,22 @@ impl Kept {
             coverage.event(Event::BruteForce, 1);
             coverage.event(Event::BruteForceStrikes, lines);
         }
-        let n = open.len();
-        let all: usize = open.iter().sum();
-        if all < n * (n - 1) {
+        if some_struck(open) {
+            let all: usize = open.iter().sum();
             coverage.event(Event::OpenCounted, 1);
-            let tours = if self.shortest.is_some() { Event::ThreeOptSmall } else { Event::ThreeOptLarge };
-            coverage.event(tours, self.tours.len() as u64);
-            coverage.event(Event::ThreeOptLonger, self.longer as u64);
             coverage.event(Event::TwoOpen, open.iter().filter(|&&edges| edges == 2).count() as u64);
-            coverage.event(Event::LeastOpen, u64::from(all == 2 * n));
+            coverage.event(Event::LeastOpen, u64::from(all == 2 * open.len()));
         }
     }
 
-    fn count_pending(&self, pending: u64, coverage: &mut Coverage) {
-        if self.shortest.is_some() {
-            coverage.event(Event::PendingShortest, pending);
-        } else if !self.tours.is_empty() {
+    /// Counts the tours that three exchanges cannot shorten.
+    fn count_tours(&self, open: &[usize], pending: u64, coverage: &mut Coverage) {
+        if some_struck(open) {
+            let tours = if self.shortest.is_some() { Event::ThreeOptSmall } else { Event::ThreeOptLarge };
+            coverage.event(tours, self.tours.len() as u64);
+            coverage.event(Event::ThreeOptLonger, self.longer as u64);
+        }
+        if self.shortest.is_none() && !self.tours.is_empty() {
             coverage.event(Event::PendingThreeOpt, pending);
         }
     }
@@ -126,6 +175,11 @@ fn open_edges(n: u16, marks: &[u8]) -> Vec<usize> {
         open[b] += 1;
     }
     open
+}
+
+/// Whether not all edges are open.
+fn some_struck(open: &[usize]) -> bool {
+    open.iter().sum::<usize>() < open.len() * (open.len() - 1)
 }
 
 /// Two at each point, and n in all.

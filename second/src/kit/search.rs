@@ -1,5 +1,6 @@
-//! A search for arguments: splits and crossings that close a line.
+//! A search for arguments: splits, crossings and new orders that close a line.
 
+use super::orders::{self, Reordering};
 use super::rng::Rng;
 use crate::crossing::Crossing;
 use crate::edge_set::EdgeSet;
@@ -25,6 +26,7 @@ pub struct CaseTree {
 pub enum ClosingTree {
     Split(SplitTree),
     Crossing(Crossing),
+    Reordering(Reordering),
 }
 
 /// An argument for a-b.
@@ -50,7 +52,7 @@ impl CaseTree {
     fn depth(&self) -> usize {
         match &self.closing {
             ClosingTree::Split(split) => split.depth(),
-            ClosingTree::Crossing(_) => 0,
+            ClosingTree::Crossing(_) | ClosingTree::Reordering(_) => 0,
         }
     }
 
@@ -58,6 +60,7 @@ impl CaseTree {
         match &self.closing {
             ClosingTree::Split(split) => 1 + split.records(),
             ClosingTree::Crossing(_) => 1,
+            ClosingTree::Reordering(reordering) => 1 + reordering.order.len(),
         }
     }
 }
@@ -73,12 +76,14 @@ pub struct Effort {
     pub tries: usize,
     /// Further splits inside a case that is not wanted deep.
     pub depth: usize,
+    /// Cases in a hundred that a new order is sought for, before a crossing.
+    pub orders: usize,
 }
 
 impl Effort {
-    pub const LIGHT: Effort = Effort { cases: 150, points: 14, tries: 2, depth: 2 };
-    pub const LARGE: Effort = Effort { cases: 150, points: 60, tries: 2, depth: 2 };
-    pub const DEEP: Effort = Effort { cases: 400, points: 60, tries: 2, depth: 3 };
+    pub const LIGHT: Effort = Effort { cases: 150, points: 14, tries: 2, depth: 2, orders: 0 };
+    pub const LARGE: Effort = Effort { cases: 150, points: 60, tries: 2, depth: 2, orders: 0 };
+    pub const DEEP: Effort = Effort { cases: 400, points: 60, tries: 2, depth: 3, orders: 0 };
 }
 
 pub struct Search<'a> {
@@ -188,12 +193,15 @@ impl<'a> Search<'a> {
         Some(cases)
     }
 
-    /// A further split where one is wanted, else a crossing, else a further split.
+    /// A further split where one is wanted, else a new order or a crossing, else a further split.
     fn closing(&mut self, left: usize, want: usize) -> Option<ClosingTree> {
         if left > 0 && want > 0 {
             if let Some(split) = self.split(left - 1, want - 1) {
                 return Some(ClosingTree::Split(split));
             }
+        }
+        if let Some(reordering) = self.reordering() {
+            return Some(ClosingTree::Reordering(reordering));
         }
         if let Some(crossing) = self.crossing() {
             return Some(ClosingTree::Crossing(crossing));
@@ -202,6 +210,14 @@ impl<'a> Search<'a> {
             return None;
         }
         self.split(left - 1, 0).map(ClosingTree::Split)
+    }
+
+    /// A new order that saves, if one is to be sought.
+    fn reordering(&mut self) -> Option<Reordering> {
+        if self.effort.orders == 0 || !self.rng.chance(self.effort.orders) {
+            return None;
+        }
+        orders::closing(self.rng, &self.known, self.lengths)
     }
 
     /// A crossing that saves, any of them.

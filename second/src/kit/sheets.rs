@@ -25,7 +25,7 @@ impl Plan {
     /// A plan as the comparison uses it; on large boards each edge takes long.
     pub fn random(rng: &mut Rng, n: u16) -> Plan {
         Plan {
-            effort: if n <= 20 { Effort::LIGHT } else { Effort::LARGE },
+            effort: Effort { orders: rng.pick(&[0, 0, 100]), ..if n <= 20 { Effort::LIGHT } else { Effort::LARGE } },
             lines: rng.between(1, 5),
             edges: if n <= 60 { 8 } else { 5 },
             want: 0,
@@ -111,13 +111,18 @@ fn damaged_size(rng: &mut Rng, n: u16, mut bytes: Vec<u8>) -> Vec<u8> {
 /// One damage to the records.
 fn damage(rng: &mut Rng, draft: &mut Draft) {
     let at = rng.below(draft.records.len());
+    if rng.chance(50) {
+        if let Some(at) = some_reordering(rng, draft) {
+            return damage_reordering(rng, draft, at);
+        }
+    }
     match rng.below(20) {
         0 | 1 => change_field(rng, draft, at),
         2 => swap_records(rng, draft, at),
         3 | 4 => change_index(rng, draft, at),
         5 => remove_case(draft, at),
         6 => repeat_case(draft, at),
-        7 => draft.records[at][0] = rng.below(5) as u16,
+        7 => draft.records[at][0] = rng.below(7) as u16,
         8 => draft.records[at][rng.between(3, 4)] = rng.below(3) as u16,
         9 => permute_crossing(rng, draft),
         10..=12 => other_crossing(rng, draft),
@@ -157,7 +162,8 @@ fn change_index(rng: &mut Rng, draft: &mut Draft, at: usize) {
         6 => rng.between(1, count),
         _ => rng.pick(&[count, 4_000, 4_001, 65_535]),
     };
-    let field = if draft.records[at][0] == Sheet::CASE_CROSSING { NEXT } else { rng.pick(&[FIRST, NEXT]) };
+    let held = [Sheet::LINE, Sheet::CASE_SPLIT, Sheet::CASE_REORDERING].contains(&draft.records[at][0]);
+    let field = if held { rng.pick(&[FIRST, NEXT]) } else { NEXT };
     draft.records[at][field] = value as u16;
 }
 
@@ -235,6 +241,47 @@ fn known_crossing(rng: &mut Rng, draft: &mut Draft) {
     }
 }
 
+/// The place of a case with a new order, if the draft has one.
+fn some_reordering(rng: &mut Rng, draft: &Draft) -> Option<usize> {
+    let is_reordering = |&at: &usize| draft.records[at][0] == Sheet::CASE_REORDERING;
+    let places: Vec<usize> = (0..draft.records.len()).filter(is_reordering).collect();
+    places.get(rng.below(places.len().max(1))).copied()
+}
+
+/// The places of the points that a case names.
+fn chain_of_points(draft: &Draft, at: usize) -> Vec<usize> {
+    let place = |index: u16| usize::from(index).checked_sub(1).filter(|&place| place < draft.records.len());
+    let is_point = |&place: &usize| draft.records[place][0] == Sheet::SEGMENT_POINT;
+    let first = place(draft.records[at][FIRST]).filter(is_point);
+    let next = |&from: &usize| place(draft.records[from][NEXT]).filter(|&next| next > from).filter(is_point);
+    std::iter::successors(first, next).collect()
+}
+
+/// Other ends, the points in another order, another point, a field that is not 0, a point left out or named again.
+fn damage_reordering(rng: &mut Rng, draft: &mut Draft, at: usize) {
+    let (chain, n) = (chain_of_points(draft, at), draft.n);
+    let points: Vec<u16> = chain.iter().map(|&place| draft.records[place][1]).collect();
+    if points.is_empty() {
+        return;
+    }
+    let place = rng.pick(&chain);
+    match rng.below(9) {
+        0 => draft.records[at][rng.between(3, 4)] = rng.point(n),
+        1 => draft.records[at][rng.between(3, 4)] = rng.pick(&points),
+        2 => draft.records[at].swap(3, 4),
+        3 => {
+            let mut order = points;
+            rng.shuffle(&mut order);
+            chain.iter().zip(order).for_each(|(&place, point)| draft.records[place][1] = point);
+        }
+        4 => draft.records[place][1] = rng.pick(&points),
+        5 => draft.records[place][1] = rng.pick(&[0, n + 1, draft.records[at][3], draft.records[at][4]]),
+        6 => draft.records[place][rng.between(2, 6)] = rng.pick(&[1, n, 65_535]),
+        7 => draft.records[at][5] = rng.pick(&[1, n, 65_535]),
+        _ => draft.records[place][NEXT] = 0,
+    }
+}
+
 /// A last line that strikes an edge of an earlier line.
 fn strike_again(rng: &mut Rng, draft: &mut Draft) {
     let [_, a, b, _, _, c, _, _] = draft.records[0];
@@ -269,14 +316,17 @@ pub fn noise(rng: &mut Rng, n: u16) -> Vec<u8> {
 }
 
 fn noise_record(rng: &mut Rng, n: u16, at: usize, count: usize) -> Record {
-    let kind = if at == 0 { Sheet::LINE } else { rng.between(1, 3) as u16 };
+    let kind = if at == 0 { Sheet::LINE } else { rng.between(1, 5) as u16 };
     let mut record: Record = std::array::from_fn(|_| rng.point(n));
     record[0] = kind;
     let anywhere = rng.between(0, count + 1);
     record[NEXT] = rng.pick(&[0, at + 2, at + 2, anywhere]) as u16;
-    if kind != Sheet::CASE_CROSSING {
-        (record[3], record[4]) = (0, 0);
-        record[FIRST] = rng.pick(&[0, at + 2]) as u16;
+    let first = rng.pick(&[0, at + 2]) as u16;
+    match kind {
+        Sheet::CASE_CROSSING => {}
+        Sheet::CASE_REORDERING => (record[5], record[FIRST]) = (0, first),
+        Sheet::SEGMENT_POINT => record[2..NEXT].fill(0),
+        _ => (record[3], record[4], record[FIRST]) = (0, 0, first),
     }
     record
 }

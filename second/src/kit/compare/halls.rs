@@ -11,7 +11,7 @@ use crate::kit::coverage::Operation;
 use crate::kit::desks_met::Met;
 use crate::kit::halls::{damaged_state, desk_numbers, desks, line_left, short_size, Change, Folder, Hall, NO_DESKS};
 use crate::kit::rng::Rng;
-use crate::kit::sets::old_bytes;
+use crate::kit::sets::{self, old_bytes};
 
 /// Halls in a case, and calls in a hall before it is served to its end.
 const HALLS: u64 = 4;
@@ -37,6 +37,8 @@ pub struct Seat {
     pub whole: Option<bool>,
     /// Whether its marks come from fresh ones by turns alone.
     pub kept: bool,
+    /// Whether a sheet with a record of kind 4 has struck an edge since.
+    pub reordered: bool,
     /// Whether its numbers come from handing in.
     pub handed_in: bool,
 }
@@ -296,7 +298,8 @@ impl Comparison<'_> {
         if let (Some(desk), 0) = (at, due) {
             hall.seats.iter_mut().for_each(|seat| seat.among_sheets = true);
             let alone = Some(folder.clone());
-            hall.seats[desk - 1] = Seat { alone, kept: !changed, handed_in: true, ..Seat::default() };
+            let reordered = hall.seats[desk - 1].reordered && folder.marks != sets::fresh(hall.hall.board.n);
+            hall.seats[desk - 1] = Seat { alone, kept: !changed, reordered, handed_in: true, ..Seat::default() };
             hall.folders[desk - 1] = folder;
         }
         Ok(())

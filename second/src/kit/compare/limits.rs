@@ -12,10 +12,11 @@ use crate::kit::checker::Checker;
 use crate::kit::coverage::Coverage;
 use crate::kit::drafts::sheet_bytes;
 use crate::kit::entered::Entered;
-use crate::kit::kept::Kept;
+use crate::kit::kept::{has_reordering, Kept, RunMarks};
 use crate::kit::limits::{Limited, Width};
 use crate::kit::limits_met::LimitEvent;
 use crate::kit::rng::Rng;
+use crate::kit::segments_met::SegmentEvent;
 use crate::kit::sets::{self, old_bytes};
 use crate::kit::sheets::{self, Plan};
 use crate::kit::spoil;
@@ -69,7 +70,7 @@ impl Cut {
 /// Limits with marks from fresh ones.
 struct LimitedRun {
     limited: Limited,
-    marks: Vec<u8>,
+    marks: RunMarks,
     cuts: Vec<Cut>,
 }
 
@@ -77,7 +78,7 @@ impl LimitedRun {
     fn new(rng: &mut Rng) -> LimitedRun {
         let most = if rng.chance(15) { 180 } else { 20 };
         let limited = Limited::random(rng, most);
-        let (marks, cuts) = (sets::fresh(limited.n), Cut::all(rng, &limited));
+        let (marks, cuts) = (RunMarks::new(sets::fresh(limited.n)), Cut::all(rng, &limited));
         LimitedRun { limited, marks, cuts }
     }
 
@@ -125,7 +126,7 @@ impl Comparison<'_> {
     /// sheet that is good over both on the marks themselves.
     fn limited_round(&mut self, rng: &mut Rng, run: &mut LimitedRun) -> Checked {
         let plan = Plan::random(rng, run.limited.n);
-        let draft = sheets::valid(rng, &run.limited.lengths(), &run.marks, plan);
+        let draft = sheets::valid(rng, &run.limited.lengths(), &run.marks.set, plan);
         for _ in 0..DAMAGED {
             let sheet = damaged_or_noise(rng, &draft);
             let mut marks = run.marks.clone();
@@ -145,39 +146,41 @@ impl Comparison<'_> {
     }
 
     /// A sheet over two tables on these marks: the answer, the marks, and what they keep.
-    fn limited_sheet(&mut self, run: &LimitedRun, marks: &mut Vec<u8>, sheet: &[u8]) -> Result<u64, Difference> {
-        let mut call = BetweenCall::mark(&run.limited, marks, sheet);
+    fn limited_sheet(&mut self, run: &LimitedRun, marks: &mut RunMarks, sheet: &[u8]) -> Result<u64, Difference> {
+        let mut call = BetweenCall::mark(&run.limited, &marks.set, sheet);
         let answer = self.between(&mut call)?;
         if lines(answer) > 0 {
             let mut held = Coverage::default();
-            Entered::count(run.limited.lengths(), marks.clone(), &numbers(sheet), lines(answer), &mut held);
+            Entered::count(run.limited.lengths(), marks.set.clone(), &numbers(sheet), lines(answer), &mut held);
             self.coverage.limits.lines(run.limited.width, lines(answer), &held);
         }
-        *marks = call.marks;
+        marks.marked(call.marks, sheet, lines(answer));
         self.nothing_lost_between(run, marks, sheet, lines(answer))?;
         Ok(answer)
     }
 
     /// "For every table whose lengths lie between the two, ends included, each of its shortest tours has all its edges open."
-    fn nothing_lost_between(&mut self, run: &LimitedRun, marks: &[u8], sheet: &[u8], lines: u64) -> Checked {
+    fn nothing_lost_between(&mut self, run: &LimitedRun, marks: &RunMarks, sheet: &[u8], lines: u64) -> Checked {
         for cut in &run.cuts {
             cut.kept.lost(&cut.board, marks).map_err(|(what, text)| {
-                let call = hex_between(&BetweenCall::mark(&run.limited, marks, sheet));
+                let call = hex_between(&BetweenCall::mark(&run.limited, &marks.set, sheet));
                 self.difference(&format!("{what} between"), format!("{text}of {:?}\n{call}", cut.board.table))
             })?;
             if run.differs() {
                 let brute = cut.kept.shortest().is_some();
-                let three_opt = if cut.kept.has_tours() { lines } else { 0 };
+                let three_opt = if cut.kept.has_tours() && !marks.reordered { lines } else { 0 };
                 let (event, times) = if brute { (cut.event, lines) } else { (LimitEvent::StrikesThreeOpt, three_opt) };
                 self.coverage.limits.event(event, times);
+                let reordered = if brute && has_reordering(sheet) { lines } else { 0 };
+                self.coverage.segments.event(SegmentEvent::StrikesBetween, reordered);
             }
         }
         Ok(())
     }
 
     /// A sheet that was made for both tables: where it is accepted, it is counted if one of them alone refuses it.
-    fn good_sheet(&mut self, run: &LimitedRun, marks: &mut Vec<u8>, sheet: &[u8]) -> Checked {
-        let call = BetweenCall::mark(&run.limited, marks, sheet);
+    fn good_sheet(&mut self, run: &LimitedRun, marks: &mut RunMarks, sheet: &[u8]) -> Checked {
+        let call = BetweenCall::mark(&run.limited, &marks.set, sheet);
         let answer = self.limited_sheet(run, marks, sheet)?;
         if answer % 256 != 0 {
             return Ok(());
@@ -190,10 +193,10 @@ impl Comparison<'_> {
     }
 
     /// Sheets that are accepted over the low table alone, and over the high one.
-    fn sheets_of_one_table(&mut self, rng: &mut Rng, run: &LimitedRun, marks: &mut Vec<u8>, plan: Plan) -> Checked {
+    fn sheets_of_one_table(&mut self, rng: &mut Rng, run: &LimitedRun, marks: &mut RunMarks, plan: Plan) -> Checked {
         let tables = [(&run.limited.low, LimitEvent::GoodByLow), (&run.limited.high, LimitEvent::GoodByHigh)];
         for (table, event) in tables.into_iter().filter(|_| run.differs()) {
-            let draft = sheets::valid(rng, &Intervals::exact(run.limited.n, table), marks, plan);
+            let draft = sheets::valid(rng, &Intervals::exact(run.limited.n, table), &marks.set, plan);
             if !draft.records.is_empty() {
                 let answer = self.limited_sheet(run, marks, &sheet_bytes(&draft.records))?;
                 self.coverage.limits.event(event, u64::from(answer % 256 != 0));
@@ -205,7 +208,7 @@ impl Comparison<'_> {
     /// A list over two tables, over pending marks too, into lists that are too short, just right and too long.
     fn limited_listing(&mut self, rng: &mut Rng, run: &LimitedRun) -> Checked {
         let abc = spoil::three_points(rng, run.limited.n);
-        let marks = if rng.chance(60) { run.marks.clone() } else { some_marks(rng, run.limited.n) };
+        let marks = if rng.chance(60) { run.marks.set.clone() } else { some_marks(rng, run.limited.n) };
         let mut call = BetweenCall::list(&run.limited, &marks, abc, vec![]);
         let stand = pairs(self.one, call.clone());
         let size = 2 * spoil::list_size(rng, 2 * stand.len()) + usize::from(rng.chance(20));

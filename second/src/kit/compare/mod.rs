@@ -9,6 +9,7 @@ mod packing;
 mod pages;
 mod readings;
 mod savings;
+mod segments;
 mod slips;
 mod steps;
 mod texts;
@@ -96,7 +97,7 @@ impl<'a> Comparison<'a> {
     }
 
     /// One instance with its sheets, listings, tours, files and savings; one whose lengths are known within limits; slips;
-    /// texts; the pages of a board; and halls of eight desks.
+    /// texts; the pages of a board; new orders of segments; and halls of eight desks.
     pub fn run_case(&mut self, case: u64) -> Checked {
         self.case = case;
         let mut rng = Rng::new(self.seed, case);
@@ -115,6 +116,7 @@ impl<'a> Comparison<'a> {
             self.readings_between(&mut rng)?;
             self.limits(&mut rng)?;
         }
+        self.segments()?;
         self.slips()?;
         self.texts(case)?;
         self.pages()?;
@@ -128,7 +130,7 @@ impl<'a> Comparison<'a> {
     /// themselves.
     fn round(&mut self, rng: &mut Rng, run: &mut Run) -> Checked {
         let plan = Plan::random(rng, run.board.n);
-        let draft = sheets::valid(rng, &Intervals::exact(run.board.n, &run.board.table), &run.marks, plan);
+        let draft = sheets::valid(rng, &Intervals::exact(run.board.n, &run.board.table), &run.marks.set, plan);
         for _ in 0..DAMAGED {
             let sheet = damaged_or_noise(rng, &draft);
             let mut marks = run.marks.clone();
@@ -149,9 +151,9 @@ impl<'a> Comparison<'a> {
             self.sheet(rng, run, &mut marks, &sheet_bytes(&draft.records))?;
         }
         run.marks = marks;
-        self.listing(rng, run, &run.marks)?;
-        self.listing(rng, run, &run.marks)?;
-        self.tour(rng, run, &run.marks)
+        self.listing(rng, run, &run.marks.set)?;
+        self.listing(rng, run, &run.marks.set)?;
+        self.tour(rng, run, &run.marks.set)
     }
 
     /// *Measure*: the answer and every place of the table, also on refusals.

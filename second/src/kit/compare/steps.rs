@@ -9,8 +9,9 @@ use crate::kit::boards::{self, Board};
 use crate::kit::checker::Checker;
 use crate::kit::coverage::{Event, Operation};
 use crate::kit::entered::Entered;
-use crate::kit::kept::Kept;
+use crate::kit::kept::{has_reordering, Kept, RunMarks};
 use crate::kit::rng::Rng;
+use crate::kit::segments_met::SegmentEvent;
 use crate::kit::sets::{self, pending};
 use crate::kit::spoil::{self, Lent};
 use crate::lengths::EdgeOrder;
@@ -21,7 +22,7 @@ use crate::sheet::Sheet;
 /// An instance with its marks as they stand, a packed set.
 pub struct Run {
     pub board: Board,
-    pub marks: Vec<u8>,
+    pub marks: RunMarks,
     /// What they have to keep, if they come from fresh marks.
     pub kept: Option<Kept>,
 }
@@ -31,7 +32,7 @@ impl Run {
         let fresh = rng.chance(70);
         let marks = if fresh { sets::fresh(board.n) } else { starting_marks(rng, &board) };
         let kept = fresh.then(|| Kept::new(rng, &board));
-        Run { board, marks, kept }
+        Run { board, marks: RunMarks::new(marks), kept }
     }
 }
 
@@ -91,11 +92,11 @@ impl Step {
 
 impl Comparison<'_> {
     /// Steps in random order until the sheet is judged, and mostly until nothing is pending; then the sheet in a file.
-    pub fn sheet(&mut self, rng: &mut Rng, run: &Run, marks: &mut Vec<u8>, sheet: &[u8]) -> Checked {
+    pub fn sheet(&mut self, rng: &mut Rng, run: &Run, marks: &mut RunMarks, sheet: &[u8]) -> Checked {
         let mut judged = false;
-        while !judged || (pending(marks) && rng.chance(90)) {
-            if pending(marks) && rng.chance(40) {
-                self.look(rng, run, marks)?;
+        while !judged || (pending(&marks.set) && rng.chance(90)) {
+            if pending(&marks.set) && rng.chance(40) {
+                self.look(rng, run, &marks.set)?;
             } else {
                 judged |= self.step(rng, run, marks, sheet)?;
             }
@@ -109,10 +110,11 @@ impl Comparison<'_> {
 
     /// One step on the marks, now and then with another n, and sometimes before that in a spoiled call on copies; while
     /// something is pending, now and then with an empty sheet. Answers whether the sheet was handed in and got past 20.
-    fn step(&mut self, rng: &mut Rng, run: &Run, marks: &mut Vec<u8>, sheet: &[u8]) -> Result<bool, Difference> {
-        let step = Step::random(rng, pending(marks));
-        let sheet = if pending(marks) && rng.chance(20) { &[] } else { sheet };
-        let mut lent = Lent::new(&run.board, marks);
+    fn step(&mut self, rng: &mut Rng, run: &Run, marks: &mut RunMarks, sheet: &[u8]) -> Result<bool, Difference> {
+        let before = pending(&marks.set);
+        let step = Step::random(rng, before);
+        let sheet = if before && rng.chance(20) { &[] } else { sheet };
+        let mut lent = Lent::new(&run.board, &marks.set);
         if rng.chance(8) {
             let mut spoiled = lent.clone();
             spoil::call(rng, &mut spoiled);
@@ -121,9 +123,9 @@ impl Comparison<'_> {
         if rng.chance(2) {
             lent.n = spoil::wrong_count(rng, lent.n);
         }
-        let judged = step.hands_in() && lent.n == u32::from(run.board.n) && !pending(marks);
+        let judged = step.hands_in() && lent.n == u32::from(run.board.n) && !before;
         let answer = self.call(step, &mut lent, sheet)?;
-        *marks = lent.marks;
+        marks.marked(lent.marks, sheet, lines(answer));
         self.nothing_lost(run, marks, sheet, lines(answer))?;
         Ok(judged)
     }
@@ -216,13 +218,16 @@ impl Comparison<'_> {
     }
 
     /// Demand 3 and Papers 3 and 9 on marks that a run has left.
-    fn nothing_lost(&mut self, run: &Run, marks: &[u8], sheet: &[u8], lines: u64) -> Checked {
+    fn nothing_lost(&mut self, run: &Run, marks: &RunMarks, sheet: &[u8], lines: u64) -> Checked {
         let Some(kept) = &run.kept else { return Ok(()) };
         kept.hold(&run.board, marks, lines, &mut self.coverage).map_err(|(what, text)| {
-            let lent = Lent::new(&run.board, marks);
-            let call = hex_call(lent.n, &lent.table, marks);
+            let lent = Lent::new(&run.board, &marks.set);
+            let call = hex_call(lent.n, &lent.table, &marks.set);
             self.difference(what, format!("{text}{call}sheet {}\n", hex(sheet)))
-        })
+        })?;
+        let reordered = kept.shortest().is_some() && has_reordering(sheet);
+        self.coverage.segments.event(SegmentEvent::Strikes, if reordered { lines } else { 0 });
+        Ok(())
     }
 }
 

@@ -10,7 +10,9 @@ use crate::kit::checker::Checker;
 use crate::kit::coverage::Operation;
 use crate::kit::desks_met::Met;
 use crate::kit::halls::{desk_numbers, desks, without, Change, Folder, RECORD};
+use crate::kit::kept::{has_reordering, RunMarks};
 use crate::kit::rng::Rng;
+use crate::kit::segments_met::SegmentEvent;
 use crate::kit::sets;
 use crate::marks::{OPEN, STRUCK};
 
@@ -198,17 +200,22 @@ impl Comparison<'_> {
     }
 
     /// A turn with any state is a step of a run: no edge of a shortest tour is struck.
-    fn turn_keeps(&mut self, hall: &Watched, desk: usize, folder: &Folder, left: &Left) -> Checked {
+    fn turn_keeps(&mut self, hall: &mut Watched, desk: usize, folder: &Folder, left: &Left) -> Checked {
         if !hall.seats[desk - 1].kept {
             return Ok(());
         }
-        if let Err((what, text)) = hall.hall.kept.lost(&hall.hall.board, &left.marks) {
+        let struck = left.marks != folder.marks;
+        hall.seats[desk - 1].reordered |= struck && has_reordering(&folder.sheet);
+        let marks = RunMarks { set: left.marks.clone(), reordered: hall.seats[desk - 1].reordered };
+        if let Err((what, text)) = hall.hall.kept.lost(&hall.hall.board, &marks) {
             return Err(self.difference(&format!("{what} by a turn"), text + &told(&hall.state, folder)));
         }
-        let strikes = left.marks != folder.marks && hall.hall.kept.shortest().is_some();
+        let strikes = struck && hall.hall.kept.shortest().is_some();
         let any = hall.any_bytes && !hall.seats[desk - 1].handed_in;
         self.coverage.desks.met(Met::Strikes, strikes);
         self.coverage.desks.met(Met::AnyStrikes, strikes && any);
+        let reordered = strikes && has_reordering(&folder.sheet);
+        self.coverage.segments.event(SegmentEvent::StrikesByTurns, u64::from(reordered));
         Ok(())
     }
 
