@@ -145,6 +145,9 @@ const MEASURING: [(&str, u32); 4] =
 const MARK_BETWEEN: &str = "mark 90 deep between";
 const LIST_BETWEEN: &str = "list 90 between";
 
+/// A sheet of 90 points whose cases are closed by new orders of segments where there are any.
+const SEGMENTS: &str = "mark 90 segments";
+
 /// Reading a text of 180 points with weights.
 const READING: &str = "read 180 weights";
 
@@ -152,13 +155,18 @@ const READING: &str = "read 180 weights";
 const TURNS: &str = "turns 180 deep";
 
 /// The timed inputs: marking and listing at 30, 90 and 180 points, measuring 180, marking and listing over two tables, reading
-/// a text of 180, and a sheet of 180 by turns.
+/// a text of 180, a sheet of 180 by turns, and a sheet of 90 with new orders of segments.
 pub fn names() -> Vec<String> {
     let marking = SIZES.iter().flat_map(|n| ["shallow", "deep"].map(|kind| format!("mark {n} {kind}")));
     let listing = SIZES.iter().map(|n| format!("list {n}"));
     let measuring = MEASURING.iter().map(|(name, _)| name.to_string());
     let between = [MARK_BETWEEN, LIST_BETWEEN].map(str::to_string);
-    marking.chain(listing).chain(measuring).chain(between).chain([READING, TURNS].map(str::to_string)).collect()
+    marking
+        .chain(listing)
+        .chain(measuring)
+        .chain(between)
+        .chain([READING, TURNS, SEGMENTS].map(str::to_string))
+        .collect()
 }
 
 /// The inputs whose instructions are counted.
@@ -169,6 +177,7 @@ pub fn counted() -> Vec<String> {
 /// The input of this name.
 pub fn named(name: &str) -> Option<Workload> {
     match name.split(' ').collect::<Vec<_>>()[..] {
+        _ if name == SEGMENTS => Some(reordering()),
         ["mark", n, kind] => Some(marking(n.parse().ok()?, kind == "deep")),
         ["list", n] => Some(listing(n.parse().ok()?)),
         ["measure", ..] => MEASURING.iter().find(|row| row.0 == name).map(|&(name, rule)| measuring(name, rule)),
@@ -210,14 +219,12 @@ fn random_board(n: usize) -> Board {
 
 /// A sheet of several lines, all accepted, from fresh marks; deep ones have six splits one inside another.
 fn lines(lengths: &Intervals, deep: bool) -> Draft {
-    let plan = Plan {
-        effort: if deep { Effort::DEEP } else { Effort::LARGE },
-        lines: 12,
-        edges: 40,
-        want: if deep { 6 } else { 1 },
-        gaps: 0,
-        most_records: 4_000,
-    };
+    lines_by(lengths, if deep { Effort::DEEP } else { Effort::LARGE }, deep)
+}
+
+/// The same with this effort.
+fn lines_by(lengths: &Intervals, effort: Effort, deep: bool) -> Draft {
+    let plan = Plan { effort, lines: 12, edges: 40, want: if deep { 6 } else { 1 }, gaps: 0, most_records: 4_000 };
     let n = lengths.order.n;
     sheets::valid(&mut Rng::new(2, u64::from(n)), lengths, &sets::fresh(n), plan)
 }
@@ -235,10 +242,24 @@ fn turning() -> Workload {
     Workload { name: TURNS.to_string(), note, call: Call::Turns { n, table, marks, sheet } }
 }
 
+/// A deep sheet of 90 points with new orders.
+fn reordering() -> Workload {
+    let board = random_board(90);
+    let draft = lines_by(&Intervals::exact(board.n, &board.table), Effort { orders: 100, ..Effort::DEEP }, true);
+    let (orders, points) = (of_kind(&draft, Sheet::CASE_REORDERING), of_kind(&draft, Sheet::SEGMENT_POINT));
+    let note = format!("{}, {orders} new orders of {points} points", note(&draft));
+    sheet(SEGMENTS.to_string(), note, &board, &draft.records)
+}
+
+/// The records of a kind; a draft without gaps has no others than those that are entered.
+fn of_kind(draft: &Draft, kind: u16) -> usize {
+    draft.records.iter().filter(|record| record[0] == kind).count()
+}
+
 /// What a sheet is made of.
 fn note(draft: &Draft) -> String {
     let depth = draft.notes.iter().map(|note| note.depth).max().unwrap_or(0);
-    let splits = draft.records.iter().filter(|record| record[0] != Sheet::CASE_CROSSING).count();
+    let splits = of_kind(draft, Sheet::LINE) + of_kind(draft, Sheet::CASE_SPLIT);
     format!("{} records, {splits} splits, up to {depth} one inside another", draft.records.len())
 }
 
