@@ -20,6 +20,9 @@ __AFL_FUZZ_INIT()
 
 enum { PAGE = 4096, MOST = 1 << 17, MOST_EDGES = 16110 };
 
+/* Paper 10: the record of a case with a stretch, and its two refusals. */
+enum { STRETCH = 4, NO_STRETCH = 23, NOT_SHORTER = 24 };
+
 /* A buffer whose last byte stands in front of a page that cannot be touched. */
 static uint8_t *guarded(void)
 {
@@ -31,6 +34,7 @@ static uint8_t *guarded(void)
 static uint8_t *table_end, *marks_end, *sheet_end, *tour_end, *list_end, *measured_end, *asked_end, *settled_end, *other_list_end;
 static uint8_t *bytes_end, *packed_end, *view_end, *high_end, *text_end, *desks_end;
 
+static unsigned get16(const uint8_t *at) { return at[0] | (unsigned)at[1] << 8; }
 static uint32_t get32(const uint8_t *at) { return at[0] | (uint32_t)at[1] << 8 | (uint32_t)at[2] << 16 | (uint32_t)at[3] << 24; }
 static uint64_t get64(const uint8_t *at) { return get32(at) | (uint64_t)get32(at + 4) << 32; }
 
@@ -450,6 +454,27 @@ static struct limits some_limits(uint32_t n, const uint8_t *table, size_t len, u
     return (struct limits){n, table, high + cut, len, len - cut};
 }
 
+/* The refusals of records: 8 to 16, 23 and 24. */
+static int of_record(unsigned refusal)
+{
+    return (refusal >= REVOSTI_INDEX_ABOVE && refusal <= REVOSTI_NO_SAVING) || refusal == NO_STRETCH || refusal == NOT_SHORTER;
+}
+
+/*
+ * The record told is one of the sheet, and that of 23 and 24 has a stretch. What comes of sheets with stretches is written
+ * into the map by itself.
+ */
+static void told_record(unsigned refusal, unsigned record, unsigned lines, const uint8_t *sheet, size_t sheet_len)
+{
+    promise(record * 16u <= sheet_len, "the record is one of the sheet");
+    promise((record != 0) == of_record(refusal), "a record is named exactly by 8 to 16, 23 and 24");
+    int stretch = refusal == NO_STRETCH || refusal == NOT_SHORTER;
+    if (stretch) promise(get16(sheet + 16 * (record - 1)) == STRETCH, "23 and 24 name a record of kind 4");
+    unsigned stretches = 0;
+    for (size_t i = 0; i + 16 <= sheet_len; i += 16) stretches += get16(sheet + i) == STRETCH;
+    if (stretches) seen(24, refusal, lines < 60 ? lines : 60);
+}
+
 /* Marks over two tables, from the marks before: the slip; the refusals before any record; the parts of the answer, and the strikes. */
 static void try_mark_between(struct limits l, const uint8_t *before, size_t edges, const uint8_t *sheet, size_t sheet_len, uint32_t rule)
 {
@@ -465,8 +490,8 @@ static void try_mark_between(struct limits l, const uint8_t *before, size_t edge
         promise(answer == number && memcmp(before, marks, len) == 0, "1, 2, 5, 25, 6, 20, 7 of two tables, and no mark changed");
         return;
     }
-    promise(refusal == 0 || (refusal >= REVOSTI_INDEX_ABOVE && refusal <= REVOSTI_NO_SAVING), "0, or 8 to 16");
-    promise((record != 0) == (refusal != 0) && record * 16u <= sheet_len && answer >> 40 == 0, "a refusal names a record");
+    promise((refusal == 0 || of_record(refusal)) && answer >> 40 == 0, "0, or 8 to 16, 23 and 24");
+    told_record(refusal, record, lines, sheet, sheet_len);
     promise(lines == count(marks, edges, REVOSTI_STRUCK) - count(before, edges, REVOSTI_STRUCK), "lines accepted are marks changed");
     for (size_t i = 0; i < 4 * len; i++) {
         uint8_t mark = mark_of(marks, i), old = mark_of(before, i);
@@ -656,7 +681,6 @@ struct folder {
     size_t table_len, edges, sheet_len;
 };
 
-static unsigned get16(const uint8_t *at) { return at[0] | (unsigned)at[1] << 8; }
 
 /* A desk's three numbers: its next index, the record that has it, its lines. */
 static const uint8_t *numbers_of(const uint8_t *desks, unsigned desk) { return desks + 6 * desk - 4; }
@@ -714,7 +738,7 @@ static void served(struct folder f, const uint8_t *before, const uint8_t *marked
     } else promise(get16(now) == 0 && get16(now + 2) == 0 && get16(now + 4) == 0, "an ended sheet leaves nothing");
     if (number) promise(refusal == number && record == 0 && lines == old, "1, 2, 5, 6, 20, 7 again, and the lines kept");
     else if (index * 16u > f.sheet_len) promise(refusal == REVOSTI_INDEX_ABOVE && record == owner && lines == old, "8 by the owner");
-    else if (refusal) promise(refusal >= REVOSTI_INDEX_ABOVE && refusal <= REVOSTI_NO_SAVING && record >= index, "8 to 16 at this line");
+    else if (refusal) promise(of_record(refusal) && record >= index, "8 to 16, 23 and 24 at this line");
     unsigned strikes = 0;
     for (size_t i = 0; i < 4 * packed(f.edges); i++) {
         uint8_t mark = mark_of(marks, i), had = mark_of(marked, i);
@@ -808,9 +832,9 @@ static void run(const uint8_t *file, size_t size)
     size_t table_len = 4 * edges - (rule % 7 == 6 && edges ? rule >> 4 & 3 : 0);
     uint64_t answer = revosti_mark_sheet(n, table + (4 * edges - table_len), table_len, marks, len, sheet, sheet_len);
     unsigned refusal = revosti_refusal(answer), record = revosti_record(answer), lines = revosti_lines(answer);
-    promise((refusal <= REVOSTI_NO_SAVING || refusal == REVOSTI_SOMETHING_PENDING) && answer >> 40 == 0, "the answer's parts");
-    promise(record * 16u <= sheet_len, "the record is one of the sheet");
-    promise((record != 0) == (refusal >= REVOSTI_INDEX_ABOVE && refusal <= REVOSTI_NO_SAVING), "a record is named exactly by 8 to 16");
+    int known = refusal <= REVOSTI_NO_SAVING || refusal == REVOSTI_SOMETHING_PENDING || of_record(refusal);
+    promise(known && answer >> 40 == 0, "the answer's parts");
+    told_record(refusal, record, lines, sheet, sheet_len);
     promise(lines == count(marks, edges, REVOSTI_STRUCK) - count(before, edges, REVOSTI_STRUCK), "lines accepted are marks changed");
     if (refusal != 0 && record == 0) promise(memcmp(before, marks, len) == 0, "a refused call changes no mark");
     int pending = count(before, edges, REVOSTI_PENDING) != 0, passed = refusal == 0 || refusal > REVOSTI_MARKS;
