@@ -37,8 +37,8 @@ impl Segment {
     /// A path has an inner point fewer than it has edges.
     pub const MOST_INNER: usize = EdgeSet::MOST_EDGES - 1;
 
-    /// "The path from u to v in K": at least one inner point, and none "where K is a closed tour". No point of K has three
-    /// edges, and a cycle in it has n, so that a K of fewer edges has no cycle.
+    /// "The path from u to v in K": at least one inner point, and none "where K is a closed tour". No point of K has
+    /// three edges, and a cycle in it has n, so that a K of fewer edges has no cycle.
     pub fn find(known: &EdgeSet, n: u16, u: u16, v: u16) -> Option<Segment> {
         if known.edges().len() == usize::from(n) {
             return None;

@@ -26,8 +26,8 @@ pub struct Case {
     pub next: u16,
 }
 
-/// "A case record carries one of two closings, a split or a crossing", or Paper 10's: the ends of a segment and the first
-/// of the chain that names its new order.
+/// "A case record carries one of two closings, a split or a crossing", or Paper 10's: the ends of a segment and the
+/// first of the chain that names its new order.
 pub enum Closing {
     Split { c: u16, first: u16 },
     Crossing { p: u16, q: u16, r: u16, s: u16 },

@@ -1,4 +1,5 @@
-//! New orders of segments (02, Paper 10) by hand: the six points, each damage to their sheet, closed tours, ties, and two tables.
+//! New orders of segments (02, Paper 10) by hand: the six points, each damage to their sheet, closed tours, ties, and
+//! two tables.
 
 mod common;
 
@@ -160,8 +161,8 @@ fn ties_and_closed_tours() {
     assert_eq!(marked(4, &path), (24, 3, 0), "1-2-3-4");
 }
 
-/// The old path counts low, the new one high: a saving of 1 is lost by a low length of the old path less by 1, or a high one of
-/// the new path more by 1, and not by others.
+/// The old path counts low, the new one high: a saving of 1 is lost by a low length of the old path less by 1, or a
+/// high one of the new path more by 1, and not by others.
 #[test]
 fn two_tables() {
     let table = board().table;

@@ -373,8 +373,8 @@ fn segments_are_demanded() {
     }
 }
 
-/// Cases until the comparison finds a slip in new orders, and what it finds, in the second program against the naive one or
-/// in both.
+/// Cases until the comparison finds a slip in new orders, and what it finds, in the second program against the naive
+/// one or in both.
 fn found_in_segments(slip: Slip, both: bool) -> String {
     let naive = Naive { slip: Some(slip) };
     let one: &dyn Checker = if both { &naive } else { &Second };
@@ -392,8 +392,8 @@ fn slips_in_segments_are_found() {
     }
 }
 
-/// Paper 10's law, where both programs make the slip: each damage gets its refusal, and an order is accepted exactly where it
-/// is shorter.
+/// Paper 10's law, where both programs make the slip: each damage gets its refusal, and an order is accepted exactly
+/// where it is shorter.
 #[test]
 fn slips_of_both_are_found_by_the_damage_to_segments() {
     for slip in Slip::SEGMENTS {

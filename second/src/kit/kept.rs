@@ -1,6 +1,6 @@
-//! What marks keep through any run from fresh marks: the edges of all shortest tours (demand 3) stay open, neither struck nor
-//! pending (02, Paper 3), and so two open edges at every point and n in all (Paper 9); and without records of kind 4 those of
-//! tours that three exchanges cannot shorten (Papers 9 and 10).
+//! What marks keep through any run from fresh marks: the edges of all shortest tours (demand 3) stay open, neither
+//! struck nor pending (02, Paper 3), and so two open edges at every point and n in all (Paper 9); and without records
+//! of kind 4 those of tours that three exchanges cannot shorten (Papers 9 and 10).
 
 use std::cmp::Reverse;
 
@@ -116,8 +116,8 @@ impl Kept {
         Ok(())
     }
 
-    /// The first that marks have lost of all of this; tours that three exchanges cannot shorten count where no new order has
-    /// struck an edge.
+    /// The first that marks have lost of all of this; tours that three exchanges cannot shorten count where no new
+    /// order has struck an edge.
     pub fn lost(&self, board: &Board, marks: &RunMarks) -> Result<(), Loss> {
         let lengths = Lengths::new(board.n, &board.table);
         enough_open(&open_edges(board.n, &marks.set))?;

@@ -1,5 +1,5 @@
-//! Boards made for a segment (02, Paper 10): paths of K whose edges are short, an order of inner points whose edges are a little
-//! shorter, as short or longer, and all other edges long, so that pairs along the paths stand.
+//! Boards made for a segment (02, Paper 10): paths of K whose edges are short, an order of inner points whose edges are
+//! a little shorter, as short or longer, and all other edges long, so that pairs along the paths stand.
 
 use super::boards::Board;
 use super::rng::Rng;
@@ -28,7 +28,7 @@ pub struct MadePath {
     pub order: Vec<u16>,
 }
 
-/// A made path is this many points longer than the largest number needs.
+/// The most points beside the path.
 const MOST_SPARE: usize = 6;
 
 impl MadePath {
@@ -72,7 +72,8 @@ impl MadePath {
     }
 }
 
-/// Any order, of few points mostly the one that turns them: the others are mostly moves of a point, which test 5 shuts out.
+/// Any order, of few points mostly the one that turns them: the others are mostly moves of a point, which test 5 shuts
+/// out.
 fn other_order(rng: &mut Rng, points: &[u16]) -> Vec<u16> {
     if points.len() <= 4 && rng.chance(70) {
         return points.iter().rev().copied().collect();

@@ -13,7 +13,8 @@ pub struct Reordering {
     pub order: Vec<u16>,
 }
 
-/// Segments of fewer inner points have no order that saves: they are moves of a settled point, which test 5 has shut out.
+/// Segments of fewer inner points have no order that saves: they are moves of a settled point, which test 5 has shut
+/// out.
 pub const LEAST_INNER: usize = 3;
 
 /// Parts of a path that are tried beside the path itself.

@@ -1,5 +1,5 @@
-//! Sheets of one line that is judged by its last case, a new order of a segment (02, Paper 10). Each split leaves one pair, since
-//! the split point's other edges are struck; so the line is accepted exactly if the case is closed.
+//! Sheets of one line that is judged by its last case, a new order of a segment (02, Paper 10). Each split leaves one
+//! pair, since the split point's other edges are struck; so the line is accepted exactly if the case is closed.
 
 use super::drafts::{point_record, FIRST, NEXT};
 use super::made_paths::MadePath;
@@ -106,8 +106,8 @@ impl Grown {
 }
 
 impl SegmentSheet {
-    /// So many splits one inside another, with a segment of so many inner points if there is one; its order saves if one is
-    /// found, else it is any.
+    /// So many splits one inside another, with a segment of so many inner points if there is one; its order saves if
+    /// one is found, else it is any.
     pub fn new(rng: &mut Rng, l: &Intervals, depth: usize, inner: usize) -> Option<SegmentSheet> {
         let mut sheet = SegmentSheet::of(Grown::new(rng, l, depth)?, l);
         let mut all = orders::segments(&sheet.known, l.order.n, 1);

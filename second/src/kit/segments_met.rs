@@ -1,5 +1,5 @@
-//! What was met of new orders of segments (02, Paper 10): orders judged and accepted, each damage, each way to hand a sheet in,
-//! and what their strikes were held against.
+//! What was met of new orders of segments (02, Paper 10): orders judged and accepted, each damage, each way to hand a
+//! sheet in, and what their strikes were held against.
 
 use std::fmt;
 
@@ -53,7 +53,8 @@ pub enum SegmentEvent {
     Strikes,
     StrikesBetween,
     StrikesByTurns,
-    /// Tours that three exchanges cannot shorten, longer than a shortest one, with an edge that such a sheet has struck.
+    /// Tours that three exchanges cannot shorten, longer than a shortest one, with an edge that such a sheet has
+    /// struck.
     ThreeOptStruck,
     /// The six points, where that is so.
     SixPoints,

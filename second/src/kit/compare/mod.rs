@@ -39,7 +39,8 @@ type Checked = Result<(), Difference>;
 pub struct Comparison<'a> {
     one: &'a dyn Checker,
     other: &'a dyn Checker,
-    /// A third program, for savings, slips, texts, pages, desks and packed sets, which it reads into byte sets.
+    /// A third program, for savings, slips, texts, pages, new orders, desks and packed sets, which it reads into byte
+    /// sets.
     naive: &'a dyn Checker,
     seed: u64,
     case: u64,

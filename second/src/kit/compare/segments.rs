@@ -1,5 +1,5 @@
-//! New orders of segments (02, Paper 10): sheets that are judged by one, good and damaged, each with the answer that is due, in
-//! marking, asking, marking over two tables and at a desk; and the six points.
+//! New orders of segments (02, Paper 10): sheets that are judged by one, good and damaged, each with the answer that is
+//! due, in marking, asking, marking over two tables and at a desk; and the six points.
 
 use super::{hex, Checked, Comparison, Hex};
 use crate::bytes::DESKS_BYTES;

@@ -1,5 +1,5 @@
-//! A case closed by a new order, sentence by sentence from Paper 10: the segment is sought among all paths from u to v, and an
-//! order by sorting.
+//! A case closed by a new order, sentence by sentence from Paper 10: the segment is sought among all paths from u to v,
+//! and an order by sorting.
 
 use super::reader::{Reader, Stop};
 use super::rules::{other_ends, Board, Edge};
