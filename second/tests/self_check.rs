@@ -363,7 +363,6 @@ fn segments_are_demanded() {
         "strikes of sheets with a new order held against all shortest tours",
         "strikes of sheets with a new order over two tables held against all shortest tours between",
         "strikes of turns with a new order held against all shortest tours",
-        "3-opt tours longer than another with an edge struck by a sheet with a new order",
         "the six points",
         "orders that save over two different tables",
         "orders that save over the low table alone, not over two",

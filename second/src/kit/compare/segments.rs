@@ -204,7 +204,7 @@ impl Comparison<'_> {
             let Lent { n, table, marks: mut set } = Lent::new(&board, &marks.set);
             let answer = checker.mark_sheet(n, &table, &mut set, &sheet);
             marks.marked(set, &sheet, answer >> 24);
-            let held = kept.hold(&board, &marks, answer >> 24, &mut self.coverage);
+            let held = kept.lost(&board, &marks);
             if answer != 1 << 24 || held.is_err() || kept.struck(&board, &marks.set) != 1 {
                 return Err(self.difference("six points", format!("{}: answer {answer}, {held:?}\n", checker.name())));
             }
