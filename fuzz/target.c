@@ -20,9 +20,6 @@ __AFL_FUZZ_INIT()
 
 enum { PAGE = 4096, MOST = 1 << 17, MOST_EDGES = 16110 };
 
-/* Paper 10: the record of a case with a stretch, and its two refusals. */
-enum { STRETCH = 4, NO_STRETCH = 23, NOT_SHORTER = 24 };
-
 /* A buffer whose last byte stands in front of a page that cannot be touched. */
 static uint8_t *guarded(void)
 {
@@ -457,7 +454,7 @@ static struct limits some_limits(uint32_t n, const uint8_t *table, size_t len, u
 /* The refusals of records: 8 to 16, 23 and 24. */
 static int of_record(unsigned refusal)
 {
-    return (refusal >= REVOSTI_INDEX_ABOVE && refusal <= REVOSTI_NO_SAVING) || refusal == NO_STRETCH || refusal == NOT_SHORTER;
+    return (refusal >= REVOSTI_INDEX_ABOVE && refusal <= REVOSTI_NO_SAVING) || refusal == REVOSTI_NO_STRETCH || refusal == REVOSTI_NOT_SHORTER;
 }
 
 /*
@@ -468,10 +465,10 @@ static void told_record(unsigned refusal, unsigned record, unsigned lines, const
 {
     promise(record * 16u <= sheet_len, "the record is one of the sheet");
     promise((record != 0) == of_record(refusal), "a record is named exactly by 8 to 16, 23 and 24");
-    int stretch = refusal == NO_STRETCH || refusal == NOT_SHORTER;
-    if (stretch) promise(get16(sheet + 16 * (record - 1)) == STRETCH, "23 and 24 name a record of kind 4");
+    int stretch = refusal == REVOSTI_NO_STRETCH || refusal == REVOSTI_NOT_SHORTER;
+    if (stretch) promise(get16(sheet + 16 * (record - 1)) == REVOSTI_STRETCH, "23 and 24 name a record of kind 4");
     unsigned stretches = 0;
-    for (size_t i = 0; i + 16 <= sheet_len; i += 16) stretches += get16(sheet + i) == STRETCH;
+    for (size_t i = 0; i + 16 <= sheet_len; i += 16) stretches += get16(sheet + i) == REVOSTI_STRETCH;
     if (stretches) seen(24, refusal, lines < 60 ? lines : 60);
 }
 
