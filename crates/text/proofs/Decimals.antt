@@ -127,3 +127,7 @@ field-wrote word h w = rw (sym h) w
 pub field-length : (k : ℕ) (word : List ℕ) (n : ℕ) → n < 10 ^ suc k → length (fieldText word n) ≤ length word + suc k
 unfolding fieldText
 field-length k word n h = omega (arith, length-append word (decimal n), decimal-length k n h)
+
+pub field-size : (word : List ℕ) (n : ℕ) → length (fieldText word n) ≡ length word + length (decimal n)
+unfolding fieldText
+field-size word n = length-append word (decimal n)

@@ -1,4 +1,5 @@
 pub mod Decimals
+pub mod DecimalsApart
 pub mod Padding
 pub mod SameTexts
 pub mod Values

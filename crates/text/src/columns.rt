@@ -9,7 +9,7 @@ ghost use Rattle.text.specs.Columns.{padded};
 ghost use Rattle.text.specs.asks.Columns.{PaddedAsked, DigitIs, mostColumns};
 
 // How many digits a number has: a tenth of it has one less.
-fn digit_count(n: u32) -> usize
+pub fn digit_count(n: u32) -> usize
     ensures { λ r. ⌜ r ≡ length (decimal n) ⌝ }
 {
     let mut count: usize = 1;

@@ -1,0 +1,4 @@
+pub mod asks
+pub mod Reason
+pub mod Sentence
+pub mod Small
