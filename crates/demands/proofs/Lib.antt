@@ -33,4 +33,6 @@ pub mod Sizes
 pub mod Slips
 pub mod Strikes
 pub mod TextTables
+pub mod ToldLines
+pub mod ToldLinesInC
 pub mod Unchanged

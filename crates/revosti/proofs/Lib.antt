@@ -10,4 +10,5 @@ pub mod ReadAnswers
 pub mod SavedNumbers
 pub mod SlipAnswers
 pub mod SlipNumbers
+pub mod TellNumbers
 pub mod TourAnswers

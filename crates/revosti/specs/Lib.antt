@@ -11,4 +11,5 @@ pub mod Pending
 pub mod Reading
 pub mod Saved
 pub mod Slip
+pub mod Tell
 pub mod Tour

@@ -11,4 +11,5 @@ pub mod pending;
 pub mod reading;
 pub mod saved;
 pub mod slip;
+pub mod tell;
 pub mod tour;

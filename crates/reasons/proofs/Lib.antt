@@ -1,0 +1,15 @@
+pub mod Computed
+pub mod Conditions
+pub mod FirstSplit
+pub mod Legs
+pub mod LineTexts
+pub mod LineTold
+pub mod Outcome
+pub mod PairCounts
+pub mod PairWays
+pub mod Saved
+pub mod ShortOrders
+pub mod Single
+pub mod SmallReasons
+pub mod TellAnswers
+pub mod ToldOnce

@@ -1,0 +1,20 @@
+-- `reasons::pair::struck_leg` meets its contract. Assumes nothing.
+use Rattle.sentences.specs.asks.Sentence.{reasonOf}
+use Rattle.reasons.specs.PairReason.{struckAt}
+use Rattle.reasons.specs.asks.PairReason.{outcomeOf}
+use borrow.Author.Needs.{needs}
+use Rattle.reasons.proofs.pair.struck_leg.Statement.{statement}
+use Rattle.reasons.proofs.pair.struck_leg.Tie as tie
+
+lower-requires : tie.Need-lower-requires
+lower-requires c κs = search needs
+
+higher-requires : tie.Need-higher-requires
+higher-requires c κs = search needs
+
+returns : tie.Need-returns
+unfolding outcomeOf reasonOf struckAt
+returns c = cc
+
+pub struck-leg-spec : {M : Type 1} → statement M
+struck-leg-spec = tie.close (tie.spec lower-requires higher-requires returns)

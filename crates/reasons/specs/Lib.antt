@@ -1,0 +1,4 @@
+pub mod asks
+pub mod PairReason
+pub mod Telling
+pub mod Tells
