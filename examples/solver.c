@@ -2,7 +2,7 @@
  * How a tour solver uses Revosti: a board is measured, and read from TSPLIB texts, a strike sheet written from lists of standing pairs,
  * asked, withdrawn, asked again and confirmed, and a search looks at open edges only. Then it asks how much the rules save, its marks go to
  * a byte set and back, the slip of a sheet that stops is shown and released, the sheet is marked for a board whose lengths are known
- * within limits only, and the wall list is printed and read again.
+ * within limits only, the wall list is printed and read again, and a line is told in words.
  *
  *   cc -Iinclude examples/solver.c target/staticlib/librevosti.a -o solver && ./solver
  *
@@ -331,6 +331,33 @@ static void wall_list(void)
     expect("  line", revosti_wrong_line(answer), 2);
 }
 
+static uint64_t tell_line(const uint8_t *set, size_t lines, uint32_t record, uint8_t *text, size_t size)
+{
+    return revosti_tell_line(N, table, sizeof table, set, sizeof marks, sheet, RECORD * lines, record, text, size);
+}
+
+/* The first line, told over fresh marks: why each of the three pairs at 2 does not stand under 1-3. The byte behind the text stays. */
+static void tell(size_t lines)
+{
+    static const char want[] = "Exchanging 2-4 and 1-3 saves 8 and shuts out 3 and 4 as neighbours of 2.\n";
+    uint8_t unstruck[sizeof marks], text[REVOSTI_SENTENCE_BYTES * (N - 1) * (N - 2) / 2];
+    expect("bytes that hold every text", sizeof text, revosti_told_size(N));
+    memset(text, 77, sizeof text);
+    expect("fresh marks for telling", revosti_fresh_marks(N, unstruck, sizeof unstruck), REVOSTI_ACCEPTED);
+    uint64_t answer = tell_line(unstruck, lines, 1, text, sizeof text);
+    size_t size = revosti_told_bytes(answer), last = strlen(want);
+    expect("telling line 1, refusal", revosti_refusal(answer), REVOSTI_ACCEPTED);
+    expect("  bytes of its sentences", size, 195);
+    expect("  the byte behind them", text[size], 77);
+    printf("%.*s", (int)size, (const char *)text);
+    expect("  the last sentence differs", (uint64_t)(memcmp(text + size - last, want, last) != 0), 0);
+    expect("telling line 1 into a byte too few", tell_line(unstruck, lines, 1, text, size - 1), REVOSTI_BUFFER);
+    expect("telling record 3 of 2", tell_line(unstruck, lines, 3, text, sizeof text), REVOSTI_INDEX_ABOVE);
+    answer = tell_line(marks, lines, 2, text, sizeof text);
+    expect("telling line 2, struck already, refusal", revosti_refusal(answer), REVOSTI_EDGE_STRUCK);
+    expect("  record", revosti_record(answer), 2);
+}
+
 /* Faulty input is refused, and changes nothing. `lines` is the length of the sheet that is marked already. */
 static void refusals(size_t lines)
 {
@@ -451,6 +478,7 @@ int main(void)
     slips(lines);
     limits(lines);
     wall_list();
+    tell(lines);
     refusals(lines);
     return faults != 0;
 }

@@ -2,7 +2,7 @@
  * Revosti for C: measure a board or read one from a TSPLIB text, make fresh marks, mark a strike sheet, ask one and confirm or withdraw it,
  * list standing pairs, check a tour; mark and list where lengths are known within limits only; tell how much an exchange, a move or a
  * crossing saves; convert sets of marks; show a marked sheet's slip to examiner and candidate; write the wall list of edges page by page,
- * and read it again; mark the sheets of eight desks in turns, one line a turn.
+ * and read it again; mark the sheets of eight desks in turns, one line a turn; tell in words why each pair at a line's split is settled.
  *
  * Link with librevosti.a (`tools/build archive` writes target/staticlib/librevosti.a), or install it: `tools/install PREFIX`, and then
  * `pkg-config --cflags --libs revosti`.
@@ -21,7 +21,8 @@
  *   list         2 bytes a point: x then y of each pair. It takes any length: its places are its whole entries.
  *   view         REVOSTI_VIEW_BYTES bytes, what the examiner or the candidate sees of a slip. It may be longer: bytes past them stay.
  *   text         a TSPLIB text, lent whole. Any bytes of any length: no 0 need stand behind it, and one in it is a byte like others.
- *                Or a page of the wall list, REVOSTI_LINE_BYTES bytes a line. One that is written may be lent more: bytes past it stay.
+ *                Or a page of the wall list, REVOSTI_LINE_BYTES bytes a line, or the sentences of a line, at most REVOSTI_SENTENCE_BYTES
+ *                bytes each. One that is written may be lent more: bytes past it stay.
  *   desks        REVOSTI_DESKS_BYTES bytes, the state of all eight desks; what is in them is the functions' own matter, and any bytes are a
  *                state. It may be longer: bytes past them stay.
  *
@@ -43,7 +44,8 @@
  * Marks are refused by 6 where the packed set has not its size, has a mark of 3 or has one of the unused bits of its last byte set. Of a
  * set that is only written (fresh marks, the conversions) the size alone is tested, and what it holds is not read.
  *
- * Within an asked sheet a pending edge counts as struck; the pair list and the tour check count it as open. Savings read no marks.
+ * Within an asked sheet a pending edge counts as struck, and so it does where a line is told; the pair list and the tour check count it as
+ * open. Savings read no marks.
  *
  * docs/RULES.md has the rules that they keep to, and what the words here mean (standing pair, split, crossing, stretch, saving).
  * What is proved of them: demands 1 to 3 of README.md. In particular, whatever sheets are marked, asked, confirmed and withdrawn from fresh
@@ -84,6 +86,7 @@ enum {
     REVOSTI_VIEW_BYTES = 6,
     REVOSTI_PAGE_LINES = 60, /* lines on a page, but for the last, which has what is left */
     REVOSTI_LINE_BYTES = 25, /* 24 columns and a newline */
+    REVOSTI_SENTENCE_BYTES = 128, /* the most that a sentence has, its newline among them */
     REVOSTI_DESKS = 8,
     REVOSTI_DESKS_BYTES = 50, /* the state of all desks */
     REVOSTI_STOPPED = 255, /* the first byte that the candidate sees of a sheet that stopped, until release */
@@ -130,7 +133,8 @@ enum {
     REVOSTI_TEXT = 19,           /* not a TSPLIB text as they are read here; names the line */
     REVOSTI_SOMETHING_PENDING = 20, /* marking or asking while an edge is pending */
     REVOSTI_NOTHING_PENDING = 21,   /* confirming or withdrawing while none is */
-    REVOSTI_BUFFER = 22,            /* a view is lent fewer than six bytes, a page fewer than its text has, the desks fewer than 50 */
+    REVOSTI_BUFFER = 22,            /* a view is lent fewer than six bytes, a page or a told line fewer than its text has, the desks
+                                       fewer than 50 */
     REVOSTI_NO_STRETCH = 23,        /* K with the pair has no stretch from u to v, or the chain does not name its inner points, each once;
                                        names the record of kind 4 */
     REVOSTI_NOT_SHORTER = 24,       /* the new order of a stretch is not shorter; names the record of kind 4 */
@@ -394,10 +398,36 @@ uint64_t revosti_turn(uint8_t *desks, size_t desks_len, uint32_t n, const uint8_
                       const uint8_t *sheet, size_t sheet_len);
 
 /*
+ * Tells the reasons of a line in words: for each pair x, y at its split point c, x below y, both not c, in pair order, why the pair does
+ * not stand, or how its case is closed. Each sentence is a line of text of at most REVOSTI_SENTENCE_BYTES bytes, its newline among them;
+ * edges have their lower point first, and a saving is above 0:
+ *
+ *   Struck edge 3-5 shuts out 3 and 8 as neighbours of 5.
+ *   Third edge at 5 shuts out 3 and 8 as neighbours of 5.
+ *   Loop 1-2-5 shuts out 1 and 2 as neighbours of 5.
+ *   Exchanging 3-5 and 1-2 saves 12 and shuts out 3 and 8 as neighbours of 5.
+ *   Moving 5 between 1 and 2 saves 7 and shuts out 3 and 8 as neighbours of 5.
+ *   Further split at 9 settles 3 and 8 as neighbours of 5.
+ *
+ * The first test of the rules that fails is told, and in it the lowest point or the lowest edge. A standing pair of an accepted line is
+ * always settled by a further split: at a first split no crossing meets its conditions, and a new order that saves is a moved point.
+ *
+ * The line is the record with this number, the marks are those from before it, a pending edge read as struck; the line counts as the
+ * first entered, and its next index is not read. Refusals in this order: 1, 2, 5, 6, 7; 8 with record 0, the record number is 0 or above
+ * the record count; those of the line, as revosti_mark_sheet has them, 8 to 16, 23 and 24 with their records; 22 last, the text is lent
+ * fewer bytes than the sentences have. Answer: refusal number + 256 * record; or 65,536 * the text's length: look at revosti_refusal
+ * first, then at revosti_record or revosti_told_bytes. It changes the text alone: bytes past the sentences stay, and a refused call changes
+ * nothing. A text of revosti_told_size(n) bytes always holds them.
+ */
+uint64_t revosti_tell_line(uint32_t n, const uint8_t *table, size_t table_len, const uint8_t *marks, size_t marks_len,
+                           const uint8_t *sheet, size_t sheet_len, uint32_t record, uint8_t *text, size_t text_len);
+
+/*
  * The parts of an answer, and of a slip. revosti_points is that of a TSPLIB text which is read, revosti_text_line the line of a refusal 19
  * (of any other refusal of such a text it is 0). revosti_refusal takes that of a saving, too: made a uint64_t it keeps its lowest byte,
  * which is 0 where the saving is below 0. revosti_saving is exact, since such an answer is a multiple of 65,536; of a refusal it is 0.
  * revosti_next is that of revosti_next_desk; revosti_desk and revosti_line_left, with the first three, those of revosti_turn.
+ * revosti_told_bytes is that of revosti_tell_line where it is not refused.
  */
 static inline unsigned revosti_refusal(uint64_t answer) { return (unsigned)(answer & 0xff); }
 static inline unsigned revosti_record(uint64_t answer) { return (unsigned)(answer >> 8 & 0xffff); }
@@ -410,6 +440,7 @@ static inline uint32_t revosti_points(uint64_t answer) { return (uint32_t)(answe
 static inline uint64_t revosti_text_line(uint64_t answer) { return answer >> 8; }
 static inline size_t revosti_page_bytes(uint64_t answer) { return (size_t)(answer >> 16); }
 static inline unsigned revosti_wrong_line(uint64_t answer) { return (unsigned)(answer >> 8 & 0xff); }
+static inline size_t revosti_told_bytes(uint64_t answer) { return (size_t)(answer >> 16); }
 static inline unsigned revosti_next(uint64_t answer) { return (unsigned)(answer >> 16); }
 static inline unsigned revosti_desk(uint64_t answer) { return (unsigned)(answer >> 48 & 0xff); }
 static inline int revosti_line_left(uint64_t answer) { return (int)(answer >> 56 & 1); }
@@ -428,6 +459,9 @@ static inline uint32_t revosti_page_count(uint32_t n)
 {
     return (uint32_t)((revosti_edges(n) + REVOSTI_PAGE_LINES - 1) / REVOSTI_PAGE_LINES);
 }
+
+/* How many bytes hold the sentences of a line of n points, whichever they are: so many for each pair of points beside the split point. */
+static inline size_t revosti_told_size(uint32_t n) { return (size_t)REVOSTI_SENTENCE_BYTES * ((size_t)(n - 1) * (n - 2) / 2); }
 
 /* How many bytes the packed set of n points has, and the mark of the edge a-b in one (a and b different, from 1 to n, in either order). */
 static inline size_t revosti_marks_size(uint32_t n) { return (revosti_edges(n) + 3) / 4; }

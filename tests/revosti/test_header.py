@@ -1,5 +1,5 @@
 """The inline functions for packed sets in include/revosti.h, compiled as C99 and as C++, against sets made by another way; and those for
-the answers of a saving and of a TSPLIB text and for a slip. Its names for kinds and refusals are those of Python."""
+the answers of a saving, a TSPLIB text and a told line and for a slip. Its names for kinds and refusals are those of Python."""
 
 import ctypes
 import re
@@ -32,6 +32,8 @@ uint64_t line(uint64_t answer);
 uint32_t pages(uint32_t n);
 size_t page_bytes(uint64_t answer);
 unsigned wrong_line(uint64_t answer);
+size_t told_bytes(uint64_t answer);
+size_t told_size(uint32_t n);
 size_t size(uint32_t n) { return revosti_marks_size(n); }
 unsigned mark(uint32_t n, const uint8_t *marks, uint32_t a, uint32_t b) { return revosti_mark_of(n, marks, a, b); }
 int64_t saving(int64_t answer) { return revosti_saving(answer); }
@@ -42,6 +44,8 @@ uint64_t line(uint64_t answer) { return revosti_text_line(answer); }
 uint32_t pages(uint32_t n) { return revosti_page_count(n); }
 size_t page_bytes(uint64_t answer) { return revosti_page_bytes(answer); }
 unsigned wrong_line(uint64_t answer) { return revosti_wrong_line(answer); }
+size_t told_bytes(uint64_t answer) { return revosti_told_bytes(answer); }
+size_t told_size(uint32_t n) { return revosti_told_size(n); }
 #ifdef __cplusplus
 }
 #endif
@@ -55,10 +59,11 @@ def compiled(folder, *words):
     second.write_text('#include "revosti.h"\n')
     subprocess.run([*words, first, second, *STRICT, "-I", ROOT / "include", "-o", out], check=True)
     functions = ctypes.CDLL(str(out))
-    functions.size.restype = functions.page_bytes.restype = ctypes.c_size_t
+    functions.size.restype = functions.page_bytes.restype = functions.told_bytes.restype = functions.told_size.restype = ctypes.c_size_t
     functions.saving.restype = ctypes.c_int64
     functions.saving.argtypes = functions.refusal.argtypes = (ctypes.c_int64,)
-    functions.released.argtypes = functions.page_bytes.argtypes = functions.wrong_line.argtypes = (ctypes.c_uint64,)
+    for function in (functions.released, functions.page_bytes, functions.wrong_line, functions.told_bytes):
+        function.argtypes = (ctypes.c_uint64,)
     functions.points.restype, functions.line.restype = ctypes.c_uint32, ctypes.c_uint64
     functions.points.argtypes = functions.line.argtypes = (ctypes.c_uint64,)
     return functions
@@ -113,6 +118,12 @@ class Inline:
         for line in (1, 2, 60, 61):
             answer = 27 + 256 * line
             self.assertEqual((self.functions.refusal(answer), self.functions.wrong_line(answer)), (27, line))
+
+    def test_told_lines(self):
+        for n in range(4, 181):
+            self.assertEqual(self.functions.told_size(n), 128 * len(list(combinations(range(2, n + 1), 2))))
+        for size in (3 * 46, 65535, 65536, 15931 * 128):
+            self.assertEqual((self.functions.told_bytes(65536 * size), self.functions.refusal(65536 * size)), (size, 0))
 
     def test_refusal_of_other_answers(self):
         for answer, number in ((21, 21), (18, 18), (16 + 256 * 3, 16), (14 + 256 * 4000 + 16_777_216 * 7, 14), (65536 * 40 + 256, 0)):
