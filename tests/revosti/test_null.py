@@ -33,7 +33,7 @@ class Null(unittest.TestCase):
                              "mark_between": SIZE, "list_between": SIZE, "write_page": SIZE, "read_page": SIZE, "move_saving": SIZE,
                              "fresh_marks": MARKS, "pack_marks": MARKS, "unpack_marks": MARKS, "confirm": MARKS, "withdraw": MARKS,
                              "read_tsplib": TEXT, "tsplib_points": TEXT, "examiner_view": VIEW, "candidate_view": VIEW,
-                             "open_desks": VIEW, "hand_in": VIEW, "next_desk": VIEW, "turn": VIEW}.items():
+                             "open_desks": VIEW, "hand_in": VIEW, "next_desk": VIEW, "turn": VIEW, "tell_line": SIZE}.items():
             with self.subTest(name):
                 self.assertEqual(call("revosti_" + name, 4, lambda: None), number)
 

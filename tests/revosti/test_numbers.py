@@ -110,7 +110,7 @@ class Names(unittest.TestCase):
                  revosti.new_slip_between: (N, TABLE, TABLE, marks, LINES), revosti.release: (0,), revosti.examiner_view: (0,),
                  revosti.candidate_view: (0,), revosti.open_desks: (), revosti.hand_in: (desks, 1, N, TABLE, marks, LINES),
                  revosti.next_desk: (desks,), revosti.turn: (desks, N, TABLE, marks, LINES), revosti.last_served: (desks,),
-                 revosti.desk_of: (desks, 1)}
+                 revosti.desk_of: (desks, 1), revosti.tell_line: (N, TABLE, marks, LINES, 1)}
         self.assertEqual({call.__name__ for call in calls} | {"meaning"},
                          {name for name in revosti.__all__ if inspect.isfunction(getattr(revosti, name))})
         for call, arguments in calls.items():
@@ -126,7 +126,8 @@ class Names(unittest.TestCase):
                             (lambda: revosti.exchange_saving(N, [2**32], 1, 2, 3, 4), "table"),
                             (lambda: revosti.exchange_saving(N, TABLE, 1, 2, 2**16, 4), "x"),
                             (lambda: revosti.mark_between(N, TABLE, [-1], bytearray(2), LINES), "high"),
-                            (lambda: revosti.release(2**64), "slip")):
+                            (lambda: revosti.release(2**64), "slip"),
+                            (lambda: revosti.tell_line(N, TABLE, bytes(2), LINES, 2**32), "record")):
             with self.subTest(words), self.assertRaisesRegex(OverflowError, f"^{words}: "):
                 call()
 

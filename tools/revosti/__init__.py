@@ -28,6 +28,7 @@ open_desks   the state of eight desks
 hand_in      hands in a sheet at a desk: its first line waits
 next_desk    the desk that the next turn serves
 turn         marks one line of that desk, and tells its verdict so far; `desk_of` and `last_served` read the state
+tell_line    a sentence for each pair at a line's split: why it does not stand, or how its case is closed
 
 A board has n points, 4 to 180. A table is one length an edge, in the order 1-2, 1-3, .., 1-n, 2-3, ..; `place` gives the place of an edge.
 Tables come back as arrays of typecode "I", and such an array is lent to a call as it is. Lists, tuples and generators of
@@ -54,6 +55,7 @@ from .operations import (LEAST_POINTS, MOST_POINTS, OPEN, PENDING, STRUCK, Insta
 from .pages import LINE_BYTES, PAGE_LINES, page_count, read_page, write_page
 from .refusal import Refusal, meaning
 from .slips import STOPPED, candidate_view, examiner_view, new_slip, new_slip_between, release
+from .telling import tell_line
 
 __version__ = "1.0.0"
 
@@ -62,4 +64,4 @@ __all__ = ["DESKS", "DESKS_BYTES", "Desk", "Instance", "LEAST_POINTS", "LINE_BYT
            "crossing_saving", "desk_of", "examiner_view", "exchange_saving", "fresh_marks", "hand_in", "last_served", "list_between",
            "list_pairs", "mark_between", "mark_of", "mark_sheet", "marks_size", "meaning", "measure", "move_saving", "new_slip",
            "new_slip_between", "next_desk", "open_desks", "pack_marks", "page_count", "place", "read_page", "read_tsplib", "release",
-           "tsplib_points", "turn", "unpack_marks", "withdraw", "write_page"]
+           "tell_line", "tsplib_points", "turn", "unpack_marks", "withdraw", "write_page"]

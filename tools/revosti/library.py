@@ -47,6 +47,7 @@ ARGUMENTS: dict[str, tuple[Any, ...]] = {
     "revosti_hand_in": (*BUFFER, WORD, WORD, *BUFFER, *BUFFER, *BUFFER),
     "revosti_next_desk": BUFFER,
     "revosti_turn": (*BUFFER, WORD, *BUFFER, *BUFFER, *BUFFER),
+    "revosti_tell_line": (WORD, *BUFFER, *BUFFER, *BUFFER, WORD, *BUFFER),
 }
 SAVINGS: dict[str, tuple[Any, ...]] = {  # their answers have a sign
     "revosti_exchange_saving": (WORD, *BUFFER, *[HALF] * 4),

@@ -27,7 +27,8 @@ REFUSALS = {
     19: "The text is no TSPLIB text as they are read here (docs/FORMATS.md).",
     20: "Something is pending: confirm or withdraw it first.",
     21: "Nothing is pending: there is nothing to confirm or withdraw.",
-    22: "The buffer is too short: a view has six bytes, a page 25 a line, the desks 50.",
+    22: "The buffer is too short: a view has six bytes, a page 25 a line, the desks 50, a told line as many as its "
+        "sentences.",
     23: "K with the pair has no stretch from u to v, one path with an inner point, or the chain does not name its "
         "inner points, each once.",
     24: "The new order of the stretch is not shorter.",
