@@ -19,6 +19,7 @@ standing     the pairs that stand at a split, from the marker
 fault        what a sheet lacks where it is refused
 explain      a verdict in words, and for JSON
 case         one record of a sheet: K, its split, its pairs
+telling      a line told in words: the reason of each pair at its split
 saving       what a rule takes out and puts in, in words
 segment      the stretch that a case puts in another order, in words
 slip         what examiner and candidate see of a marked sheet, in words
@@ -33,6 +34,7 @@ pages        the wall list of a board, and its lengths and marks again
 
 edges        edges and sets of them, the names of the rules
 labels       places for the holes' numbers
+reason       what the picture of one reason shows
 draw         the board as SVG
 words        numbers in sentences, complaints
 """

@@ -6,11 +6,10 @@ from typing import NamedTuple
 from revosti import PENDING, withdraw
 
 from .fault import Sight, reordered
-from .lengths import Lengths
 from .marks import marks_of
 from .parts import CROSSING, STRETCH, STRETCH_POINT
 from .segment import Path
-from .verdict import judge
+from .verdict import lines_before
 from .words import Complaint, counted
 
 
@@ -41,7 +40,8 @@ def case_of(parts, lengths, marks, number):
     record = sight.record
     if record.kind == STRETCH_POINT:
         raise Complaint(f"--record: record {number} is a point of the order of record {sight.place.owner}, and no case")
-    sight.marks = marks_before(parts, lengths, settled(marks, lengths.n), sight)
+    line = (sight.owners(number) or [number])[0]
+    sight.marks = lines_before(lengths, settled(marks, lengths.n), parts, line).left
     k = sorted(sight.edges(number))
     if record.kind == CROSSING:
         return Case(k, record.kind, [record.c, record.d], sight.marks, crossed=(record.u, record.v))
@@ -66,14 +66,3 @@ def settled(marks, n):
     if PENDING in marks_of(marks, n):
         withdraw(n, marks)
     return marks
-
-
-def marks_before(parts, lengths, marks, sight):
-    """The marks that the line of a record is judged over: those that the lines before it leave."""
-    line = (sight.owners(sight.number) or [sight.number])[0]
-    last = sight.places[line].before
-    if not last:
-        return marks
-    records = list(parts.records[:line - 1])
-    records[last - 1] = records[last - 1]._replace(next=0)
-    return judge(Lengths.mark, lengths, marks, parts._replace(records=records, tail=b"")).left

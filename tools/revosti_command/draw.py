@@ -1,4 +1,5 @@
-"""The board as SVG: holes, open, pending and struck edges; a tour, or one case of a sheet, if that is asked for.
+"""The board as SVG: holes, open, pending and struck edges; a tour, one case of a sheet, or one reason of a told line, if
+that is asked for.
 
 The picture has a fixed width; the second coordinate grows upward. The edges
 of one hole form one path, so that its fan does not darken around the hole.
@@ -12,6 +13,7 @@ from .edges import edge, path_name
 from .labels import place_labels
 from .marks import NAMES, marked
 from .parts import CROSSING, STRETCH
+from .reason import Sketch
 from .words import counted
 
 WIDTH, MARGIN, MIN_HEIGHT = 1200, 50, 240
@@ -23,7 +25,7 @@ PAPER, INK, SLATE, ORANGE, GREEN, BLUE, PURPLE, RED, AMBER = (
 
 class Scene(NamedTuple):
     """What a picture shows: the points and the name of their rule, the marks, the edges of a tour and its length, a
-    case and its record, and the marks that are left out."""
+    case and its record, the marks that are left out, and a reason."""
 
     points: list
     rule: str
@@ -33,16 +35,19 @@ class Scene(NamedTuple):
     case: Case | None = None
     record: int = 0
     without: tuple = ()
+    reason: Sketch | None = None
 
 
 def draw(scene):
     """The SVG of a scene. A pending leg of the tour counts as open; it is drawn as tour with a light core, and pending
     edges lie above that."""
-    case, by_name = scene.case, {name: marked(len(scene.points), scene.marks, mark) for mark, name in NAMES.items()}
+    case, reason = scene.case, scene.reason
+    by_name = {name: marked(len(scene.points), scene.marks, mark) for mark, name in NAMES.items()}
     shown = {name: [] if name in scene.without else found for name, found in by_name.items()}
     broken = sorted(set(scene.legs) & set(by_name["struck"]))
-    rows = [hole_row(scene), *(case_rows(scene) if case else []), *edge_rows(by_name, scene.without), *tour_rows(scene, broken)]
-    view = View(scene.points, len(rows))
+    focus = case_rows(scene) if case else reason.rows if reason else []
+    rows = [hole_row(scene), *focus, *edge_rows(by_name, scene.without), *tour_rows(scene, broken)]
+    view = View(scene.points, len(rows) + (COLUMNS if reason else 0))
     body = [
         edge_group("open", view, shown["open"]),
         edge_group("struck", view, shown["struck"]),
@@ -50,12 +55,12 @@ def draw(scene):
         edge_group("broken", view, broken),
         edge_group("core", view, sorted(set(scene.legs) & set(by_name["pending"]))),
         edge_group("pending", view, shown["pending"]),
-        *(case_groups(view, case) if case else []),
-        hole_group(view), *([ring_group(view, case.points)] if case else []),
-        label_group(view, [*scene.legs, *(case.k + legs_of(case.order) if case else [])]),
-        legend_group(view, rows),
+        *(case_groups(view, case) if case else []), *(reason_groups(view, reason) if reason else []),
+        hole_group(view), *([ring_group(view, case.points)] if case else []), *(spot_groups(view, reason) if reason else []),
+        label_group(view, [*scene.legs, *(case.k + legs_of(case.order) if case else []), *(reason.edges if reason else [])]),
+        legend_group(view, rows), *([caption(view, reason.sentence)] if reason else []),
     ]
-    return page(view, style(view, shown, bool(case)), body)
+    return page(view, style(view, shown, case_style() if case else reason_style() if reason else []), body)
 
 
 class View:
@@ -90,11 +95,11 @@ def page(view, css, body):
         *body, "</svg>", ""])
 
 
-def style(view, shown, case):
-    """The look of each class. The more edges, the lighter each of them; a struck edge has less ink than an open one,
-    and around a case all of them step back."""
+def style(view, shown, focus):
+    """The look of each class, those of a case or a reason among them. The more edges, the lighter each of them; a struck
+    edge has less ink than an open one, and around a case or a reason all of them step back."""
     opened, pending, struck = (len(shown[name]) for name in ("open", "pending", "struck"))
-    back = 0.35 if case else 1
+    back = 0.35 if focus else 1
     return "\n".join([
         "",
         "path, .key line { fill: none; stroke-linecap: round; }",
@@ -105,7 +110,7 @@ def style(view, shown, case):
         f".tour {{ stroke: {BLUE}; stroke-width: 5; }}",
         f".broken {{ stroke: {PURPLE}; stroke-width: 5; stroke-dasharray: 10 8; }}",
         f".core {{ stroke: {PAPER}; stroke-width: 3; }}",
-        *(case_style() if case else []),
+        *focus,
         f".hole {{ fill: {INK}; stroke: {PAPER}; stroke-width: 1.2; }}",
         "text { font-family: 'DejaVu Sans', Verdana, Arial, sans-serif; }",
         f".label {{ font-size: {view.font}px; fill: {INK}; text-anchor: middle; "
@@ -124,6 +129,15 @@ def case_style():
             f".named {{ stroke: {PURPLE}; stroke-width: 3.5; stroke-dasharray: 12 7; }}",
             f".due {{ stroke: {RED}; stroke-width: 3.5; stroke-dasharray: 12 7; }}",
             f".ring {{ fill: none; stroke: {RED}; stroke-width: 4; }}"]
+
+
+def reason_style():
+    """The look of a reason: K thick, the pair's edges thinner, what shuts the pair out dashed in a light gap upon them,
+    what is put in drawn through; the split point ringed, the point that moves or splits ringed wider."""
+    return [f".k {{ stroke: {INK}; stroke-width: 11; }}", f".pair {{ stroke: {BLUE}; stroke-width: 9; }}",
+            f".put {{ stroke: {AMBER}; stroke-width: 6; }}", f".gap {{ stroke: {PAPER}; stroke-width: 5; }}",
+            f".fault {{ stroke: {RED}; stroke-width: 4; stroke-dasharray: 12 10; }}",
+            f".ring {{ fill: none; stroke: {RED}; stroke-width: 4; }}", f".spot {{ fill: none; stroke: {PURPLE}; stroke-width: 4; }}"]
 
 
 def faint(count, most, least):
@@ -168,6 +182,24 @@ def case_groups(view, case):
     return [edge_group("k", view, [e for e in case.k if e not in crossed + stretch]), edge_group("crossed", view, crossed),
             edge_group("stretch", view, stretch), edge_group("order", view, legs_of(case.order)),
             edge_group("named", view, [e for e in pairs if e not in due]), edge_group("due", view, due)]
+
+
+def reason_groups(view, reason):
+    """K, the pair's edges, what is put in, and upon them what shuts the pair out."""
+    layers = {"k": reason.k, "pair": reason.pair, "put": reason.put, "gap": reason.fault, "fault": reason.fault}
+    return [edge_group(name, view, edges) for name, edges in layers.items()]
+
+
+def spot_groups(view, reason):
+    """A ring around the split point, and a wider one around the point that is crowded, moved or split at."""
+    spots = [] if reason.spot is None else [view.at(reason.spot)]
+    wide = [f'<circle class="spot" cx="{x}" cy="{y}" r="{view.radius + 14}"/>' for x, y in spots]
+    return [ring_group(view, [reason.split]), "\n".join(['<g id="spots">', *wide, "</g>"])]
+
+
+def caption(view, sentence):
+    """The sentence below the legend."""
+    return f'<g id="caption" class="key"><text x="{MARGIN}" y="{view.height - 16}">{escape(sentence)}</text></g>'
 
 
 def legs_of(path):
@@ -239,6 +271,6 @@ def legend_group(view, rows):
 
 def sample(name, x, y):
     """A piece of a class, beside its words."""
-    if name in ("hole", "ring"):
+    if name in ("hole", "ring", "spot"):
         return f'<circle class="{name}" cx="{x + 25}" cy="{y}" r="{6 if name == "hole" else 9}"/>'
     return f'<line class="{name}" x1="{x}" y1="{y}" x2="{x + 50}" y2="{y}"/>'

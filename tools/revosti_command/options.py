@@ -95,6 +95,14 @@ def record(text):
     return digits_of(text, "a record", MAX_16)
 
 
+def pair(text):
+    """Two points on the command line, 3-8 or 3,8."""
+    points = text.replace(",", "-").split("-")
+    if len(points) != 2:
+        raise argparse.ArgumentTypeError(f'expected a pair of points, as 3-8 or 3,8, found "{text}"')
+    return tuple(map(point, points))
+
+
 def slip(text):
     """A slip on the command line: every number of 64 bits is one."""
     return digits_of(text, "a slip", MAX_64)

@@ -7,6 +7,7 @@ from revosti import OPEN, PENDING, STRUCK, Refusal, confirm, fresh_marks
 from .edges import edges
 from .lengths import Lengths, sheet_of
 from .marks import marks_of
+from .nest import nest
 
 
 class Verdict(NamedTuple):
@@ -34,10 +35,15 @@ class Verdict(NamedTuple):
     def closed(self):
         """The marks that the line at fault was judged over, with nothing pending: within an asked sheet pending counts
         as struck."""
-        marks = bytearray(self.left)
-        if PENDING in marks_of(marks, self.lengths.n):
-            confirm(self.lengths.n, marks)
-        return marks
+        return closed(self.left, self.lengths.n)
+
+
+def closed(marks, n):
+    """A copy of the marks with what is pending struck."""
+    marks = bytearray(marks)
+    if PENDING in marks_of(marks, n):
+        confirm(n, marks)
+    return marks
 
 
 def judge(operation, lengths, marks, parts):
@@ -53,6 +59,18 @@ def judge(operation, lengths, marks, parts):
 def dry(lengths, marks, parts):
     """The verdict of marking a sheet over a set, or over fresh marks where it is None. The set stays as it is."""
     return judge(Lengths.mark, lengths, fresh_marks(lengths.n) if marks is None else bytearray(marks), parts)
+
+
+def lines_before(lengths, marks, parts, number):
+    """The verdict of marking the lines before a line of a sheet, on a copy of the set; what is pending counts as struck
+    there. A record that is no line of the chain has none before it."""
+    place = nest(parts.records).get(number)
+    last = place.before if place and place.depth == 0 else 0
+    if not last:
+        return Verdict(0, lengths=lengths, found=bytes(marks), left=bytes(marks))
+    records = list(parts.records[:number - 1])
+    records[last - 1] = records[last - 1]._replace(next=0)
+    return judge(Lengths.mark, lengths, closed(marks, lengths.n), parts._replace(records=records, tail=b""))
 
 
 def counted_marks(marks, n):
