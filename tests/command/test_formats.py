@@ -1,4 +1,4 @@
-"""The examples in docs/FORMATS.md, sets of marks and TSPLIB texts among them, and the distances and savings in
+"""The examples in docs/FORMATS.md, sets of marks, TSPLIB texts and sentences among them, and the distances and savings in
 docs/RULES.md are true, and both have each refusal."""
 
 import re
@@ -9,11 +9,13 @@ from support import EXAMPLES, SQUARE_POINTS, TOOLS, Folder, Run, binary
 from packing import packed
 from plain import RULES, length_of
 from revosti.refusal import REFUSALS
+from revosti.telling import SENTENCE_BYTES
 from revosti_command.edges import edges
 from revosti_command.lengths import Lengths, measured
 from revosti_command.marks import NAMES
 from revosti_command.parts import ZERO_IN, Record, split
 from revosti_command.read import pack, pack_beside
+from revosti_command.telling import KINDS, read
 from revosti_command.tsplib import complaint
 from revosti_command.verdict import dry
 
@@ -184,6 +186,27 @@ class Examples(unittest.TestCase):
             files.append(binary(records, points=[*SQUARE_POINTS, (0, 5)]))
             self.assertEqual(answer(split(files[-1])).splitlines()[-1], f"verdict {number} record {record} open 10")
         self.assertEqual((EXAMPLES / "point_moved.bin").read_bytes(), files[0])
+
+
+class Reasons(unittest.TestCase):
+    """The sentences of a line: the example, and a sentence of each kind, of which the header has those that can be told."""
+
+    SECTION = PAGE.partition("## Reasons in words")[2].partition("\n## ")[0]
+    HEADER = (TOOLS.parent / "include/revosti.h").read_text(encoding="utf-8")
+
+    def test_example(self):
+        self.assertEqual(block("Exchanging 2-4 and 1-3"), Run("tell", EXAMPLES / "reasons.txt").text)
+
+    def test_sentences(self):
+        rows = re.findall(r"^\| `(.*\.)` \| [^|]* \| (\w+) \| (yes|no)", self.SECTION, re.M)
+        self.assertEqual([read(None, sentence).kind for sentence, _, _ in rows], [kind for _, kind, _ in rows])
+        self.assertEqual(sorted(kind for _, kind, _ in rows), sorted(KINDS.values()))
+        told = [sentence for sentence, _, answer in rows if answer == "yes"]
+        self.assertEqual(re.findall(r"^ \*   (.* as neighbours of \d\.)$", self.HEADER, re.M), told)
+
+    def test_numbers(self):
+        self.assertEqual(re.findall(r"([\d,]+) of them for 180 points", self.SECTION), [f"{179 * 178 // 2:,}"])
+        self.assertIn(f"at most {SENTENCE_BYTES - 1} bytes and a newline", self.SECTION)
 
 
 class Files(Folder):

@@ -19,7 +19,7 @@ FORMATS, README, RULES, DECISIONS = ((ROOT / name).read_text(encoding="utf-8")
                                      for name in ("docs/FORMATS.md", "README.md", "docs/RULES.md", "docs/DECISIONS.md"))
 WANTED = {"mark", "ask", "confirm", "withdraw", "fresh", "explain", "pairs", "saving", "slip", "tour", "edges", "draw", "pages",
           "read-pages", "board",
-          "pack", "unpack", "convert", "desks"}
+          "pack", "unpack", "convert", "desks", "tell"}
 
 
 def options_of(name):
