@@ -168,24 +168,25 @@ class Refused(unittest.TestCase):
         self.assertIn("The pair 2-4 is due. Its split has no cases.\n1 line before it is accepted.\n", run.text)
 
     def test_a_line_before_is_refused(self):
-        data = binary([(1, 1, 2, 0, 0, 3, 0, 2), (1, 1, 3, 0, 0, 2, 0, 0)])
-        run = Run("tell", "--record", 2, data=data)
-        self.assertEqual((run.status, run.text), (1, Run("tell", data=data).text))
-        self.assertIn("Record 1 is at fault:\n>     1  strike 1-2, split at 3\n", run.text)
+        for second in (1, 1, 3, 0, 0, 2, 0, 0), (1, 1, 1, 0, 0, 2, 0, 0):
+            data = binary([(1, 1, 2, 0, 0, 3, 0, 2), second])
+            run = Run("tell", "--record", 2, data=data)
+            self.assertEqual((run.status, run.text), (1, Run("tell", data=data).text))
+            self.assertIn("Record 1 is at fault:\n>     1  strike 1-2, split at 3\n", run.text)
 
     def test_struck_already(self):
         data = binary([(1, 1, 3, 0, 0, 2, 0, 2), (1, 3, 1, 0, 0, 2, 0, 0)])
         self.assertIn("Refused, number 12: The edge is struck already.\nRecord 1 strikes it.\n", Run("tell", "--record", 2, data=data).text)
 
     def test_no_line(self):
-        for number, words in ((2, "Refused, number 10, record 2: "), (0, "Refused, number 8: "), (8, "Refused, number 8: ")):
+        case, none = "Record {} has kind 2; a line has kind 1.\n", "The sheet has 7 records, and none is number {}.\n"
+        for number, refusal, record, words in ((2, 10, 2, case), (7, 10, 7, case), (0, 8, 0, none), (8, 8, 0, none)):
             run = Run("tell", REASONS, "--record", number)
             self.assertEqual((run.status, run.out), (1, b""))
-            self.assertTrue(run.err.startswith(f"revosti: {words}"), run.err)
-            self.assertTrue(run.err.endswith("Record 2 has kind 2; a line has kind 1.\n" if number == 2 else
-                                             f"The sheet has 7 records, and none is number {number}.\n"), run.err)
+            self.assertTrue(run.err.startswith(f"revosti: Refused, number {refusal}{', record ' * bool(record)}{record or ''}: "), run.err)
+            self.assertTrue(run.err.endswith(words.format(number)), run.err)
             found = json.loads(Run("tell", REASONS, "--record", number, "--json").text)
-            self.assertEqual((found["refusal"], found["record"]), (10, 2) if number == 2 else (8, 0))
+            self.assertEqual((found["refusal"], found["record"]), (refusal, record))
 
     def test_no_board(self):
         run = Run("tell", EXAMPLES / "three_points.bin")

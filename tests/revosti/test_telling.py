@@ -207,7 +207,7 @@ class Refused(unittest.TestCase):
             for index in (0, 1, 9, 65535):
                 line = [[*sheet[0][:7], index], *sheet[1:]]
                 self.assertEqual(self.told(SIX, SIX_TABLE, marks, line, 1), (number, record), changes)
-            for before in (1, 3):
+            for before in (1, 299):
                 moved = [[9] * 8] * before + [shifted(r, before) for r in sheet]
                 self.assertEqual(self.told(SIX, SIX_TABLE, marks, moved, 1 + before), (number, record + before), changes)
 
