@@ -2,10 +2,10 @@
 
 use crate::desks::{Desks, Lent, Turn};
 use crate::marking::{self, Marked};
-use crate::refusal::Refusal;
+use crate::refusal::{Fault, Refusal};
 use crate::slip::{self, Slip, View};
 use crate::tsplib::{self, TextFault};
-use crate::{lengths, listing, marks, packed, page, saving, tour};
+use crate::{lengths, listing, marks, packed, page, saving, telling, tour};
 
 /// 32-bit entries; a length that is no whole number of entries becomes a wrong size.
 pub fn entries(bytes: &[u8]) -> Vec<u32> {
@@ -99,10 +99,14 @@ pub fn list_between(n: u32, low: &[u8], high: &[u8], marks: &[u8], [a, b, c]: [u
     written(list, |places| listing::list_between(n, (&low, &high), marks, (a, b), c, places))
 }
 
+/// The refusal number plus 256 × its record.
+fn fault_number(fault: Fault) -> u64 {
+    u64::from(fault.refusal.number()) + 256 * u64::from(fault.record)
+}
+
 /// "The refusal number or 0, plus 256 × the record, plus 16,777,216 × the lines accepted."
 pub fn marking_number(marked: Marked) -> u64 {
-    let fault = marked.fault.map_or(0, |f| u64::from(f.refusal.number()) + 256 * u64::from(f.record));
-    fault + 16_777_216 * u64::from(marked.lines)
+    marked.fault.map_or(0, fault_number) + 16_777_216 * u64::from(marked.lines)
 }
 
 /// *Mark a sheet* for C.
@@ -231,6 +235,12 @@ pub fn turn(desks: &mut [u8], n: u32, table: &[u8], marks: &mut [u8], sheet: &[u
         turn.iter().for_each(|&turn| write_turn(&read, turn, desks));
         turn_number(turn)
     }))
+}
+
+/// *Tell a line* for C: the refusal number + 256 × record, or 65,536 × the text's length.
+pub fn tell_line(n: u32, table: &[u8], marks: &[u8], sheet: &[u8], record: u32, text: &mut [u8]) -> u64 {
+    let told = telling::tell_line(n, &entries(table), marks, &numbers(sheet), record, text);
+    told.map_or_else(fault_number, |size| 65_536 * size as u64)
 }
 
 /// Bit 40 of a slip.

@@ -1,6 +1,7 @@
 //! A second program for strike sheets, read from documents 01 and 02 alone.
 //!
-//! Names: a feasible pair is 01's standing pair; K is `EdgeSet`; a segment is Paper 10's stretch.
+//! Names: a feasible pair is 01's standing pair; K is `EdgeSet`; a segment is Paper 10's stretch; a reason is
+//! what Paper 6 tells of a pair.
 //! `kit` holds the generator, the naive checker, brute force and the comparison.
 
 pub mod bytes;
@@ -18,10 +19,13 @@ pub mod packed;
 pub mod page;
 pub mod pairs;
 pub mod program;
+pub mod reasons;
 pub mod refusal;
 pub mod saving;
 pub mod segment;
+pub mod sentence;
 pub mod sheet;
 pub mod slip;
+pub mod telling;
 pub mod tour;
 pub mod tsplib;

@@ -113,7 +113,7 @@ impl<'a> Walk<'a> {
     }
 
     /// Judges the line at `index`: 10, 11, 12, then its split under K = {ab}.
-    fn line(&mut self, marks: Marks, index: u16) -> Result<Line, Fault> {
+    pub fn line(&mut self, marks: Marks, index: u16) -> Result<Line, Fault> {
         let line = self.sheet.line(self.lengths.order.n, index)?;
         let place = self.lengths.order.place(line.a, line.b);
         demand(marks.open(place), Refusal::EdgeStruck, index)?;

@@ -3,6 +3,7 @@
 use crate::refusal::{demand, Fault, Refusal};
 
 /// A sheet that has passed test 7, as 16-bit numbers.
+#[derive(Clone, Copy)]
 pub struct Sheet<'a> {
     numbers: &'a [u16],
 }

@@ -55,6 +55,8 @@ pub trait Checker {
     fn next_desk(&self, desks: &[u8]) -> u64;
     /// 22, 0, or the number of `mark_sheet` plus 2⁴⁸ × the desk, plus 2⁵⁶ if it has a line left.
     fn turn(&self, desks: &mut [u8], n: u32, table: &[u8], marks: &mut [u8], sheet: &[u8]) -> u64;
+    /// The refusal number + 256 × record, or 65,536 × the text's length.
+    fn tell_line(&self, n: u32, table: &[u8], marks: &[u8], sheet: &[u8], record: u32, text: &mut [u8]) -> u64;
     /// What `mark` prints for a file.
     fn program(&self, file: &[u8]) -> Vec<u8>;
     /// Whether every program text is compared, or a sample only because each starts a process.
@@ -173,6 +175,10 @@ impl Checker for Second {
 
     fn turn(&self, desks: &mut [u8], n: u32, table: &[u8], marks: &mut [u8], sheet: &[u8]) -> u64 {
         crate::bytes::turn(desks, n, table, marks, sheet)
+    }
+
+    fn tell_line(&self, n: u32, table: &[u8], marks: &[u8], sheet: &[u8], record: u32, text: &mut [u8]) -> u64 {
+        crate::bytes::tell_line(n, table, marks, sheet, record, text)
     }
 
     fn program(&self, file: &[u8]) -> Vec<u8> {

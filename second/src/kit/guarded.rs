@@ -131,6 +131,10 @@ impl<C: Checker> Checker for Guarded<C> {
         lend(desks, |desks| lend(marks, |marks| self.0.turn(desks, n, table, marks, sheet)))
     }
 
+    fn tell_line(&self, n: u32, table: &[u8], marks: &[u8], sheet: &[u8], record: u32, text: &mut [u8]) -> u64 {
+        lend(text, |text| self.0.tell_line(n, table, marks, sheet, record, text))
+    }
+
     fn program(&self, file: &[u8]) -> Vec<u8> {
         self.0.program(file)
     }

@@ -149,6 +149,18 @@ extern "C" {
         sheet: *const u8,
         sheet_len: usize,
     ) -> u64;
+    fn revosti_tell_line(
+        n: u32,
+        table: *const u8,
+        table_len: usize,
+        marks: *const u8,
+        marks_len: usize,
+        sheet: *const u8,
+        sheet_len: usize,
+        record: u32,
+        text: *mut u8,
+        text_len: usize,
+    ) -> u64;
 }
 
 /// Revosti; `mark` is the program's path.
@@ -365,6 +377,23 @@ impl Checker for Revosti {
                 marks.len(),
                 sheet.as_ptr(),
                 sheet.len(),
+            )
+        }
+    }
+
+    fn tell_line(&self, n: u32, table: &[u8], marks: &[u8], sheet: &[u8], record: u32, text: &mut [u8]) -> u64 {
+        unsafe {
+            revosti_tell_line(
+                n,
+                table.as_ptr(),
+                table.len(),
+                marks.as_ptr(),
+                marks.len(),
+                sheet.as_ptr(),
+                sheet.len(),
+                record,
+                text.as_mut_ptr(),
+                text.len(),
             )
         }
     }

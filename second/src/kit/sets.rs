@@ -22,6 +22,11 @@ pub fn marks(set: &[u8]) -> impl Iterator<Item = u8> + '_ {
     (0..4 * set.len()).map(|place| mark(set, place))
 }
 
+/// Whether the mark of this edge is pending.
+pub fn pending_at(set: &[u8], place: usize) -> bool {
+    mark(set, place) == PENDING
+}
+
 /// Whether a mark is pending.
 pub fn pending(set: &[u8]) -> bool {
     marks(set).any(|mark| mark == PENDING)

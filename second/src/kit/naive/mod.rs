@@ -9,6 +9,7 @@ pub mod language;
 mod limits;
 mod pages;
 mod reader;
+mod reasons;
 mod rules;
 mod savings;
 mod segments;
@@ -417,6 +418,10 @@ impl Checker for Naive {
 
     fn turn(&self, desks: &mut [u8], n: u32, table: &[u8], marks: &mut [u8], sheet: &[u8]) -> u64 {
         number(self.turned(desks, n, table, marks, sheet))
+    }
+
+    fn tell_line(&self, n: u32, table: &[u8], marks: &[u8], sheet: &[u8], record: u32, text: &mut [u8]) -> u64 {
+        number(self.reasons_told(n, table, marks, sheet, record, text))
     }
 
     fn program(&self, file: &[u8]) -> Vec<u8> {

@@ -5,12 +5,12 @@ use super::slip::Slip;
 use super::{edge_count, table_of, table_tests, Naive};
 
 impl Board<'_> {
-    fn sum(&self, edges: &[Edge]) -> i64 {
+    pub fn sum(&self, edges: &[Edge]) -> i64 {
         edges.iter().map(|&(a, b)| self.out(a, b)).sum()
     }
 
     /// "For two edges, their sum less the larger of the two exchanges."
-    fn exchange_saving(&self, (p, q): Edge, (x, y): Edge) -> i64 {
+    pub fn exchange_saving(&self, (p, q): Edge, (x, y): Edge) -> i64 {
         let mut exchanges = [self.sum(&[(p, x), (q, y)]), self.sum(&[(p, y), (q, x)])];
         exchanges.sort();
         let larger = if self.slip == Some(Slip::SmallerExchange) { exchanges[0] } else { exchanges[1] };
@@ -18,14 +18,14 @@ impl Board<'_> {
     }
 
     /// "For moving a point, old less new." Before, c is between x and y, after that between u and v.
-    fn move_saving(&self, c: usize, (x, y): Edge, (u, v): Edge) -> i64 {
+    pub fn move_saving(&self, c: usize, (x, y): Edge, (u, v): Edge) -> i64 {
         let old = self.sum(&[(x, c), (c, y), (u, v)]);
         let new = self.sum(&[(x, y), (u, c), (c, v)]);
         old - new
     }
 
     /// "For a crossing, the smaller of its two savings, and of four labellings the best."
-    fn crossing_saving(&self, pqrs: [usize; 4], xy: Edge, zw: Edge) -> i64 {
+    pub fn crossing_saving(&self, pqrs: [usize; 4], xy: Edge, zw: Edge) -> i64 {
         let mut savings = labellings(xy, zw).map(|(xy, zw)| {
             let [one, other] = self.two_savings(pqrs, xy, zw);
             let larger = self.slip == Some(Slip::LargerMove);

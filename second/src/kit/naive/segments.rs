@@ -23,7 +23,7 @@ fn sorted(points: &[usize]) -> Vec<usize> {
 
 impl Board<'_> {
     /// "The stretch is the path from u to v in K": the only one, and with an inner point.
-    fn segment(&self, k: &[Edge], u: usize, v: usize) -> Option<Vec<usize>> {
+    pub fn segment(&self, k: &[Edge], u: usize, v: usize) -> Option<Vec<usize>> {
         let mut found = paths(k, &[u], v);
         if self.slip == Some(Slip::ClosedTourTaken) {
             found.retain(|path| path.len() > 2);

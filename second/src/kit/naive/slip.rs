@@ -322,6 +322,50 @@ pub enum Slip {
     EndsUnread,
     /// A new order counts as a split: six splits around it are too many.
     ReorderingDeeper,
+    /// The last test that fails is told.
+    LaterTestTold,
+    /// Of two struck edges the higher one is told.
+    HigherStruckTold,
+    /// Of two exchanges that save the one of the higher edge is told.
+    HigherLegTold,
+    /// Of two points that move the higher one is told.
+    HigherPointTold,
+    /// Of two exchanges the one that saves more is told.
+    LargerSavingTold,
+    /// The saving of an exchange is told by the smaller of the two.
+    SmallerExchangeTold,
+    /// An exchange tells the line's edge before the pair's.
+    LineEdgeFirst,
+    /// The line's edge is told as its record has it.
+    EdgeAsGiven,
+    /// The points of a loop are told as they lie on it.
+    LoopAsWalked,
+    /// A pending edge is told as an open one.
+    PendingToldOpen,
+    /// The reasons are those of the marks that the line leaves.
+    LineToldStruck,
+    /// Pairs that stand have no sentence.
+    StandingUntold,
+    /// A further split is told with the point of the line's own.
+    OwnSplitTold,
+    /// The next index of the line told is read.
+    NextIndexTold,
+    /// Record 1 counts as the first entered.
+    FirstIsOne,
+    /// Record 0 is taken for the first.
+    RecordZeroFirst,
+    /// A record number is read by its lowest 16 bits.
+    RecordByLowBits,
+    /// 8 names the record that was asked for.
+    AskedRecordNamed,
+    /// A line is not told while something is pending.
+    ToldPendingRefused,
+    /// 22 before the line's own refusals.
+    BufferBeforeLine,
+    /// A text refused by 22 has written the bytes that fit.
+    ShortTextWritten,
+    /// A text clears the bytes past it.
+    PastTextCleared,
 }
 
 impl Slip {
@@ -499,5 +543,31 @@ impl Slip {
         Slip::CentreUnread,
         Slip::EndsUnread,
         Slip::ReorderingDeeper,
+    ];
+
+    /// Those of reasons in words.
+    pub const REASONS: [Slip; 22] = [
+        Slip::LaterTestTold,
+        Slip::HigherStruckTold,
+        Slip::HigherLegTold,
+        Slip::HigherPointTold,
+        Slip::LargerSavingTold,
+        Slip::SmallerExchangeTold,
+        Slip::LineEdgeFirst,
+        Slip::EdgeAsGiven,
+        Slip::LoopAsWalked,
+        Slip::PendingToldOpen,
+        Slip::LineToldStruck,
+        Slip::StandingUntold,
+        Slip::OwnSplitTold,
+        Slip::NextIndexTold,
+        Slip::FirstIsOne,
+        Slip::RecordZeroFirst,
+        Slip::RecordByLowBits,
+        Slip::AskedRecordNamed,
+        Slip::ToldPendingRefused,
+        Slip::BufferBeforeLine,
+        Slip::ShortTextWritten,
+        Slip::PastTextCleared,
     ];
 }
