@@ -342,6 +342,81 @@ fn desks_are_demanded() {
     }
 }
 
+/// Before the first case no line has been told.
+#[test]
+fn reasons_are_demanded() {
+    let missing = Coverage::default().missing();
+    assert!(Coverage::default().missing_reasons().iter().all(|unmet| missing.contains(unmet)));
+    let demanded = |unmet: String| assert!(missing.contains(&unmet), "{unmet}");
+    [0, 1, 2, 5, 6, 7, 22].iter().for_each(|number| demanded(format!("tell a line: {number}")));
+    for number in [8, 9, 10, 11, 12, 13, 14, 15, 16, 23, 24] {
+        demanded(format!("tell a line: {number}"));
+        demanded(format!("told: {number} with its record"));
+    }
+    for unmet in [
+        "the first edge struck",
+        "the second edge struck",
+        "the lower of two struck edges",
+        "the first edge pending, told as struck",
+        "the second edge pending, told as struck",
+        "a third edge",
+        "a loop",
+        "an exchange of the first edge",
+        "an exchange of the second edge",
+        "the lower of two exchanges",
+        "the lower of two exchanges, which saves less",
+        "the split point moved, no end of the line's edge in the pair",
+        "an end of the line's edge moved, below the split point",
+        "the split point moved, below the end of the line's edge in the pair",
+        "a further split",
+        "a struck edge before an exchange",
+        "an exchange before a move",
+        "lines in a later record",
+        "lines over the marks that the lines before leave",
+        "lines with a next index that does not rise",
+        "texts in a buffer of their size",
+        "texts with bytes past them",
+        "texts refused by 22 for one byte",
+        "lines refused without a byte for the text",
+        "8 for record 0",
+        "8 for the record past the last",
+        "8 for the largest record number",
+        "7 before 8",
+        "12 for a pending edge",
+    ] {
+        demanded(format!("told: {unmet}"));
+    }
+}
+
+#[test]
+fn reasons_alike_and_everything_met() {
+    let naive = Naive::default();
+    let mut comparison = Comparison::new(&Second, &naive, &naive, 8);
+    if let Err(difference) = comparison.run_reasons(6_000) {
+        panic!("{}", difference.0);
+    }
+    assert!(comparison.coverage.missing_reasons().is_empty(), "{:?}", comparison.coverage.missing_reasons());
+}
+
+/// Sheets until the comparison finds a slip in what is told, and what it finds, in the second program against the naive
+/// one or in both.
+fn found_in_reasons(slip: Slip, both: bool) -> String {
+    let naive = Naive { slip: Some(slip) };
+    let one: &dyn Checker = if both { &naive } else { &Second };
+    let mut comparison = Comparison::new(one, &naive, &naive, 7);
+    let Err(difference) = comparison.run_reasons(3_000) else { panic!("{slip:?} is not found") };
+    let what = difference.0.split(" differs").next().unwrap();
+    println!("{slip:?}: {what} after {} sheets", comparison.coverage.reasons.sheets);
+    what.to_string()
+}
+
+#[test]
+fn slips_in_reasons_are_found() {
+    for slip in Slip::REASONS {
+        found_in_reasons(slip, false);
+    }
+}
+
 /// Before the first case no new order has been met.
 #[test]
 fn segments_are_demanded() {
@@ -461,12 +536,14 @@ fn found_in_both(slip: Slip) -> String {
     found(slip, false)
 }
 
-/// What the comparison finds where both make the slip, over two tables too or over one alone; no hall, where queues tell it.
+/// What the comparison finds where both make the slip, over two tables too or over one alone; no hall, where queues
+/// tell it, and no line told, where what is due does.
 fn found(slip: Slip, two_tables: bool) -> String {
     let naive = Naive { slip: Some(slip) };
     let mut comparison = Comparison::new(&naive, &naive, &naive, 7);
     comparison.two_tables = two_tables;
     comparison.eight_desks = false;
+    comparison.told_lines = false;
     let Err(difference) = comparison.run(20_000) else { panic!("{slip:?} is not found") };
     let what = difference.0.split(" differs").next().unwrap();
     println!("{slip:?}: {what} after {} sheets", comparison.sheets);
@@ -637,4 +714,27 @@ fn slips_of_both_are_found_by_the_laws_of_desks() {
     let others: Vec<(Slip, String)> =
         laws.iter().flat_map(|(slips, laws)| found_otherwise(slips, laws, by_desks)).collect();
     assert_eq!(others, []);
+}
+
+/// Paper 6's laws, where all programs make the slip: a text is the one due, a refused line is refused as marked alone,
+/// and bytes past a text stay.
+#[test]
+fn slips_of_both_are_found_by_the_laws_of_reasons() {
+    let refusals = [
+        Slip::NextIndexTold,
+        Slip::FirstIsOne,
+        Slip::RecordZeroFirst,
+        Slip::RecordByLowBits,
+        Slip::AskedRecordNamed,
+        Slip::ToldPendingRefused,
+    ];
+    for slip in Slip::REASONS {
+        let law = match slip {
+            Slip::BufferBeforeLine => "tell a line, refused without a byte",
+            Slip::ShortTextWritten | Slip::PastTextCleared => "tell a line, bytes past it",
+            _ if refusals.contains(&slip) => "tell a line, its refusal",
+            _ => "tell a line by what is due",
+        };
+        assert_eq!(found_in_reasons(slip, true), law, "{slip:?}");
+    }
 }

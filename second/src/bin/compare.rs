@@ -1,7 +1,8 @@
 //! Compares Revosti (feature `revosti`), or the naive checker, with the second program.
 //!
-//! `compare [--sheets N | --texts N | --halls N] [--seed S] [--case K] [--save FOLDER]`; `--texts` compares TSPLIB texts
-//! alone, `--halls` halls of eight desks. The inputs of the program are kept in the folder.
+//! `compare [--sheets N | --texts N | --halls N | --reasons N] [--seed S] [--case K] [--save FOLDER]`; `--texts`
+//! compares TSPLIB texts alone, `--halls` halls of eight desks, `--reasons` sheets whose lines are told. The inputs of
+//! the program are kept in the folder.
 
 use std::path::PathBuf;
 use std::process::exit;
@@ -18,6 +19,7 @@ enum Part {
     Sheets(u64),
     Texts(u64),
     Halls(u64),
+    Reasons(u64),
 }
 
 struct Options {
@@ -36,11 +38,14 @@ fn options() -> Options {
             ("--sheets", Ok(number)) => options.part = Part::Sheets(number),
             ("--texts", Ok(number)) => options.part = Part::Texts(number),
             ("--halls", Ok(number)) => options.part = Part::Halls(number),
+            ("--reasons", Ok(number)) => options.part = Part::Reasons(number),
             ("--seed", Ok(number)) => options.seed = number,
             ("--case", Ok(number)) => options.case = Some(number),
             ("--save", _) if !value.is_empty() => options.save = Some(value.into()),
             _ => {
-                eprintln!("compare [--sheets N | --texts N | --halls N] [--seed S] [--case K] [--save FOLDER]");
+                eprintln!(
+                    "compare [--sheets N | --texts N | --halls N | --reasons N] [--seed S] [--case K] [--save FOLDER]"
+                );
                 exit(2);
             }
         }
@@ -69,18 +74,22 @@ fn main() {
         (Part::Sheets(sheets), None) => comparison.run(sheets),
         (Part::Texts(texts), None) => comparison.run_texts(texts),
         (Part::Halls(halls), None) => comparison.run_halls(halls),
+        (Part::Reasons(sheets), None) => comparison.run_reasons(sheets),
         (Part::Sheets(_), Some(case)) => comparison.run_case(case),
         (Part::Texts(_), Some(case)) => comparison.texts(case),
         (Part::Halls(_), Some(case)) => comparison.halls_of(case),
+        (Part::Reasons(_), Some(case)) => comparison.reasons_of(case),
     };
     if let Err(difference) = outcome {
         println!("{}", difference.0);
         exit(1);
     }
     let (sheets, coverage) = (comparison.sheets, &comparison.coverage);
-    let (texts, halls) = (coverage.texts.texts, coverage.desks.halls);
-    let seed = options.seed;
-    println!("second and {}: {sheets} sheets, {texts} texts and {halls} halls alike, seed {seed}", other.name());
+    let (texts, halls, told) = (coverage.texts.texts, coverage.desks.halls, coverage.reasons.sheets);
+    let (name, seed) = (other.name(), options.seed);
+    println!(
+        "second and {name}: {sheets} sheets, {texts} texts, {halls} halls and {told} sheets told alike, seed {seed}"
+    );
     let missing = match options.part {
         Part::Sheets(_) => {
             print!("{coverage}");
@@ -93,6 +102,10 @@ fn main() {
         Part::Halls(_) => {
             print!("{}", coverage.desks);
             coverage.missing_desks()
+        }
+        Part::Reasons(_) => {
+            print!("{}", coverage.reasons);
+            coverage.missing_reasons()
         }
     };
     println!("{:.1} s", start.elapsed().as_secs_f64());

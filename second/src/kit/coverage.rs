@@ -6,6 +6,7 @@ use super::desks_met::DesksMet;
 use super::limits_met::LimitsMet;
 use super::moves_met::MovesMet;
 use super::pages_met::PagesMet;
+use super::reasons_met::ReasonsMet;
 use super::rules_met::RulesMet;
 use super::savings_met::SavingsMet;
 use super::segments_met::SegmentsMet;
@@ -41,6 +42,7 @@ pub enum Operation {
     HandIn,
     NextDesk,
     Turn,
+    TellLine,
     Program,
 }
 
@@ -73,11 +75,12 @@ const DEMANDS: [(Operation, &str, &[usize]); Operation::COUNT] = [
     (HandIn, "hand in", &[0, 22, 28, 29, 1, 2, 5, 6, 20, 7]),
     (NextDesk, "next desk", &[0, 22]),
     (Turn, "turn", &[0, 22, 1, 2, 5, 6, 20, 7, 8, 9, 10, 11, 12, 13, 14, 15, 16, 23, 24]),
+    (TellLine, "tell a line", &[0, 1, 2, 5, 6, 7, 8, 9, 10, 11, 12, 13, 14, 15, 16, 22, 23, 24]),
     (Program, "program", &[0, 1, 3, 4, 7, 8, 9, 10, 11, 12, 13, 14, 15, 16, 23, 24]),
 ];
 
 impl Operation {
-    pub const COUNT: usize = 26;
+    pub const COUNT: usize = 27;
 
     pub fn name(self) -> &'static str {
         DEMANDS.iter().find(|demand| demand.0 == self).unwrap().1
@@ -237,6 +240,7 @@ pub struct Coverage {
     pub pages: PagesMet,
     pub desks: DesksMet,
     pub segments: SegmentsMet,
+    pub reasons: ReasonsMet,
     /// Accepted lines by the number of splits one inside another, from 1.
     depths: [u64; Sheet::MOST_SPLITS + 1],
     /// Accepted lines by the size of the board.
@@ -263,6 +267,7 @@ impl Default for Coverage {
             pages: PagesMet::default(),
             desks: DesksMet::default(),
             segments: SegmentsMet::default(),
+            reasons: ReasonsMet::default(),
             depths: [0; Sheet::MOST_SPLITS + 1],
             sizes: [0; SIZES.len()],
         }
@@ -309,6 +314,7 @@ impl Coverage {
         missing.extend(self.pages.missing());
         missing.extend(self.desks.missing());
         missing.extend(self.segments.missing());
+        missing.extend(self.reasons.missing());
         let unmet = (1..=Sheet::MOST_SPLITS).filter(|&depth| self.depths[depth] == 0);
         missing.extend(unmet.map(|depth| format!("accepted line at depth {depth}")));
         let unmet = SIZES.iter().zip(self.sizes).filter(|&(_, lines)| lines == 0);
@@ -327,6 +333,13 @@ impl Coverage {
     pub fn missing_desks(&self) -> Vec<String> {
         let mut missing = self.missing_numbers(|operation| matches!(operation, OpenDesks | HandIn | NextDesk | Turn));
         missing.extend(self.desks.missing());
+        missing
+    }
+
+    /// The same for lines told alone.
+    pub fn missing_reasons(&self) -> Vec<String> {
+        let mut missing = self.missing_numbers(|operation| matches!(operation, TellLine));
+        missing.extend(self.reasons.missing());
         missing
     }
 
@@ -363,7 +376,7 @@ impl fmt::Display for Coverage {
         }
         writeln!(f, "measure: {}\nprogram: {}\n{}", self.measure_rules, self.program_rules, self.sets)?;
         write!(f, "{}{}\n{}{}", self.savings, self.moves, self.slips, self.limits)?;
-        write!(f, "{}\n{}{}{}", self.texts, self.pages, self.desks, self.segments)?;
+        write!(f, "{}\n{}{}{}{}", self.texts, self.pages, self.desks, self.segments, self.reasons)?;
         write!(f, "accepted lines by depth:")?;
         for depth in 1..=Sheet::MOST_SPLITS {
             write!(f, " {depth}: {}", self.depths[depth])?;

@@ -124,6 +124,14 @@ impl<'a> Search<'a> {
         Some(Argument { a, b, split })
     }
 
+    /// An argument for a-b whose first split is at c, if one is found.
+    pub fn argue_at(&mut self, a: u16, b: u16, c: u16) -> Option<Argument> {
+        self.known = EdgeSet::one(a, b);
+        self.cases_left = self.effort.cases;
+        let cases = self.cases(c, self.effort.depth, 0)?;
+        Some(Argument { a, b, split: SplitTree { c, cases } })
+    }
+
     /// A closed split; `left` further splits may lie inside, `want` shall.
     fn split(&mut self, left: usize, want: usize) -> Option<SplitTree> {
         for c in self.split_points(want) {

@@ -8,6 +8,7 @@ mod moves;
 mod packing;
 mod pages;
 mod readings;
+mod reasons;
 mod savings;
 mod segments;
 mod slips;
@@ -39,8 +40,8 @@ type Checked = Result<(), Difference>;
 pub struct Comparison<'a> {
     one: &'a dyn Checker,
     other: &'a dyn Checker,
-    /// A third program, for savings, slips, texts, pages, new orders, desks and packed sets, which it reads into byte
-    /// sets.
+    /// A third program, for savings, slips, texts, pages, new orders, desks, reasons and packed sets, which it reads into
+    /// byte sets.
     naive: &'a dyn Checker,
     seed: u64,
     case: u64,
@@ -55,6 +56,8 @@ pub struct Comparison<'a> {
     pub two_tables: bool,
     /// Whether halls of eight desks are, which the second program's queues are held against.
     pub eight_desks: bool,
+    /// Whether lines are told, which are held against the sentences due.
+    pub told_lines: bool,
     completions: Completions,
     pub coverage: Coverage,
 }
@@ -82,6 +85,7 @@ impl<'a> Comparison<'a> {
             last_slip: None,
             two_tables: true,
             eight_desks: true,
+            told_lines: true,
             completions: Completions::default(),
             coverage: Coverage::default(),
         }
@@ -98,7 +102,7 @@ impl<'a> Comparison<'a> {
     }
 
     /// One instance with its sheets, listings, tours, files and savings; one whose lengths are known within limits; slips;
-    /// texts; the pages of a board; new orders of segments; and halls of eight desks.
+    /// texts; the pages of a board; new orders of segments; halls of eight desks; and lines told.
     pub fn run_case(&mut self, case: u64) -> Checked {
         self.case = case;
         let mut rng = Rng::new(self.seed, case);
@@ -123,6 +127,9 @@ impl<'a> Comparison<'a> {
         self.pages()?;
         if self.eight_desks {
             self.halls()?;
+        }
+        if self.told_lines {
+            self.reasons()?;
         }
         Ok(())
     }
