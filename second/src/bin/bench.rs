@@ -89,8 +89,8 @@ fn race(workload: &Workload, sides: &[Box<dyn Checker>], runs: usize) {
             revosti.high / second.low
         );
     }
-    if let Call::Read { text, .. } = &workload.call {
-        let speeds: Vec<String> = times.iter().map(|time| format!("{:.0}", text.len() as f64 / time.median)).collect();
+    if let Some(size) = workload.call.text_size(answer) {
+        let speeds: Vec<String> = times.iter().map(|time| format!("{:.0}", size as f64 / time.median)).collect();
         print!("   {} MB a second", speeds.join(" and "));
     }
     if let Some(at_once) = all.get(1) {
@@ -124,7 +124,7 @@ fn main() {
     let sides = sides();
     let sides_named: Vec<&str> = sides.iter().map(|side| side.name()).collect();
     println!("{runs} runs, sides in turn: {}. Microseconds a run, median (quarters);", sides_named.join(", "));
-    println!("marks, list and table are set anew before each run, outside the clock;");
+    println!("marks, list, table and text are set anew before each run, outside the clock;");
     println!("each timed run follows one that is not.");
     for name in names() {
         race(&named(&name).expect("every row has its input"), &sides, runs);

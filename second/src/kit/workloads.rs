@@ -10,6 +10,8 @@ use super::sets;
 use super::sheets::{self, Plan};
 use crate::bytes::DESKS_BYTES;
 use crate::intervals::Intervals;
+use crate::lengths::edge_count;
+use crate::sentence::SENTENCE_BYTES;
 use crate::sheet::{Record, Sheet};
 
 /// One input with the buffers of a call.
@@ -68,6 +70,14 @@ pub enum Call {
         marks: Vec<u8>,
         sheet: Vec<u8>,
     },
+    /// The first line of a sheet, told in words.
+    Tell {
+        n: u32,
+        table: Vec<u8>,
+        marks: Vec<u8>,
+        sheet: Vec<u8>,
+        text: Vec<u8>,
+    },
 }
 
 /// The buffers that calls change, as they stand before each run.
@@ -75,17 +85,19 @@ pub struct Buffers {
     marks: Vec<u8>,
     list: Vec<u8>,
     table: Vec<u8>,
+    text: Vec<u8>,
 }
 
 impl Call {
     pub fn buffers(&self) -> Buffers {
-        let mut buffers = Buffers { marks: vec![], list: vec![], table: vec![] };
+        let mut buffers = Buffers { marks: vec![], list: vec![], table: vec![], text: vec![] };
         match self {
             Call::Mark { marks, .. } | Call::MarkBetween { marks, .. } | Call::Turns { marks, .. } => {
                 buffers.marks = marks.clone()
             }
             Call::List { list, .. } | Call::ListBetween { list, .. } => buffers.list = list.clone(),
             Call::Measure { table, .. } | Call::Read { table, .. } => buffers.table = table.clone(),
+            Call::Tell { text, .. } => buffers.text = text.clone(),
         }
         buffers
     }
@@ -108,6 +120,18 @@ impl Call {
             }
             Call::Read { text, .. } => checker.read_tsplib(text, &mut buffers.table),
             Call::Turns { n, table, sheet, .. } => by_turns(checker, *n, table, &mut buffers.marks, sheet),
+            Call::Tell { n, table, marks, sheet, .. } => {
+                checker.tell_line(*n, table, marks, sheet, 1, &mut buffers.text)
+            }
+        }
+    }
+
+    /// The length of the text that is read, or written for this answer, if there is one.
+    pub fn text_size(&self, answer: u64) -> Option<u64> {
+        match self {
+            Call::Read { text, .. } => Some(text.len() as u64),
+            Call::Tell { .. } => Some(answer / 65_536),
+            _ => None,
         }
     }
 
@@ -154,8 +178,11 @@ const READING: &str = "read 180 weights";
 /// The sheet of 180 points by turns.
 const TURNS: &str = "turns 180 deep";
 
+/// The first line of the shallow sheet of 180 points, told.
+const TELLING: &str = "tell 180";
+
 /// The timed inputs: marking and listing at 30, 90 and 180 points, measuring 180, marking and listing over two tables, reading
-/// a text of 180, a sheet of 180 by turns, and a sheet of 90 with new orders of segments.
+/// a text of 180, a sheet of 180 by turns, a sheet of 90 with new orders of segments, and a line of 180 told.
 pub fn names() -> Vec<String> {
     let marking = SIZES.iter().flat_map(|n| ["shallow", "deep"].map(|kind| format!("mark {n} {kind}")));
     let listing = SIZES.iter().map(|n| format!("list {n}"));
@@ -165,7 +192,7 @@ pub fn names() -> Vec<String> {
         .chain(listing)
         .chain(measuring)
         .chain(between)
-        .chain([READING, TURNS, SEGMENTS].map(str::to_string))
+        .chain([READING, TURNS, SEGMENTS, TELLING].map(str::to_string))
         .collect()
 }
 
@@ -185,6 +212,7 @@ pub fn named(name: &str) -> Option<Workload> {
         _ if name == LIST_BETWEEN => Some(listing_between()),
         _ if name == READING => Some(reading()),
         _ if name == TURNS => Some(turning()),
+        _ if name == TELLING => Some(telling()),
         _ if name == BEFORE => Some(under_eleven(false)),
         _ if name == AFTER => Some(under_eleven(true)),
         _ => None,
@@ -254,6 +282,19 @@ fn reordering() -> Workload {
 /// The records of a kind; a draft without gaps has no others than those that are entered.
 fn of_kind(draft: &Draft, kind: u16) -> usize {
     draft.records.iter().filter(|record| record[0] == kind).count()
+}
+
+/// The first line of the shallow sheet of `marking`; the buffer holds any text.
+fn telling() -> Workload {
+    let Workload { call, .. } = marking(180, false);
+    let Call::Mark { n, table, marks, sheet } = call else { unreachable!("a sheet is marked") };
+    let pairs = edge_count(n as u16 - 1);
+    let text = vec![0; SENTENCE_BYTES * pairs];
+    Workload {
+        name: TELLING.to_string(),
+        note: format!("{pairs} sentences"),
+        call: Call::Tell { n, table, marks, sheet, text },
+    }
 }
 
 /// What a sheet is made of.
