@@ -1,7 +1,7 @@
 /*
  * The fuzzing target over the functions for C. An input is a file of the program `mark`: rule, n, coordinates, records. Its last
- * 16 bytes are read as the eight points of a saving, too, its last 8 as a slip, its last 4 as damage to a page, its last 56 or fewer as the
- * state of eight desks, and all of it as a TSPLIB text.
+ * 16 bytes are read as the eight points of a saving, too, its last 8 as a slip, its last 4 as damage to a page and as the
+ * number of a record whose line is told, its last 56 or fewer as the state of eight desks, and all of it as a TSPLIB text.
  *
  * Every buffer ends at a page that must not be touched, so a read or write past its end is a crash. The archive carries no
  * instrumentation; instead what a call answers (refusal, record, lines, strikes) is written into AFL's map, so that inputs with a new
@@ -29,7 +29,7 @@ static uint8_t *guarded(void)
 }
 
 static uint8_t *table_end, *marks_end, *sheet_end, *tour_end, *list_end, *measured_end, *asked_end, *settled_end, *other_list_end;
-static uint8_t *bytes_end, *packed_end, *view_end, *high_end, *text_end, *desks_end;
+static uint8_t *bytes_end, *packed_end, *view_end, *high_end, *text_end, *desks_end, *told_end;
 
 static unsigned get16(const uint8_t *at) { return at[0] | (unsigned)at[1] << 8; }
 static uint32_t get32(const uint8_t *at) { return at[0] | (uint32_t)at[1] << 8 | (uint32_t)at[2] << 16 | (uint32_t)at[3] << 24; }
@@ -797,6 +797,82 @@ static void try_desks(struct folder f, const uint8_t *before, const uint8_t *mar
     if (last) promise((last & 0xffffffffff) == answer && memcmp(marks, marked, set) == 0, "by turns as marked alone");
 }
 
+/* A sentence for each pair, each a line of a kind that a first split has. Answers how many tell a pair that stands. */
+static size_t settled_pairs(uint32_t n, const uint8_t *text, size_t size)
+{
+    size_t settled = 0, sentences = 0, first = 0;
+    for (size_t i = 0; i < size; i++) {
+        if (text[i] != '\n') continue;
+        size_t length = i + 1 - first;
+        promise(length > 2 && length <= REVOSTI_SENTENCE_BYTES && text[i - 1] == '.', "a sentence is a line");
+        promise(memchr("STLEMF", text[first], 6) != NULL, "one of the six reasons of a first split");
+        seen(25, text[first], 0);
+        settled += text[first] == 'F';
+        sentences++, first = i + 1;
+    }
+    promise(first == size && sentences == (size_t)(n - 1) * (n - 2) / 2, "a sentence for each pair");
+    return settled;
+}
+
+/* Tells a line into so many bytes in front of told_end; those past the text stay, and all of them where it is refused. */
+static uint64_t tell(struct folder f, const uint8_t *marks, uint32_t record, size_t room)
+{
+    uint8_t *text = told_end - room;
+    memset(text, 0xa5, room);
+    uint64_t answer = revosti_tell_line(f.n, f.table, f.table_len, marks, packed(f.edges), f.sheet, f.sheet_len, record, text, room);
+    size_t size = revosti_refusal(answer) ? 0 : revosti_told_bytes(answer);
+    promise(size <= room, "the text lies in its bytes");
+    for (size_t i = size; i < room; i++) promise(text[i] == 0xa5, "bytes past the text stay, and all of them where it is refused");
+    return answer;
+}
+
+/* What is due for a record, over marks with nothing pending: the sheet's tests, 8 for no record, and what marking tells of record 1. */
+static void told_as_due(struct folder f, const uint8_t *marks, uint32_t record, uint64_t answer, size_t room)
+{
+    struct limits l = {f.n, f.table, f.table, f.table_len, f.table_len};
+    uint64_t number = test_marking(l, marks, packed(f.edges), f.sheet_len);
+    unsigned refusal = revosti_refusal(answer), at = revosti_record(answer);
+    if (number) promise(answer == number, "1, 2, 5, 6, 7");
+    else if (record == 0 || record > f.sheet_len / 16) promise(answer == REVOSTI_INDEX_ABOVE, "8 and no record");
+    else if (refusal == REVOSTI_BUFFER) promise(at == 0 && room < revosti_told_size(f.n), "22 for a text that need not fit");
+    else if (refusal) promise(of_record(refusal) && at >= record && at <= f.sheet_len / 16, "8 to 16, 23 and 24 at the line or behind it");
+    if (number || record != 1) return;
+    uint8_t *left = asked_end - packed(f.edges);
+    memcpy(left, marks, packed(f.edges));
+    uint64_t marked = revosti_mark_sheet(f.n, f.table, f.table_len, left, packed(f.edges), f.sheet, f.sheet_len);
+    if (revosti_lines(marked) == 0) promise(answer == marked, "a refused line gets its refusal");
+    else promise(refusal == 0 || refusal == REVOSTI_BUFFER, "an accepted line is told");
+}
+
+/* An accepted line: its own bytes are enough and one less is not, and the pairs told to stand are as many as are listed. */
+static void told_whole(struct folder f, const uint8_t *marks, uint32_t record, uint64_t answer)
+{
+    const uint8_t *line = f.sheet + 16 * (size_t)(record - 1);
+    size_t size = revosti_told_bytes(answer), room = 4 * f.edges;
+    promise(tell(f, marks, record, size - 1) == REVOSTI_BUFFER, "22 for one byte");
+    promise(tell(f, marks, record, size) == answer, "its own size is enough");
+    size_t settled = settled_pairs(f.n, told_end - size, size);
+    uint16_t a = (uint16_t)get16(line + 2), b = (uint16_t)get16(line + 4), c = (uint16_t)get16(line + 10);
+    uint64_t pairs = revosti_list_pairs(f.n, f.table, f.table_len, marks, packed(f.edges), a, b, c, list_end - room, room);
+    promise(revosti_refusal(pairs) == 0 && revosti_pairs(pairs) == settled, "the pairs that stand are told so");
+}
+
+/* A line told: pending marks are read as struck. */
+static void try_tell(struct folder f, const uint8_t *before, uint32_t record)
+{
+    static uint8_t text[MOST];
+    size_t set = packed(f.edges), most = no_points(f.n) ? 64 : revosti_told_size(f.n), room = most < MOST ? most : MOST;
+    uint8_t *marks = settled_end - set;
+    memcpy(marks, before, set);
+    revosti_confirm(f.n, marks, set);
+    uint64_t answer = tell(f, before, record, room);
+    memcpy(text, told_end - room, room);
+    promise(tell(f, marks, record, room) == answer && memcmp(text, told_end - room, room) == 0, "pending is told as struck");
+    seen(26, revosti_refusal(answer), record < 40 ? record : 40);
+    told_as_due(f, marks, record, answer, room);
+    if (revosti_refusal(answer) == 0) told_whole(f, marks, record, answer);
+}
+
 static void run(const uint8_t *file, size_t size)
 {
     try_text(file, size);
@@ -854,6 +930,8 @@ static void run(const uint8_t *file, size_t size)
     try_slip(answer, 6 + rule % 3);
     struct folder folder = {n, table + (4 * edges - table_len), sheet, table_len, edges, sheet_len};
     try_desks(folder, before, marks, answer, file, size);
+    try_tell(folder, before, 1);
+    try_tell(folder, before, get32(file + size - 4) % (uint32_t)(sheet_len / 16 + 2));
     try_slip(get64(file + size - 8), size % 9);
     try_page(n, table + (4 * edges - table_len), table_len, marks, edges, 1 + (rule >> 16) % 4, get32(file + size - 4));
     if (n == points && n >= 2) try_tour(n, table, 4 * edges, marks, edges);
@@ -864,6 +942,7 @@ int main(void)
     table_end = guarded(), marks_end = guarded(), sheet_end = guarded(), tour_end = guarded();
     list_end = guarded(), measured_end = guarded(), asked_end = guarded(), settled_end = guarded(), other_list_end = guarded();
     bytes_end = guarded(), packed_end = guarded(), view_end = guarded(), high_end = guarded(), text_end = guarded(), desks_end = guarded();
+    told_end = guarded();
     __AFL_INIT();
     unsigned char *file = __AFL_FUZZ_TESTCASE_BUF;
     while (__AFL_LOOP(10000)) run(file, (size_t)__AFL_FUZZ_TESTCASE_LEN);
