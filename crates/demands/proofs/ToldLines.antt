@@ -81,14 +81,14 @@ module _ (n : ℕ) (table marks s : List ℕ) (i : ℕ) (p : TellPasses n table 
       → CompleteAt (rulesOf n table marks) (openIn n marks) s i x
   judged-complete (strikes a b next high) e = demand-2 n table marks s i a b next high .0 e
 
-  -- TOLD EXACTLY: a call that passes tests 1, 2, 5, 6, 7 and 8 answers r exactly when r is the length of the text of a
+  -- TELLS EXACTLY: a call that passes tests 1, 2, 5, 6, 7 and 8 answers r exactly when r is the length of the text of a
   -- complete line, which the buffer holds; or 22, where it does not; or the refusal, number and record, of marking the
   -- line as the first one entered, where it is not complete. The line is judged as marking judges it under these marks
   -- (`judge`), and marking it enters the record, since it is in the sheet and nothing was entered before
   -- (`step-stops`); it is accepted exactly when it is complete (`demand-2`).
-  pub told-exactly : (size : ℕ) (r : Telling) → (tellAnswer n table marks s i size ≡ r) ↔ TellAnswers n table marks s i size r
+  pub tells-exactly : (size : ℕ) (r : Telling) → (tellAnswer n table marks s i size ≡ r) ↔ TellAnswers n table marks s i size r
   unfolding firstAt
-  told-exactly size r =
+  tells-exactly size r =
       (λ e. subst (TellAnswers n table marks s i size) (sym (tell-judged size) ∙ e) (by (judge (rulesOf n table marks) (openIn n marks) s i) refl), back)
     where
       fits : (x : Struck) → judge (rulesOf n table marks) (openIn n marks) s i ≡ accepted x → (t : Bool)
@@ -157,7 +157,7 @@ module _ (n : ℕ) (table marks s : List ℕ) (i : ℕ) (p : TellPasses n table 
     pub told-room : (size : ℕ) → sentenceBytes * edgeCount (n - 1) ≤ size
         → tellAnswer n table marks s i size ≡ Bytes (length (lineText n table marks s i))
     told-room size h =
-        told-exactly size (Bytes (length (lineText n table marks s i))) .1 (told (strikes a b next high) l (omega (arith, told-fits)))
+        tells-exactly size (Bytes (length (lineText n table marks s i))) .1 (told (strikes a b next high) l (omega (arith, told-fits)))
 
 -- TOLD APART: calls whose lists of reasons differ tell different texts, whatever their instances, marks and sheets
 -- (`texts-apart`)

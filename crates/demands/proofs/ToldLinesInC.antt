@@ -20,30 +20,30 @@ use Rattle.reasons.specs.declared.telling.Telling.{Telling}
 use Rattle.reasons.specs.declared.telling.Telling.the-variants.{Bytes}
 use Rattle.revosti.specs.Tell.{tellingNumber, ToldInC}
 use Rattle.demands.specs.Told.{TellPasses, told, TellAnswersInC}
-use Rattle.demands.proofs.ToldLines.{told-exactly, told-text, told-line, told-fits, told-apart}
+use Rattle.demands.proofs.ToldLines.{tells-exactly, told-text, told-line, told-fits, told-apart}
 
 bytes-number : (size : ℕ) → tellingNumber (Bytes size) ≡ 65536 * size
 unfolding tellingNumber
 bytes-number size = refl
 
 module _ (n : ℕ) (table marks s : List ℕ) (i : ℕ) (p : TellPasses n table marks s i) (buffer : List ℕ) where
-  -- TOLD EXACTLY in C: a call that passes tests 1, 2, 5, 6, 7 and 8 answers r and leaves `left` exactly when r is the
+  -- TELLS EXACTLY in C: a call that passes tests 1, 2, 5, 6, 7 and 8 answers r and leaves `left` exactly when r is the
   -- number of the answer that 01's rules give (`TellAnswers`), and `left` what that answer leaves of the buffer. The
-  -- contract says so of `tellAnswer`, of which `told-exactly` says it.
-  pub told-exactly-in-C : (r : ℕ) (left : List ℕ) → ToldInC n table marks s i buffer r left ↔ TellAnswersInC n table marks s i buffer r left
-  told-exactly-in-C r left = (there, back)
+  -- contract says so of `tellAnswer`, of which `tells-exactly` says it.
+  pub tells-exactly-in-C : (r : ℕ) (left : List ℕ) → ToldInC n table marks s i buffer r left ↔ TellAnswersInC n table marks s i buffer r left
+  tells-exactly-in-C r left = (there, back)
     where
       there : ToldInC n table marks s i buffer r left → TellAnswersInC n table marks s i buffer r left
       there c = record {
         telling = tellAnswer n table marks s i (length buffer);
-        answers = told-exactly n table marks s i p (length buffer) (tellAnswer n table marks s i (length buffer)) .0 refl;
+        answers = tells-exactly n table marks s i p (length buffer) (tellAnswer n table marks s i (length buffer)) .0 refl;
         numbered = c .answered;
         text-left = c .text-left;
       }
 
       back : TellAnswersInC n table marks s i buffer r left → ToldInC n table marks s i buffer r left
       back c =
-          let e : tellAnswer n table marks s i (length buffer) ≡ c .telling = told-exactly n table marks s i p (length buffer) (c .telling) .1 (c .answers) in
+          let e : tellAnswer n table marks s i (length buffer) ≡ c .telling = tells-exactly n table marks s i p (length buffer) (c .telling) .1 (c .answers) in
           record {
             answered = c .numbered ∙ ap tellingNumber (sym e);
             text-left = c .text-left ∙ ap (λ (t : Telling). tellLeft t (lineText n table marks s i) buffer) (sym e);
@@ -55,7 +55,7 @@ module _ (n : ℕ) (table marks s : List ℕ) (i : ℕ) (p : TellPasses n table 
     told-left : length (lineText n table marks s i) ≤ length buffer
         → (r ≡ 65536 * length (lineText n table marks s i)) × (left ≡ lineText n table marks s i ++ drop (length (lineText n table marks s i)) buffer)
     told-left h =
-        let e = told-exactly n table marks s i p (length buffer) (Bytes (length (lineText n table marks s i))) .1 (told (strikes a b next high) l h) in (
+        let e = tells-exactly n table marks s i p (length buffer) (Bytes (length (lineText n table marks s i))) .1 (told (strikes a b next high) l h) in (
           c .answered ∙ ap tellingNumber e ∙ bytes-number (length (lineText n table marks s i)),
           c .text-left ∙ ap (λ (t : Telling). tellLeft t (lineText n table marks s i) buffer) e,
         )
