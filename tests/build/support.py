@@ -62,6 +62,12 @@ while [ "$1" != -o ]; do shift; done
 chmod +x "$2"
 """
 
+# The kit's clang under the name of wasm-ld: .. --export=NAME .. ARCHIVE -o MODULE
+WASM_LD = r"""#!/bin/sh
+for out; do :; done
+printf '%s\n' "$@" | sed -n 's/^--export=//p' >"$out"
+"""
+
 # Runs a command that can write no file longer than so many bytes, as on a full disk: an error, and no signal.
 LIMIT = """import os, resource, signal, sys
 signal.signal(signal.SIGXFSZ, signal.SIG_IGN)
@@ -101,6 +107,7 @@ class Tree(unittest.TestCase):
         self.put(own / "bin/rattle", PROVER)
         self.put(own / "bin/rattle-link", LINKER)
         self.put(own / "toolchain/lib/ld-linux-x86-64.so.2", LOADER)
+        self.put(own / "toolchain/bin/clang", WASM_LD)
         for name in ("std", "io"):
             (own / f"rlib/{name}.rlib").mkdir(parents=True)
         (self.kit / "KIT-ID").write_text("a kit for tests\n")
@@ -114,6 +121,7 @@ class Tree(unittest.TestCase):
         for name in NAMES:
             self.change(f"crates/{name}/src/{'main' if name == 'mark' else 'lib'}.rt", "2")
             self.change(f"crates/{name}/specs/Lib.antt", name)
+        self.change("include/revosti.h", "uint64_t revosti_one(uint32_t n);\nstatic inline int revosti_two(int n) { return n; }\n")
         self.change("crates/mark/stdout", "verdict 7 record 0 open 0\n")
 
     def put(self, file, text):

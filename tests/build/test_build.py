@@ -190,7 +190,7 @@ class Fails(Tree):
 
     def test_bad_use(self):
         for words in (("all",), ("mark", "some")):
-            self.assertEqual(self.build(*words), (2, "", "usage: tools/build [mark | archive | library] ..\n"))
+            self.assertEqual(self.build(*words), (2, "", "usage: tools/build [mark | archive | library | wasm] ..\n"))
         self.assertEqual(self.begun(), [])
 
     def test_no_gcc(self):

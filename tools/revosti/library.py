@@ -93,12 +93,12 @@ def shared_object() -> Path:
     return ROOT / SHARED
 
 
-def build(root: Path) -> None:
-    """Has the library of a repository built, and tells where the build is. The build ends with this process, however
-    that ends."""
+def build(root: Path, goal: str = "library") -> None:
+    """Has a goal of a repository built, and tells where the build is. The build ends with this process, however that
+    ends."""
     said = []
     parent = os.getpid()
-    with subprocess.Popen([root / BUILD, "library"], stdin=subprocess.DEVNULL, stdout=subprocess.DEVNULL, stderr=subprocess.PIPE, text=True,
+    with subprocess.Popen([root / BUILD, goal], stdin=subprocess.DEVNULL, stdout=subprocess.DEVNULL, stderr=subprocess.PIPE, text=True,
                           errors="replace", preexec_fn=lambda: end_with(parent)) as builder:
         try:
             for line in builder.stderr or ():
