@@ -37,4 +37,5 @@ labels       places for the holes' numbers
 reason       what the picture of one reason shows
 draw         the board as SVG
 words        numbers in sentences, complaints
+phrases      the sentences that the command and the page share
 """

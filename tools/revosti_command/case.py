@@ -8,6 +8,7 @@ from revosti import PENDING, withdraw
 from .fault import Sight, reordered
 from .marks import marks_of
 from .parts import CROSSING, STRETCH, STRETCH_POINT
+from .phrases import say
 from .segment import Path
 from .verdict import lines_before
 from .words import Complaint, counted
@@ -36,7 +37,7 @@ def case_of(parts, lengths, marks, number):
     sight = Sight(parts.records, lengths, marks, number)
     way = sight.way(number) if sight.place else None
     if way is None:
-        raise Complaint(f"--record: marking does not get to record {number}, or not in order")
+        raise Complaint(f"--record: {say('not_reached', record=number)}")
     record = sight.record
     if record.kind == STRETCH_POINT:
         raise Complaint(f"--record: record {number} is a point of the order of record {sight.place.owner}, and no case")

@@ -6,6 +6,7 @@ from .edges import RULES, edge, edge_count
 from .fault import detail
 from .nest import nest
 from .parts import LINE, Beside
+from .phrases import say
 from .tsplib import kind_of
 from .verdict import counted_marks
 from .words import are, counted
@@ -36,9 +37,9 @@ def board_block(parts, verdict):
     if verdict.lengths is None:
         return []
     n = verdict.lengths.n
-    kind = kind_of(parts.text) if isinstance(parts, Beside) else f"rule {parts.rule}, {RULES.get(parts.rule, 'unknown')}"
-    return [f"The board has {counted(n, 'point')} and {counted(edge_count(n), 'edge')} ({kind}). "
-            f"The sheet has {counted(len(parts.records), 'record')}."]
+    kind = kind_of(parts.text) if isinstance(parts, Beside) else say("by_rule", rule=parts.rule, name=RULES.get(parts.rule, "unknown"))
+    return [say("board", points=counted(n, "point"), edges=counted(edge_count(n), "edge"), kind=kind,
+                records=counted(len(parts.records), "record"))]
 
 
 def struck_block(parts, verdict):
@@ -61,27 +62,27 @@ def striking_lines(parts):
 
 def struck_sentence(a, b, number):
     """What one struck line means."""
-    source = f" (record {number})" if number else ""
-    return f"Edge {a}-{b} is struck: no shortest tour goes straight between {a} and {b}{source}."
+    source = say("of_record", record=number) if number else ""
+    return say("edge_struck", edge=f"{a}-{b}", a=a, b=b, source=source)
 
 
 def verdict_block(parts, verdict):
     """The verdict, its meaning and what stays."""
     if verdict.refusal == 0:
-        return [f"Verdict 0: every line of the sheet is accepted, {counted(verdict.lines, 'line')}.", marks_sentence(verdict)]
-    lines = [f"Refused, number {verdict.refusal}: {meaning(verdict.refusal)}"]
+        return [say("accepted", lines=counted(verdict.lines, "line")), marks_sentence(verdict)]
+    lines = [say("refused", number=verdict.refusal, words=meaning(verdict.refusal))]
     more = detail(parts, verdict).words
     lines += [more] if more else []
     if verdict.lengths is None:
-        return lines + ["Nothing is marked."]
+        return lines + [say("nothing_marked")]
     return lines + [kept(verdict.lines), marks_sentence(verdict)]
 
 
 def kept(count):
     """What a refusal leaves of the lines before it, so many of them accepted."""
     if count == 0:
-        return "No line is accepted."
-    return f"{counted(count, 'line')} before it {are(count)} accepted."
+        return say("none_accepted")
+    return say("some_accepted", lines=counted(count, "line"), are=are(count))
 
 
 def marks_sentence(verdict):
@@ -91,7 +92,7 @@ def marks_sentence(verdict):
 
 def counts(marks, n):
     """How many edges of a packed set have each mark."""
-    return " ".join(f"{name.capitalize()}: {counted(count, 'edge')}." for name, count in counted_marks(marks, n).items())
+    return say("marks", **{name: counted(count, "edge") for name, count in counted_marks(marks, n).items()})
 
 
 def fault_block(sheet, verdict):
@@ -99,19 +100,19 @@ def fault_block(sheet, verdict):
     if verdict.refusal == 0:
         return []
     if verdict.record == 0:
-        return ["No record is at fault."]
+        return [say("no_fault")]
     rows = record_rows(sheet.parts.records)
     at = next((i for i, row in enumerate(rows) if row.first <= verdict.record <= row.last), len(rows))
     line = text_line(sheet, verdict)
-    source = f", line {line} of the text" if line else ""
+    source = within(rows[at:at + 1], verdict.record) + (say("text_line", line=line) if line else "")
     start = max(0, at - AROUND)
-    return [f"Record {verdict.record} is at fault{within(rows[at:at + 1], verdict.record)}{source}:"] + [
+    return [say("at_fault", record=verdict.record, source=source)] + [
         shown(row, verdict.record) for row in rows[start:at + AROUND + 1]]
 
 
 def within(rows, record):
     """Where a record stands that has no row of its own: in that of the new order that it is a point of."""
-    return "".join(f", point {record - row.first} of the order of record {row.first}" for row in rows if row.first < record)
+    return "".join(say("point_of_order", i=record - row.first, record=row.first) for row in rows if row.first < record)
 
 
 def text_line(sheet, verdict):

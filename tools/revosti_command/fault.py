@@ -13,6 +13,7 @@ from .edges import RULES, degree, edge, ends
 from .nest import holds_chain, holds_split, kinds_under, nest
 from .parts import (CROSSING, LINE, MAX_COORDINATE, MAX_FILE, MAX_RECORDS, POINTS_OF, RECORD, STRETCH, STRETCH_POINT, ZERO_IN, Beside,
                     join)
+from .phrases import say
 from .segment import measured_path, no_segment, not_shorter, other_points, segment_of
 from .standing import edges_of, standing
 from .words import counted, either
@@ -51,19 +52,19 @@ def wrong_count(parts):
     """Refusal 1."""
     if parts.n is None or LEAST_POINTS <= parts.n <= MOST_POINTS:
         return None
-    return f"Here n is {parts.n}."
+    return say("here_n", n=parts.n)
 
 
 def wrong_rule(parts):
     """Refusal 3."""
-    return f"Here the rule is {parts.rule}." if parts.rule not in (None, *RULES) else None
+    return say("here_rule", rule=parts.rule) if parts.rule not in (None, *RULES) else None
 
 
 def wrong_coordinate(parts):
     """Refusal 4, the first such point. In a TSPLIB text it is told by its line elsewhere."""
     for number, (x, y) in enumerate([] if isinstance(parts, Beside) else parts.points, 1):
         if max(x, y) > MAX_COORDINATE:
-            return f"Point {number} is at {x} {y}."
+            return say("here_point", number=number, x=x, y=y)
     return None
 
 
@@ -73,16 +74,16 @@ def wrong_size(parts):
     if not isinstance(parts, Beside):
         size = len(join(parts))
         if parts.rule is None:
-            return f"The file has {counted(size, 'byte')} and no whole header."
+            return say("no_header", bytes=counted(size, "byte"))
         if parts.cut:
-            return f"The file ends after {len(parts.points)} of {counted(parts.n, 'point')} and {counted(left, 'byte')}."
+            return say("ends_inside", count=len(parts.points), points=counted(parts.n, "point"), bytes=counted(left, "byte"))
         if size > MAX_FILE:
-            return f"The file has {counted(size, 'byte')}."
+            return say("file_has", bytes=counted(size, "byte"))
     if left:
-        return f"{counted(left, 'byte')} {'follows' if left == 1 else 'follow'} the last whole record; a record has {RECORD.size}."
+        return say("bytes_follow", bytes=counted(left, "byte"), follow="follows" if left == 1 else "follow", size=RECORD.size)
     if count == 0:
-        return "The file has no records."
-    return f"The sheet has {counted(count, 'record')}." if count > MAX_RECORDS else None
+        return say("no_records")
+    return say("sheet_has", records=counted(count, "record")) if count > MAX_RECORDS else None
 
 
 class Sight:
@@ -152,18 +153,18 @@ class Sight:
 def above_count(sight):
     """Refusal 8: the index above the count, the first in the order followed."""
     record, count = sight.record, len(sight.records)
-    has = f"the sheet has {counted(count, 'record')}."
+    records = counted(count, "record")
     if holds_chain(record) and record.d > count:
-        return f"Its first index is {record.d}; {has}"
-    return f"Its next index is {record.next}; {has}" if record.next > count else None
+        return say("first_above", index=record.d, records=records)
+    return say("next_above", index=record.next, records=records) if record.next > count else None
 
 
 def not_rising(sight):
     """Refusal 9: a first index up to its own record, or else the next index."""
     record = sight.record
     if holds_chain(record) and 0 < record.d <= sight.number:
-        return f"Its first index is {record.d}."
-    return f"Its next index is {record.next}." if record.next else None
+        return say("first_index", index=record.d)
+    return say("next_index", index=record.next) if record.next else None
 
 
 def wrong_shape(sight):
@@ -173,9 +174,9 @@ def wrong_shape(sight):
         return None
     if not place.shaped:
         wanted = either(map(str, kinds_under(sight.get(place.owner) if place.owner else None)))
-        return f"Its kind is {record.kind}; its chain takes kind {wanted}."
-    odd = unwanted(record)
-    return f"Here {' and '.join(f'{name} is {value}' for name, value in odd)}." if odd else None
+        return say("wrong_kind", kind=record.kind, wanted=wanted)
+    odd = [say("field_is", name=name, value=value) for name, value in unwanted(record)]
+    return say("here", facts=" and ".join(odd)) if odd else None
 
 
 def unwanted(record):
@@ -188,13 +189,13 @@ def wrong_points(sight):
     record = sight.record
     fields = [(name, getattr(record, name)) for name in POINTS_OF.get(record.kind, "")]
     same = record.a == record.b and record.kind != STRETCH_POINT
-    return outside(fields, sight.n) or (f"Here a and b are both {record.a}." if same else None)
+    return outside(fields, sight.n) or (say("same_ends", point=record.a) if same else None)
 
 
 def outside(fields, n):
     """Which of some points, each with its name, the board has not; None where it has all."""
-    wrong = [f"{name} is {point}" for name, point in fields if not 1 <= point <= n]
-    return f"Here {' and '.join(wrong)}; n is {n}." if wrong else None
+    wrong = [say("field_is", name=name, value=point) for name, point in fields if not 1 <= point <= n]
+    return say("outside", points=" and ".join(wrong), n=n) if wrong else None
 
 
 def struck_before(sight):
@@ -205,15 +206,15 @@ def struck_before(sight):
     for number in sight.siblings(sight.number):
         line = sight.get(number)
         if line.kind == LINE and edge(line.a, line.b) == wanted:
-            return f"Record {number} strikes it."
-    return "It was struck before this sheet."
+            return say("struck_by", record=number)
+    return say("struck_before")
 
 
 def open_splits(sight):
     """Refusal 13: the splits that the case lies in."""
     if sight.place is None:
         return None
-    return f"It lies in the splits of records {', '.join(map(str, sight.owners(sight.number)))}."
+    return say("in_splits", records=", ".join(map(str, sight.owners(sight.number))))
 
 
 def due_pairs(sight):
@@ -228,7 +229,7 @@ def due_pairs(sight):
             return Detail()
         rest = stand[len(named):]
         if not rest:
-            return Detail("No pair is due any more: the chain has named all standing pairs.", [])
+            return Detail(say("all_named"), [])
         if rest[0] != (record.a, record.b):
             return Detail(due(rest), rest)
     return missing_pairs(sight, rest[1:])
@@ -243,33 +244,32 @@ def missing_pairs(sight, rest):
         if inner is None:
             return Detail()
         if inner:
-            return Detail(due(inner) + " Its split has no cases.", inner)
+            return Detail(due(inner) + say("no_cases"), inner)
     if record.next == 0 and rest:
-        return Detail(due(rest) + " The chain ends before it.", rest)
+        return Detail(due(rest) + say("chain_ends"), rest)
     return Detail()
 
 
 def due(pairs):
     """The pairs that are due, the first few of them by name."""
-    names = [f"{a}-{b}" for a, b in pairs]
-    first = f"The pair {names[0]} is due"
-    if len(names) == 1:
-        return f"{first}."
-    shown = ", ".join(names[1:MOST_DUE]) + (" and so on" if len(names) > MOST_DUE else "")
-    return f"{first}, and {len(names) - 1:,} more after it: {shown}."
+    first, *more = [f"{a}-{b}" for a, b in pairs]
+    if not more:
+        return say("one_due", pair=first)
+    shown = ", ".join(more[:MOST_DUE - 1]) + (say("and_so_on") if len(pairs) > MOST_DUE else "")
+    return say("more_due", pair=first, count=f"{len(more):,}", pairs=shown)
 
 
 def broken_conditions(sight):
     """Refusal 15: the conditions that are broken."""
     k = crossed(sight)
     wrong = broken(sight.record, k) if k else []
-    return f"Here {'; '.join(wrong)}." if wrong else None
+    return say("here", facts="; ".join(wrong)) if wrong else None
 
 
 def best_saving(sight):
     """Refusal 16: what the best labelling saves, over one table."""
     saving = saving_of(sight)
-    return None if saving is None or saving > 0 else f"Its best labelling saves {saving}."
+    return None if saving is None or saving > 0 else say("best_saves", saving=saving)
 
 
 def saving_of(sight):
@@ -300,13 +300,11 @@ def broken(record, k):
     """The conditions of a crossing that are broken."""
     _, _, _, u, v, c, d, _ = record
     tests = [
-        (edge(u, v) not in k, f"{u}-{v} is not in K"),
-        (c == d, "the centres are the same point"),
-        (c in (u, v), f"centre {c} is an end of {u}-{v}"),
-        (d in (u, v), f"centre {d} is an end of {u}-{v}"),
-        (degree(k, c) != 2, f"centre {c} has {counted(degree(k, c), 'edge')} in K"),
-        (degree(k, d) != 2, f"centre {d} has {counted(degree(k, d), 'edge')} in K"),
-        (edge(c, d) in k, f"{c}-{d} is in K"),
+        (edge(u, v) not in k, say("not_in_k", edge=f"{u}-{v}")),
+        (c == d, say("same_centres")),
+        *((centre in (u, v), say("centre_end", centre=centre, edge=f"{u}-{v}")) for centre in (c, d)),
+        *((degree(k, centre) != 2, say("centre_edges", centre=centre, edges=counted(degree(k, centre), "edge"))) for centre in (c, d)),
+        (edge(c, d) in k, say("centres_joined", edge=f"{c}-{d}")),
     ]
     return list(dict.fromkeys(text for wrong, text in tests if wrong))
 

@@ -11,6 +11,7 @@ from hashlib import sha256
 from typing import NamedTuple
 
 from .files import named, note, read_file, real
+from .phrases import say
 from .words import Complaint, counted
 
 VALUES = {"points": "[0-9]{1,3}", **dict.fromkeys(("table", "high", "cut"), "[0-9a-f]{64}")}
@@ -60,10 +61,10 @@ def read_fingerprint(file):
     for number, line in enumerate(read_file(place).decode("ascii", "replace").splitlines(), 1):
         words = line.partition("#")[0].split()
         if words and not fits(words, values):
-            raise Complaint(f'{place}, line {number}: expected "points", "table", "high" or "cut", each once and with its value')
+            raise Complaint(f"{place}, {say('print_line', line=number)}")
         values |= dict([words] if words else [])
     if not {"points", "table"} <= set(values):
-        raise Complaint(f'{place}: expected "points" and "table" with their values')
+        raise Complaint(f"{place}: {say('print_lacks')}")
     return Fingerprint(int(values["points"]), values["table"], values.get("high"), values.get("cut"))
 
 
@@ -77,7 +78,7 @@ def hold(file, lengths, changing=False):
     that one alone, or this is the one that is cut; to look at it, either of two boards will do."""
     found = read_fingerprint(file)
     if found is None:
-        note(f"{file}: the set is of unknown origin: no {beside(file).name} beside it tells which board it is of")
+        note(f"{file}: {say('set_unknown', name=beside(file).name)}")
         return
     given = fingerprint(lengths)
     if (given.n, given.table, given.high) == (found.n, found.table, found.high):
@@ -90,11 +91,10 @@ def hold(file, lengths, changing=False):
 def reason(found, given):
     """Why a board is not the one of a set."""
     if given.table in (found.table, found.high) and found.high and not given.high:
-        return ('the set is of low and high lengths: name the other board with --high, or say with "revosti cut" which board '
-                "between them is cut")
+        return say("set_limits")
     if given.table == found.table and given.high and not found.high:
         return 'the set is of one board, and --high names a second; "revosti fresh BOARD --high BOARD" starts a set of both'
     if given.table == found.table and given.high:
         return f"the set is of other high lengths: digest {found.high[:SHOWN]}.., and those of --high have {given.high[:SHOWN]}.."
-    return (f"the set is of another board: {counted(found.n, 'point')}, digest {found.table[:SHOWN]}..; "
-            f"this one has {counted(given.n, 'point')}, digest {given.table[:SHOWN]}..")
+    return say("set_other", points=counted(found.n, "point"), digest=found.table[:SHOWN], these=counted(given.n, "point"),
+               this=given.table[:SHOWN])

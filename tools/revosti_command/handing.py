@@ -6,6 +6,7 @@ from .archive import change
 from .edges import edge_count
 from .explain import as_json, counts, told
 from .options import add_changed_set, add_json, add_out, add_sheet, answer, board_name, guard, lengths_of, load_sheet
+from .phrases import say
 from .verdict import counted_marks, judge
 from .words import are, counted
 
@@ -31,7 +32,7 @@ def hand_in(options, operation, high=None):
 
 def accepted(verdict):
     """What a sheet came to that is accepted whole."""
-    return f"{counted(verdict.lines, 'line')} {are(verdict.lines)} accepted. {counts(verdict.left, verdict.lengths.n)}"
+    return f"{say('handed_in', lines=counted(verdict.lines, 'line'), are=are(verdict.lines))} {counts(verdict.left, verdict.lengths.n)}"
 
 
 def add_settling(command):

@@ -3,6 +3,7 @@
 from revosti import LEAST_POINTS, MOST_POINTS, OPEN, PENDING, STRUCK, marks_size
 
 from .edges import edge_count, edges
+from .phrases import say
 from .words import counted
 
 NAMES = {STRUCK: "struck", PENDING: "pending", OPEN: "open"}
@@ -21,13 +22,13 @@ def read_marks(data, n):
     """The marks of a packed set of n points."""
     count = edge_count(n)
     if len(data) != marks_size(n):
-        hint = '; a byte set has this size, and "revosti convert --to packed" packs it' if len(data) == count else ""
-        raise BadMarks(f"expected a packed set of {counted(n, 'point')}, {counted(marks_size(n), 'byte')}, "
-                       f"found {counted(len(data), 'byte')}{hint}")
+        hint = say("byte_set") if len(data) == count else ""
+        raise BadMarks(say("set_size", points=counted(n, "point"), bytes=counted(marks_size(n), "byte"),
+            found=counted(len(data), "byte"), hint=hint))
     marks = known(marks_of(data, n), n)
     unused = data[-1] >> 2 * (count % 4) if count % 4 else 0
     if unused:
-        raise BadMarks(f"expected 0 in the unused bits of the last byte, found {unused:b} there")
+        raise BadMarks(say("set_unused", bits=f"{unused:b}"))
     return marks
 
 
@@ -35,7 +36,7 @@ def known(marks, n):
     """The marks, where each of them is one."""
     for (a, b), mark in zip(edges(n), marks):
         if mark not in NAMES:
-            raise BadMarks(f"expected {STRUCK}, {OPEN} or {PENDING} as the mark of {a}-{b}, found {mark}")
+            raise BadMarks(say("set_mark", edge=f"{a}-{b}", mark=mark))
     return marks
 
 

@@ -8,6 +8,7 @@ from array import array
 from revosti import LEAST_POINTS, LINE_BYTES, MOST_POINTS, PAGE_LINES, Refusal, fresh_marks, page_count, read_page, write_page
 
 from .edges import edge_count, edges
+from .phrases import say
 from .words import counted
 
 
@@ -32,7 +33,7 @@ def read_list(text, n=None):
             read_page(n, page, part, table, marks)
         except Refusal as error:
             on_page = every[PAGE_LINES * (page - 1):PAGE_LINES * page]
-            raise BadPages(f"page {page}, line {error.text_line}: {fault(part, on_page, error.text_line)}") from error
+            raise BadPages(say("page_line", page=page, line=error.text_line, fault=fault(part, on_page, error.text_line))) from error
     return n, table, marks
 
 
@@ -40,21 +41,22 @@ def fault(page, on_page, line):
     """What is wrong with a line of a page that has these edges, in words."""
     if line > len(on_page):
         more = len(page) - LINE_BYTES * len(on_page)
-        return f"expected the end after {counted(len(on_page), 'line')}, found {counted(more, 'byte')} more"
+        return say("page_end", lines=counted(len(on_page), "line"), bytes=counted(more, "byte"))
     (a, b), found = on_page[line - 1], page[LINE_BYTES * (line - 1):LINE_BYTES * line]
     shown = ascii(found.decode("latin-1")) if found else "the end"
-    return f"expected the line of {a}-{b} with a length up to 2,000,000, found {shown}"
+    return say("page_edge", edge=f"{a}-{b}", found=shown)
 
 
 def other_length(table, board, where):
     """The first line of a list whose length is not that of a board, in words, or None."""
     n = next(n for n in range(LEAST_POINTS, MOST_POINTS + 1) if edge_count(n) == len(table))
     if len(board) != len(table):
-        return f"the list is of {counted(n, 'point')}, and {where} has another number"
+        return say("list_points", points=counted(n, "point"), where=where)
     for place, ((a, b), listed, length) in enumerate(zip(edges(n), table, board)):
         if listed != length:
             page, line = divmod(place, PAGE_LINES)
-            return f"page {page + 1}, line {line + 1}: the length of {a}-{b} is {listed:,} in the list and {length:,} on {where}"
+            return say("list_length", page=page + 1, line=line + 1, edge=f"{a}-{b}", listed=f"{listed:,}", length=f"{length:,}",
+                where=where)
     return None
 
 
@@ -63,5 +65,4 @@ def points_of(text):
     for n in range(LEAST_POINTS, MOST_POINTS + 1):
         if edge_count(n) * LINE_BYTES == len(text):
             return n
-    raise BadPages(f"expected the wall list of {LEAST_POINTS} to {MOST_POINTS} points, {LINE_BYTES} bytes an edge, "
-                   f"found {counted(len(text), 'byte')}, the size of none; with --points the page and the line are told")
+    raise BadPages(f"{say('page_size', bytes=counted(len(text), 'byte'))}; with --points the page and the line are told")

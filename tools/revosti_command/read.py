@@ -4,6 +4,7 @@ from typing import NamedTuple
 
 from .edges import RULES
 from .parts import CROSSING, LINE, MAX_16, MAX_32, POINT, SPLIT, STRETCH, STRETCH_POINT, ZERO_IN, Beside, Parts, Record
+from .phrases import say
 from .scan import scan
 
 NUMBERS = {name: rule for rule, name in RULES.items()}  # of the rules, by name
@@ -21,7 +22,7 @@ def pack(text):
     lines = scan(text)
     if lines[0].peek() == "bytes":
         tail = read_bytes(lines)
-        close(lines, '"bytes" or the end of the text')
+        close(lines, say("bytes_or_end"))
         return Sheet(Parts(None, None, [], [], tail), [])
     rule = read_rule(lines)
     n, cut = read_count(lines)
@@ -34,7 +35,7 @@ def pack_beside(board, text):
     """The sheet of a board and of a text that has no board. Raises BadText."""
     lines = scan(text)
     if lines[0].peek() in ("rule", "points"):
-        lines[0].fail(f'expected "strike", found {lines[0].found()}; the board is that of --board')
+        lines[0].fail(say("board_is_beside", found=lines[0].found()))
     return read_rest(lines, board)
 
 
@@ -42,13 +43,13 @@ def read_rest(lines, board):
     """The sheet of a board, which is pieces without records, and the records behind it."""
     chains = read_records(lines)
     tail = read_bytes(lines)
-    close(lines, "the end of the text" if tail else after_records(chains))
+    close(lines, say("end_of_text") if tail else after_records(chains))
     return Sheet(board._replace(records=chains.finished(), tail=tail), chains.lines)
 
 
 def after_records(chains):
     """What may stand after the records read so far."""
-    return '"strike", "pair", "point", "record", "unused" or "bytes"' if chains.lines else '"strike"'
+    return say("record_or_bytes") if chains.lines else '"strike"'
 
 
 def close(lines, wanted):
@@ -63,7 +64,7 @@ def read_rule(lines):
     line = lines[0]
     line.word("rule", "bytes")
     named = line.peek() in NUMBERS
-    rule = NUMBERS[line.word(*NUMBERS)] if named else line.integer("a rule", MAX_32)
+    rule = NUMBERS[line.word(*NUMBERS)] if named else line.integer(say("a_rule"), MAX_32)
     line.end()
     lines.popleft()
     return rule
@@ -73,10 +74,10 @@ def read_count(lines):
     """The line `points N` or `points N, cut`."""
     line = lines[0]
     line.word("points")
-    n = line.integer("the number of points", MAX_32)
+    n = line.integer(say("count"), MAX_32)
     cut = line.take(",", "cut")
     if line.peek():
-        line.missed('", cut" or the end of the line')
+        line.missed(say("cut_or_end"))
     lines.popleft()
     return n, cut
 
@@ -85,13 +86,13 @@ def read_point(lines, i, n):
     """The line of point i: its number and two coordinates."""
     line = lines[0]
     if not line.starts_number():
-        line.missed(f"point {i} of {n}")
-    number = line.integer("a point number", MAX_32)
+        line.missed(say("point_of", i=i, n=n))
+    number = line.integer(say("point_number"), MAX_32)
     if number != i:
         line.at = 0
-        line.missed(f"point {i} of {n}")
-    x = line.integer("a first coordinate", MAX_32)
-    y = line.integer("a second coordinate", MAX_32)
+        line.missed(say("point_of", i=i, n=n))
+    x = line.integer(say("first_coordinate"), MAX_32)
+    y = line.integer(say("second_coordinate"), MAX_32)
     line.end()
     lines.popleft()
     return x, y
@@ -104,10 +105,10 @@ def read_cut(lines, rule, n):
         points.append(read_point(lines, len(points) + 1, n))
     last = lines[0]
     tail = read_bytes(lines)
-    close(lines, '"bytes" or the end of the text' if tail else 'a point, "bytes" or the end of the text')
+    close(lines, say("bytes_or_end" if tail else "point_or_end"))
     if len(points) * POINT.size + len(tail) >= n * POINT.size:
         last.at = 0
-        last.fail(f'expected fewer than {n} whole points after "cut"')
+        last.fail(say("fewer_points", n=n))
     whole = len(tail) // POINT.size * POINT.size
     points += POINT.iter_unpack(tail[:whole])
     return Parts(rule, n, points, [], tail[whole:])
@@ -160,7 +161,7 @@ def read_pair(line, chains):
         case "order":
             read_order(line, chains, a, b)
         case _:
-            line.missed('"split", "crossing" or "order"')
+            line.missed(say("a_closing"))
 
 
 def read_crossing(line, chains, a, b):
@@ -178,7 +179,7 @@ def read_order(line, chains, a, b):
     line.word("order")
     below = line.take("from")
     if not below and not line.starts_number():
-        line.missed('a point or "from"')
+        line.missed(say("point_or_from"))
     u, *points, v = read_ends(line) if below else read_path(line)
     options = read_options(line, (*ZERO_IN[STRETCH], "first", "next"))
     chains.add(line, fields(STRETCH, options, a=a, b=b, u=u, v=v), options, "point" if below else None)
@@ -210,19 +211,19 @@ def read_raw(line, chains):
 def read_unused(line, chains):
     """`unused` and eight numbers: a record that no chain reaches."""
     if not chains.lines:
-        line.fail('expected "strike" or "record": record 1 is the first line, never unused')
+        line.fail(say("first_unused"))
     line.word("unused")
     chains.append(line, read_eight(line), {})
 
 
 def read_eight(line):
     """The eight numbers of a record."""
-    return [line.integer(f"number {i} of 8", MAX_16) for i in range(1, 9)]
+    return [line.integer(say("number_of_8", i=i), MAX_16) for i in range(1, 9)]
 
 
 def read_point_number(line):
     """A point."""
-    return line.integer("a point", MAX_16)
+    return line.integer(say("a_point"), MAX_16)
 
 
 def read_edge(line):
@@ -252,9 +253,9 @@ def read_options(line, words):
     options = {}
     while line.peek() and words:
         if not line.take(","):
-            line.missed("a comma or the end of the line")
+            line.missed(say("comma_or_end"))
         word = line.word(*words)
-        options[word] = line.integer(f'a number after "{word}"', MAX_16)
+        options[word] = line.integer(say("number_after", word=word), MAX_16)
         words = words[words.index(word) + 1:]
     return options
 
@@ -296,14 +297,8 @@ class Chains:
         self.close(line)
         wanted, found = self.levels[-1].word, line.peek()
         if found not in (wanted, "record"):
-            inside = {"strike": "", "pair": " inside a split", "point": " inside an order"}[wanted]
-            line.fail(f'expected "{wanted}"{inside}, found "{found}"; {self.belongs(found)}')
-
-    def belongs(self, word):
-        """Where a line that begins with a word belongs."""
-        if word == "strike":
-            return f"a strike has the indentation of the first, {self.levels[0].indent}"
-        return "a pair is indented under its split" if word == "pair" else 'a point is indented under its "order from"'
+            belongs = say(f"{found}_belongs", indent=self.levels[0].indent)
+            line.fail(say("other_word", wanted=wanted, inside=say(f"inside_{wanted}"), found=found, belongs=belongs))
 
     def close(self, line):
         """Leave the chains that a line is too far left for."""
@@ -311,14 +306,13 @@ class Chains:
         while len(self.levels) > 1 and line.indent < self.levels[-1].indent:
             self.levels.pop()
         if line.indent != self.levels[-1].indent:
-            line.fail(f"expected an indentation of {' or '.join(known)} blanks, "
-                      f"as above, found {line.indent}")
+            line.fail(say("indentation", known=" or ".join(known), found=line.indent))
 
     def open(self, line):
         """Open the chain of cases or points of the record just read."""
         owner = self.levels[-1].last
         if not self.holds[owner - 1]:
-            line.fail("expected no further indentation: the record above it holds no split")
+            line.fail(say("no_further"))
         self.levels.append(Level(line.indent, owner, self.holds[owner - 1]))
 
     def add_split(self, line, kind, a, b):
@@ -355,7 +349,7 @@ class Chains:
             return
         if number > MAX_16:
             line.at = 0
-            line.fail(f"expected at most {MAX_16} records, this is record {number}")
+            line.fail(say("most_records", most=MAX_16, number=number))
         self.records[source - 1][field] = number
 
     def finished(self):

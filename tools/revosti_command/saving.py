@@ -10,6 +10,7 @@ from typing import NamedTuple
 from revosti import crossing_saving, exchange_saving, move_saving, place
 
 from .edges import name
+from .phrases import say
 
 
 class Rule(NamedTuple):
@@ -29,9 +30,9 @@ def tell(lengths, which, points):
     saving = rule.call(lengths.n, lengths.table, *points)
     sums = Sums(lengths.n, lengths.table)
     shown = [sums.step(*step) for step in rule.steps(sums, *points)]
-    last = ["The smaller one counts."] if len(shown) > 1 else []
-    side = "Above 0" if saving > 0 else "Not above 0"
-    return "\n".join([f"{rule.name(*points)} saves {saving}.", *shown, *last, f"{side}: {rule.meaning(saving > 0, *points)}"])
+    last = [say("smaller_counts")] if len(shown) > 1 else []
+    side = say("above_0" if saving > 0 else "not_above_0", meaning=rule.meaning(saving > 0, *points))
+    return "\n".join([say("saves", what=rule.name(*points), saving=saving), *shown, *last, side])
 
 
 class Sums:
@@ -55,12 +56,13 @@ class Sums:
     def words(self, edges):
         """Edges and the sum of their lengths."""
         *names, last = [name(*e) for e in edges]
-        return f"{', '.join(names)} and {last}, {' + '.join(str(self.length(*e)) for e in edges)} = {self.total(edges)}"
+        return say("sum", edges=f"{', '.join(names)} and {last}", lengths=" + ".join(str(self.length(*e)) for e in edges),
+            total=self.total(edges))
 
     def step(self, out, put):
         """One way to take out and put in."""
-        return (f"Taken out: {self.words(out)}. Put in: {self.words(put)}. "
-                f"Saved: {self.total(out)} - {self.total(put)} = {self.saved(out, put)}.")
+        return say("step", out=self.words(out), put=self.words(put), taken=self.total(out), given=self.total(put),
+            saved=self.saved(out, put))
 
 
 def exchange_steps(_, p, q, x, y):
@@ -71,12 +73,12 @@ def exchange_steps(_, p, q, x, y):
 
 def exchange_name(p, q, x, y):
     """The exchange in words."""
-    return f"Exchanging {name(p, q)} and {name(x, y)}"
+    return say("exchange", pq=name(p, q), xy=name(x, y))
 
 
 def exchange_meaning(above, *_):
     """What the saving says of the two edges."""
-    return f"the two edges are {'not ' if above else ''}compatible."
+    return say("not_compatible" if above else "compatible")
 
 
 def move_steps(_, c, x, y, u, v):
@@ -86,15 +88,14 @@ def move_steps(_, c, x, y, u, v):
 
 def move_name(c, x, y, u, v):
     """The move in words."""
-    return f"Moving {c} from between {x} and {y} to between {u} and {v}"
+    return say("move", c=c, x=x, y=y, u=u, v=v)
 
 
 def move_meaning(above, c, x, y, u, v):
     """What the saving says of a pair."""
     if x == y or c in (u, v):
-        return f"but condition 5 asks for two edges at {c}, and for an edge without {c}."
-    edges = f"{name(x, c)}, {name(y, c)} and {name(u, v)}"
-    return f"where K with a pair has {edges}, this move {'shuts' if above else 'does not shut'} the pair out (condition 5)."
+        return say("move_asks", c=c)
+    return say("move_shuts" if above else "move_shuts_not", edges=f"{name(x, c)}, {name(y, c)} and {name(u, v)}")
 
 
 def labelling(p, q, r, s, x, y, z, w):
@@ -110,12 +111,12 @@ def crossing_steps(sums, p, q, r, s, x, y, z, w):
 
 def crossing_name(p, q, r, s, *_):
     """The crossing in words."""
-    return f"The crossing of {name(p, q)} with centres {r} and {s}"
+    return say("crossing", pq=name(p, q), r=r, s=s)
 
 
 def crossing_meaning(above, *_):
     """What the saving says of the case."""
-    return f"as a crossing of K, it {'settles its case' if above else 'is refused by 16'}."
+    return say("crossing_settles" if above else "crossing_refused")
 
 
 SAVINGS = {

@@ -3,6 +3,8 @@
 import re
 from collections import deque
 
+from .phrases import say
+
 TOKEN = re.compile(r"#.*|([0-9A-Za-z_]+|\S)", re.DOTALL)  # group 1 is empty for a comment
 
 
@@ -56,16 +58,16 @@ class Line:
 
     def missed(self, wanted):
         """Raise BadText: something else was expected here."""
-        self.fail(f"expected {wanted}, found {self.found()}")
+        self.fail(say("expected", wanted=wanted, found=self.found()))
 
     def found(self):
         """The next token in words."""
         if self.end_of_text:
-            return "the end of the text"
+            return say("end_of_text")
         token = self.peek()
         if not token:
-            return "the end of the line"
-        return f'"{token}"' if token.isprintable() else f"character {ord(token)}"
+            return say("end_of_line")
+        return f'"{token}"' if token.isprintable() else say("character", code=ord(token))
 
     def starts_number(self):
         """Whether the next token is a number."""
@@ -93,24 +95,24 @@ class Line:
             self.missed(what)
         digits = self.peek().lstrip("0") or "0"
         if len(digits) > 10 or int(digits) > limit:
-            self.fail(f"expected {what} from 0 to {limit}, found {digits}")
+            self.fail(say("from_0_to", what=what, limit=limit, digits=digits))
         self.at += 1
         return int(digits)
 
     def byte(self):
         """Take a byte as two hexadecimal digits."""
         if not re.fullmatch("[0-9A-Fa-f]{2}", self.peek()):
-            self.missed("a byte as two hexadecimal digits")
+            self.missed(say("a_byte"))
         self.at += 1
         return int(self.tokens[self.at - 1][0], 16)
 
     def end(self):
         """Nothing may follow."""
         if self.peek():
-            self.missed("the end of the line")
+            self.missed(say("end_of_line"))
 
     def only_blanks(self):
         """Indentation is in blanks, so that depth has one reading."""
         blanks = len(self.text) - len(self.text.lstrip(" "))
         if blanks < self.indent:
-            raise BadText(self.number, blanks + 1, "expected blanks as indentation, found a tab or the like")
+            raise BadText(self.number, blanks + 1, say("only_blanks"))

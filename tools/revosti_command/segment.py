@@ -7,6 +7,7 @@ from collections import Counter
 from typing import NamedTuple
 
 from .edges import degree, ends, name, path_name
+from .phrases import say
 from .saving import Sums
 from .words import are, listed
 
@@ -56,14 +57,14 @@ def no_segment(k, u, v):
     off = [p for p in dict.fromkeys((u, v)) if not degree(k, p)]
     found = ways(k, u, v)
     if u == v:
-        return f"Here u and v are both {u}."
+        return say("same_stretch_ends", point=u)
     if off:
-        return f"{'Points' if len(off) > 1 else 'Point'} {listed(map(str, off))} {are(len(off))} not in K."
+        return say("off_k", points=f"{'Points' if len(off) > 1 else 'Point'} {listed(map(str, off))}", are=are(len(off)))
     if len(found) > 1:
-        return f"K is a closed tour, and two paths lead from {u} to {v}: {listed(map(path_name, sorted(found)))}."
+        return say("closed_tour", u=u, v=v, paths=listed(map(path_name, sorted(found))))
     if found:
-        return f"{name(u, v)} is an edge of K, and no point lies between."
-    return f"K has no path from {u} to {v}: {u} lies on {path_name(line_at(k, u))}, {v} on {path_name(line_at(k, v))}."
+        return say("edge_of_k", edge=name(u, v))
+    return say("no_path", u=u, v=v, one=path_name(line_at(k, u)), other=path_name(line_at(k, v)))
 
 
 def line_at(k, point):
@@ -77,17 +78,16 @@ def other_points(points, named):
     """What a chain lacks that is to name the inner points of a segment, each once; None where it lacks nothing."""
     inner, times = points[1:-1], Counter(named)
     surplus = sorted(set(named) - set(inner))
-    faults = [("leaves out {}", [p for p in inner if not times[p]]),
-              ("names {} more than once", sorted(p for p in times if times[p] > 1)),
-              (f"names {{}}, which {are(len(surplus))} not inside", surplus)]
-    told = [f"The new order {words.format(some(found))}." for words, found in faults if found]
-    return " ".join([f"The stretch is {path_name(points)}.", *told]) if told else None
+    faults = [("order_lacks", [p for p in inner if not times[p]]), ("order_twice", sorted(p for p in times if times[p] > 1)),
+              ("order_other", surplus)]
+    told = [say(phrase, points=some(found), are=are(len(found))) for phrase, found in faults if found]
+    return " ".join([say("stretch_is", path=path_name(points)), *told]) if told else None
 
 
 def some(points):
     """Points by number, the first few of them."""
     shown = [str(p) for p in points[:MOST_POINTS]]
-    return f"{', '.join(shown)} and so on" if len(points) > MOST_POINTS else listed(shown)
+    return ", ".join(shown) + say("and_so_on") if len(points) > MOST_POINTS else listed(shown)
 
 
 def not_shorter(old, new, two_tables):
@@ -95,6 +95,6 @@ def not_shorter(old, new, two_tables):
     if new.length < old.length:
         return None
     low, high = (" by the low lengths", " by the high ones") if two_tables else ("", "")
-    more = f"longer by {new.length - old.length:,}" if new.length > old.length else "as long"
-    return (f"The stretch {path_name(old.points)} is {old.length:,} long{low}, "
-            f"the new order {path_name(new.points)} {new.length:,}{high}: {more}.")
+    by = new.length - old.length
+    return say("not_shorter", old=path_name(old.points), long=f"{old.length:,} long{low}", order=path_name(new.points),
+               length=f"{new.length:,}{high}", more=say("longer_by", by=f"{by:,}") if by else say("as_long"))

@@ -7,15 +7,16 @@ from struct import unpack
 
 from revosti import STOPPED, candidate_view, examiner_view, meaning
 
+from .phrases import say
 from .words import counted
 
 
 def tell_slip(slip):
     """Both views of a slip, as text."""
     examiner, candidate = examiner_view(slip), candidate_view(slip)
-    return "\n".join([f"Slip {slip} is {'' if examiner[1] else 'not '}released.",
-                      f"The examiner sees {shown(examiner)}: {words(*unpack('<BBHH', examiner))}",
-                      f"The candidate sees {shown(candidate)}: {told(candidate, examiner)}"])
+    return "\n".join([say("slip", slip=slip, not_="" if examiner[1] else "not "),
+                      say("examiner", bytes=shown(examiner), words=words(*unpack("<BBHH", examiner))),
+                      say("candidate", bytes=shown(candidate), words=told(candidate, examiner))])
 
 
 def as_json(slip):
@@ -39,18 +40,18 @@ def shown(view):
 def told(candidate, examiner):
     """What the candidate's bytes say. Until release, 255 tells no number."""
     if candidate == examiner:
-        return "the same."
+        return say("the_same")
     number, _, _, lines = unpack("<BBHH", candidate)
-    return f"{'the sheet stopped' if number == STOPPED else 'no refusal'}, {accepted(lines)}."
+    return f"{say('stopped' if number == STOPPED else 'no_refusal')}, {accepted(lines)}."
 
 
 def words(number, _, record, lines):
     """What the examiner's bytes say."""
     place = f", record {record}" if record else ""
-    found = f"refused by {number}" if number else "no refusal"
+    found = say("refused_by", number=number) if number else say("no_refusal")
     return f"{found}{place}, {accepted(lines)}." + (f" {meaning(number)}" if number else "")
 
 
 def accepted(lines):
     """How many lines are accepted."""
-    return f"{counted(lines, 'line')} accepted"
+    return say("lines_accepted", lines=counted(lines, "line"))

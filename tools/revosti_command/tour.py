@@ -7,6 +7,7 @@ from revosti import STRUCK, mark_of
 
 from .edges import edge, name
 from .parts import MAX_16
+from .phrases import say
 from .words import are, counted, listed
 
 NUMBER = re.compile(r"[0-9]+")
@@ -32,7 +33,7 @@ def read_section(text):
     head, _, rest = text.partition(SECTION)
     kind = re.search(r"^\s*TYPE\s*:\s*(\S+)", head, re.M)
     if kind and kind[1] != "TOUR":
-        raise BadTour(f'expected TYPE : TOUR above {SECTION}, found "{cut(kind[1])}"')
+        raise BadTour(say("tour_type", kind=cut(kind[1])))
     words = rest.split()
     end = next((at for at, word in enumerate(words) if word in ("-1", "EOF")), len(words))
     return [point(word) for word in words[:end]]
@@ -42,9 +43,9 @@ def point(word):
     """A point. Whether the board has it is for the check to say."""
     digits = word.lstrip("0") or "0"
     if not NUMBER.fullmatch(word) or not word.isascii():
-        raise BadTour(f'expected point numbers with commas or blanks between, found "{cut(word)}"')
+        raise BadTour(say("tour_word", word=cut(word)))
     if len(digits) > 5 or int(digits) > MAX_16:
-        raise BadTour(f"expected a point from 0 to {MAX_16}, found {cut(digits)}")
+        raise BadTour(say("tour_point", most=MAX_16, digits=cut(digits)))
     return int(digits)
 
 
@@ -67,16 +68,16 @@ def wrong_tour(n, tour):
     """What makes some points no tour, in words."""
     outside = [p for p in tour if not 1 <= p <= n]
     if outside:
-        return f"Here is point {outside[0]}; n is {n}."
+        return say("tour_outside", point=outside[0], n=n)
     twice = sorted({p for p in tour if tour.count(p) > 1})
     if twice:
-        return f"Point {twice[0]} is there {counted(tour.count(twice[0]), 'time')}."
+        return say("tour_twice", point=twice[0], times=counted(tour.count(twice[0]), "time"))
     missing = sorted(set(range(1, n + 1)) - set(tour))
-    return f"Point {missing[0]} is missing." if missing else None
+    return say("tour_missing", point=missing[0]) if missing else None
 
 
 def tell_tour(length, struck):
     """The check in words."""
-    words = "All its edges are open." if not struck else f"{counted(len(struck), 'edge')} of it {are(len(struck))} struck: " \
-                                                         f"{listed([name(*e) for e in struck])}."
-    return f"The tour has length {length:,}. {words}"
+    edges = counted(len(struck), "edge")
+    words = say("tour_struck", edges=edges, are=are(len(struck)), names=listed([name(*e) for e in struck])) if struck else say("tour_open")
+    return say("tour", length=f"{length:,}", edges=words)

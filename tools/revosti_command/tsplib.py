@@ -11,6 +11,7 @@ from revosti import Refusal, tsplib_points
 
 from .edges import RULES
 from .parts import MAX_32, Beside, Parts
+from .phrases import say
 from .words import counted
 
 NUMBERS = {name: rule for rule, name in RULES.items()}  # of the rules, by name
@@ -52,7 +53,7 @@ def kind_of(data):
     """The rule of a text that is one, in words, or that it has weights."""
     seen = Seen(lines_of(data)[:-1])
     name = seen.values["EDGE_WEIGHT_TYPE"]
-    return "by weights" if seen.explicit else f"rule {NUMBERS[name]}, {name}"
+    return say("by_weights") if seen.explicit else say("by_rule", rule=NUMBERS[name], name=name)
 
 
 def lines_of(data):
@@ -137,11 +138,11 @@ class Seen:
     def expected(self):
         """What may stand next, in words."""
         if self.ended:
-            return "the end of the text behind EOF"
+            return say("tsp_end")
         if self.section and self.left == 0:
-            return f"EOF behind {'the last node' if self.section == NODES else 'the last weight'}"
+            return say("tsp_eof", last=say("tsp_last_node" if self.section == NODES else "tsp_last_weight"))
         if self.section == NODES:
-            return f"node {len(self.data) + 1} of {self.n}, its number and two whole coordinates"
+            return say("tsp_node", i=len(self.data) + 1, n=self.n)
         if self.section:
             return counted(self.left, "more weight")
         section = [] if self.missing() else [WEIGHTS if self.explicit else NODES]
@@ -164,9 +165,9 @@ def complaint(lines, at):
     """What was expected at a line that is refused, and what stands there. The last of the lines has no newline."""
     seen, line = Seen(lines[:at - 1]), lines[at - 1]
     if at == len(lines) and line and not seen.ended:
-        return f"expected a newline behind {shown(line)}, found the end of the text"
+        return say("tsp_newline", line=shown(line))
     if at == len(lines) and not line:
-        return f"expected {seen.expected()}, found the end of the text"
+        return say("tsp_ends", wanted=seen.expected())
     return (None if seen.section else of_header(seen, line) or of_section(seen, line)) or of_line(seen, line)
 
 
@@ -176,33 +177,33 @@ def of_header(seen, line):
     if ":" not in line or keyword not in VALUES:
         return None
     if keyword in seen.values:
-        return f"expected no second {keyword}"
+        return say("tsp_second", keyword=keyword)
     if not seen.may_stand(keyword):
-        return f"expected no {keyword}, since EDGE_WEIGHT_TYPE is {seen.values['EDGE_WEIGHT_TYPE']}"
+        return say("tsp_no_format", keyword=keyword, type=seen.values["EDGE_WEIGHT_TYPE"])
     if keyword == "EDGE_WEIGHT_TYPE" and value in NUMBERS:
-        return f"expected {EXPLICIT} as {keyword}, since there is {FORMAT}, found {shown(value)}"
-    return f"expected {VALUES[keyword]} as {keyword}, found {shown(value)}{hint(seen, value)}"
+        return say("tsp_explicit", keyword=keyword, value=shown(value))
+    return say("tsp_value", values=VALUES[keyword], keyword=keyword, value=shown(value), hint=hint(seen, value))
 
 
 def of_section(seen, line):
     """What is wrong with a section's name, or None where the line is none or it is the wrong one."""
     name = line.replace(":", "").strip(" ")
     if name in (*SECTIONS, "EOF") and ":" in line:
-        return f"expected {name} without a colon, found {shown(line)}"
+        return say("tsp_colon", name=name, line=shown(line))
     if name in SECTIONS and seen.missing():
-        return f"expected {' and '.join(seen.missing())} above {name}"
+        return say("tsp_above", keywords=" and ".join(seen.missing()), name=name)
     return None
 
 
 def of_line(seen, line):
     """What was expected, and the line."""
-    return f"expected {seen.expected()}, found {shown(line)}{hint(seen, line)}"
+    return say("tsp_line", wanted=seen.expected(), line=shown(line), hint=hint(seen, line))
 
 
 def shown(line):
     """A line in words."""
     if not line.strip(" "):
-        return "a line of blanks" if line else "nothing"
+        return say("tsp_blanks" if line else "tsp_nothing")
     text = line.encode("latin-1").decode("utf-8", "replace")
     text = text if len(text) <= SHOWN else f"{text[:SHOWN]}.."
     return '"' + "".join(c if c.isprintable() else c.encode("unicode_escape").decode() for c in text) + '"'
@@ -214,9 +215,9 @@ def hint(seen, line):
     real = [word for word in words if REAL.fullmatch(word) and not is_number(word)]
     large = [word for word in words if is_number(word) and above(word)]
     if "\t" in line:
-        return "; blanks are asked for, not tabs"
+        return say("tsp_tabs")
     if "\r" in line:
-        return "; lines end in a newline alone, not in a carriage return"
+        return say("tsp_return")
     if real:
-        return f"; whole {NOUNS[seen.section]} are asked for, in digits alone, and {shown(real[0])} is none"
-    return f"; numbers are at most {MAX_32}, and {shown(large[0])} is above" if large else ""
+        return say("tsp_whole", noun=NOUNS[seen.section], word=shown(real[0]))
+    return say("tsp_large", word=shown(large[0])) if large else ""

@@ -9,6 +9,7 @@ from ..files import STANDARD, real
 from ..hall import enter, hand_in_at, open_hall, seats, take_turn
 from ..options import add_json, add_out, answer, digits_of, file_name, guard, say
 from ..parts import MAX_32
+from ..phrases import say as phrase
 from ..verdict import counted_marks
 from ..words import Complaint, are, counted
 
@@ -69,7 +70,7 @@ def opened(options):
     """Opens the desks."""
     hall = open_hall(options.hall, options.words[0], options.force)
     options.changed = options.hall
-    answer(options, lambda: f"Eight desks are open, for a board of {counted(hall.lengths.n, 'point')}.", lambda: found(hall))
+    answer(options, lambda: phrase("desks_open", points=counted(hall.lengths.n, "point")), lambda: found(hall))
 
 
 def handed_in(options):
@@ -77,7 +78,7 @@ def handed_in(options):
     hall, (desk, file) = enter(options.hall), options.words
     hand_in_at(hall, desk, file)
     options.changed = options.hall
-    answer(options, lambda: f"Desk {desk} has handed in a sheet; its first line waits.", lambda: found(hall))
+    answer(options, lambda: phrase("desk_handed_in", desk=desk), lambda: found(hall))
 
 
 def turned(options):
@@ -92,7 +93,7 @@ def turned(options):
         options.changed = options.hall
         if at_once:
             say(options, sentence(taken))
-    last = [] if taken else [f"{counted(len(turns), 'turn')}: no desk has a line left." if turns else "No desk has a line left."]
+    last = [] if taken else [phrase("turns_taken", turns=counted(len(turns), "turn")) if turns else f"{phrase('no_line_left')}."]
     if last or not at_once:
         answer(options, lambda: "\n".join([*([] if at_once else map(sentence, turns)), *last]), lambda: found(hall, turns))
     return 1 if any(taken.turn.refusal for taken in turns) else 0
@@ -102,10 +103,10 @@ def sentence(taken):
     """What a turn tells."""
     desk, lines = taken.turn.desk, counted(taken.turn.lines, "line")
     if taken.turn.line_left:
-        return f"Desk {desk}: {lines} accepted so far, and a line is left."
+        return phrase("desk_so_far", desk=desk, lines=lines)
     if taken.turn.refusal == 0:
-        return f"Desk {desk}: the sheet is accepted, {lines}. {counts(taken.verdict.left, taken.verdict.lengths.n)}"
-    return f"Desk {desk}: {told(taken.sheet, taken.verdict)}\n"
+        return phrase("desk_accepted", desk=desk, lines=lines, marks=counts(taken.verdict.left, taken.verdict.lengths.n))
+    return phrase("desk_told", desk=desk, words=told(taken.sheet, taken.verdict)) + "\n"
 
 
 def shown(options):
@@ -117,22 +118,23 @@ def shown(options):
 def table(hall):
     """Who is served next, and a line a desk."""
     following, last, every = seats(hall)
-    first = f"Desk {following} is served next" if following else "No desk has a line left"
-    return "\n".join([f"{first}; desk {last} was served last." if last else f"{first}; none was served yet.",
+    first = phrase("served_next", desk=following) if following else phrase("no_line_left")
+    return "\n".join([phrase("served_last", next=first, desk=last) if last else phrase("none_served", next=first),
                       *(row(seat, hall.lengths.n) for seat in every)])
 
 
 def row(seat, n):
     """What a desk has."""
     if seat.held.line_left:
-        source = f", which record {seat.held.owner} leads to" if seat.held.owner else ""
-        state = f"record {seat.held.index} waits{source}; {counted(seat.held.lines, 'line')} {are(seat.held.lines)} accepted."
+        source = phrase("leads_to", owner=seat.held.owner) if seat.held.owner else ""
+        state = phrase("line_waits", record=seat.held.index, source=source, lines=counted(seat.held.lines, "line"),
+            are=are(seat.held.lines))
     elif any(seat.held):  # by nobody who hands in or takes turns
         state = f"no line left, though its numbers are {' '.join(map(str, seat.held))}."
     elif seat.slip is None:
-        state = "no sheet."
+        state = phrase("no_sheet")
     else:
-        state = f"its sheet has ended, slip {seat.slip}."
+        state = phrase("sheet_ended", slip=seat.slip)
     return f"Desk {seat.desk}: {state} {counts(seat.marks, n)}"
 
 

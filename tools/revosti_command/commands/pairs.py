@@ -7,6 +7,7 @@ from ..edges import name
 from ..fault import outside
 from ..options import add_board, add_high, add_json, add_out, add_set, answer, lengths_of, load_board, marks_for, point, record
 from ..parts import CROSSING, STRETCH
+from ..phrases import say as phrase
 from ..words import Complaint, counted
 
 NAME, GROUP = "pairs", "Boards"
@@ -62,5 +63,7 @@ def at_record(parts, lengths, marks, number):
 
 def told(pairs, c, under):
     """The pairs as text."""
-    count = f"{counted(len(pairs), 'pair')} {'stands' if len(pairs) == 1 else 'stand'}" if pairs else "No pair stands"
-    return "\n".join([f"{count} at {c} under {', '.join(name(*e) for e in under)}.", *(f"pair {x}-{y}" for x, y in pairs)])
+    edges, stand = ", ".join(name(*e) for e in under), "stands" if len(pairs) == 1 else "stand"
+    first = (phrase("pairs_stand", pairs=counted(len(pairs), "pair"), stand=stand, split=c, under=edges) if pairs
+             else phrase("no_pair_stands", split=c, under=edges))
+    return "\n".join([first, *(f"pair {x}-{y}" for x, y in pairs)])
