@@ -5,8 +5,8 @@ import re
 from functools import cached_property
 from pathlib import Path
 
-CODE = (".antt", ".rt", ".h", ".py", ".edit")
-FOLDERS = ("crates", "tools", "tests", "include", "examples")
+CODE = (".antt", ".rt", ".h", ".py", ".js", ".edit")
+FOLDERS = ("crates", "tools", "tests", "include", "examples", "page")
 OTHERS = {"rt", "diff", "grep", "requires", "--help"}  # programs, a word of the language, the option that every program has
 
 # a definition or a theorem, a constructor or a field: what a colon follows at the front of a line
@@ -16,6 +16,7 @@ CODED = re.compile(r"\b(?:fn|struct|enum|const|mod)\s+(\w+)|(?:->|\w:) &?(?:mut 
 BLOCK = re.compile(r"^(?:pub\s+)?(?:impl|struct|enum)\s+(\w+)\s*\{\n(.*?)^\}", re.M | re.S)
 MEMBER = re.compile(r"\b(?:fn|const)\s+(\w+)|^    (?:pub )?(\w+)(?=:|,|\(| \{)", re.M)
 PYTHON = re.compile(r"\b(?:def|class)\s+(\w+)|^(\w+)\s*=|\.(\w+)\s*=|[\"'](-*\w[\w-]*)[\"']", re.M)
+SCRIPT = re.compile(r"\b(?:function|class|const|let)\s+(\w+)")
 HEADER = re.compile(r"\b\w+\b")
 
 
@@ -35,7 +36,7 @@ def names_in(path):
         return plain | {name for _, name in members} | {"::".join(m) for m in members} | {f"{path.stem}::{name}" for name in plain}
     if path.suffix == ".edit":
         return {path.stem}
-    return taken(PYTHON if path.suffix == ".py" else HEADER, text)
+    return taken({".py": PYTHON, ".js": SCRIPT}.get(path.suffix, HEADER), text)
 
 
 class Tree:
