@@ -3,6 +3,7 @@ pictures of one reason of each kind."""
 
 import json
 import unittest
+from array import array
 from xml.etree import ElementTree
 
 from support import EXAMPLES, NINE, SQUARE_POINTS, Folder, Run, binary
@@ -251,6 +252,15 @@ class Pictures(unittest.TestCase):
         p = Picture(Run("draw", "--reason", "1-2", data=binary([(1, 1, 3, 0, 0, 5, 2, 0), (2, 1, 4, 0, 0, 2, 0, 0)], points)).out)
         self.assertEqual(p.texts("caption"), ["Exchanging 2-5 and 1-3 saves 4 and shuts out 1 and 2 as neighbours of 5."])
         self.assertEqual(self.drawn(p, "put"), [(1, 2), (3, 5)])  # 10 + 11; the other way, 1-5 and 2-3, is 15 long
+
+    def test_long_rows(self):
+        """Edges of large points are told by their number."""
+        telling = Telling(Verdict(0), (101, 103), 104)
+        for kind, points, rows in (("move", [101, 104, 105], ["out: 3 edges", "in: 3 edges", "101 moves"]),
+                                   ("exchange", [102, 104, 101, 103], ["out: 102-104 and 101-103", "in: 101-102 and 103-104"])):
+            pair = (101, 105) if kind == "move" else (101, 102)
+            found = sketch(telling, Reason(pair, kind, points, 4, "words"), Lengths(105, array("I", [1] * 5460)), 1)
+            self.assertEqual([words for _, words in found.rows[3:]], rows)
 
     def test_marks_are_those_of_the_line(self):
         for record, struck in ((1, []), (3, [(1, 3)]), (5, [(1, 3), (2, 4)])):

@@ -33,7 +33,7 @@ marks        the marks of a set, and what is no set
 pages        the wall list of a board, and its lengths and marks again
 
 edges        edges and sets of them, the names of the rules
-labels       places for the holes' numbers
+labels       places for the holes' numbers, words that fit the legend
 reason       what the picture of one reason shows
 draw         the board as SVG
 words        numbers in sentences, complaints

@@ -10,14 +10,14 @@ from typing import NamedTuple
 
 from .case import Case
 from .edges import edge, path_name
-from .labels import place_labels
+from .labels import fitting, place_labels
 from .marks import NAMES, marked
 from .parts import CROSSING, STRETCH
 from .reason import Sketch
 from .words import counted
 
 WIDTH, MARGIN, MIN_HEIGHT = 1200, 50, 240
-COLUMNS, ROW, FEW, LETTERS = 3, 34, 3, 28  # of the legend; so many letters fit a column
+COLUMNS, ROW, FEW = 3, 34, 3  # of the legend
 # Okabe and Ito's colours: they differ for colour-blind readers too.
 PAPER, INK, SLATE, ORANGE, GREEN, BLUE, PURPLE, RED, AMBER = (
     "#fcfbf7", "#1a1a1a", "#3f4f5f", "#d55e00", "#009e73", "#0072b2", "#cc79a7", "#c1121f", "#e69f00")
@@ -244,8 +244,7 @@ def path_row(name, words, path):
     """The legend's row for a path and its length, if there is one, by its points where they fit."""
     if path is None:
         return []
-    whole = f"{words} {path_name(path.points)}: {path.length:,}"
-    return [(name, whole if len(whole) <= LETTERS else f"{words}: length {path.length:,}")]
+    return [(name, fitting(f"{words} {path_name(path.points)}: {path.length:,}", f"{words}: length {path.length:,}"))]
 
 
 def few(pairs):

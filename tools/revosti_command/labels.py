@@ -1,10 +1,16 @@
 """Places for the holes' numbers, so that few of them meet a hole, another
-number or the tour."""
+number or the tour; and words that fit the legend."""
 
 SIDES = ((1, -1), (-1, -1), (1, 1), (-1, 1), (0, -1), (0, 1), (1, 0), (-1, 0))  # best liked first
 NEAR = 80     # pixels within which the tour matters to a number
 STEP = 4      # pixels between the points at which the tour is looked at
 OUTSIDE = 10_000
+LETTERS = 28  # so many fit a column of the legend
+
+
+def fitting(words, fewer):
+    """The words of a row of the legend, or fewer where they do not fit."""
+    return words if len(words) <= LETTERS else fewer
 
 
 def place_labels(spots, radius, font, frame, legs):

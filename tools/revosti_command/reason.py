@@ -4,8 +4,9 @@ from itertools import combinations
 from typing import NamedTuple
 
 from .edges import edge, ends, name, path_name
+from .labels import fitting
 from .saving import Sums, exchange_steps, move_steps
-from .words import listed
+from .words import counted, listed
 
 
 class Sketch(NamedTuple):
@@ -44,7 +45,7 @@ def third(points, joined, _):
     """The edges at a point that has three."""
     point, = points
     crowd = [e for e in joined if point in e]
-    return crowd, [], point, [("fault", f"at {point}: {listed(name(*e) for e in crowd)}"), ("spot", f"third edge at {point}")]
+    return crowd, [], point, [("fault", row(f"at {point}", crowd)), ("spot", f"third edge at {point}")]
 
 
 def loop(points, joined, _):
@@ -79,8 +80,13 @@ def untold(*_):
 def changed(out, put, spot, rows):
     """Edges taken out and put in, and the rows for them."""
     put = [e for e in put if e[0] != e[1]]
-    words = [(look, f"{text}: {listed(name(*e) for e in found)}") for look, text, found in (("fault", "out", out), ("put", "in", put))]
+    words = [("fault", row("out", out)), ("put", row("in", put))]
     return [edge(*e) for e in out], [edge(*e) for e in put], spot, words + rows
+
+
+def row(words, edges):
+    """A row of the legend with its edges by name, or their number where these do not fit."""
+    return fitting(f"{words}: {listed(name(*e) for e in edges)}", f"{words}: {counted(len(edges), 'edge')}")
 
 
 WAYS = {"struck": struck, "third": third, "loop": loop, "exchange": exchange, "move": move, "split": further}
