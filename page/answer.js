@@ -10,6 +10,7 @@ export const MOST_SPLITS = 6;
 export const VIEW_BYTES = 6;
 export const PAGE_LINES = 60;
 export const LINE_BYTES = 25;
+export const SENTENCE_BYTES = 128;
 export const DESKS = 8;
 export const DESKS_BYTES = 50;
 export const STOPPED = 255;
@@ -37,6 +38,7 @@ export const tourOpen = (answer) => bits(answer, 8, 1) === 1;
 export const points = (answer) => bits(answer, 16, 32);
 export const textLine = (answer) => bits(answer, 8, 56);
 export const pageBytes = (answer) => bits(answer, 16, 48);
+export const toldBytes = (answer) => bits(answer, 16, 48);
 export const wrongLine = (answer) => bits(answer, 8, 8);
 export const next = (answer) => bits(answer, 16, 32);
 export const desk = (answer) => bits(answer, 48, 8);
@@ -54,6 +56,9 @@ export function place(n, a, b) {
 
 /** How many pages the wall list of n points has. */
 export const pageCount = (n) => Math.ceil(edges(n) / PAGE_LINES);
+
+/** How many bytes always hold the sentences of a line. */
+export const toldSize = (n) => SENTENCE_BYTES * (((n - 1) * (n - 2)) / 2);
 
 /** How many bytes the packed set of n points has. */
 export const marksSize = (n) => Math.ceil(edges(n) / 4);

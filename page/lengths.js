@@ -1,7 +1,7 @@
 // The lengths of a board, and the calls that are over them. Every verdict is the library's.
 import {
     Refused, askSheet, checkTour, confirm, crossingSaving, exchangeSaving, freshMarks, listPairs, markSheet, moveSaving,
-    refusal, record, lines, tellLine, withdraw,
+    refusal, record, lines, tellLine, toldSize, withdraw,
 } from "revosti/revosti";
 import { changedEdges, countMarks, marksSize } from "revosti/edges";
 import { numbersOf } from "revosti/parts";
@@ -9,7 +9,6 @@ import { numbersOf } from "revosti/parts";
 export { Refused };
 
 const SAVINGS = { exchange: exchangeSaving, move: moveSaving, crossing: crossingSaving };
-const SENTENCE_BYTES = 128; // at most, of a sentence with its newline
 
 // A sheet as it is lent: eight numbers a record.
 export const lent = records => Uint16Array.from(records.flatMap(numbersOf));
@@ -57,7 +56,7 @@ export class Lengths {
 
     // The sentences that tell a line, of the record with a number.
     tell(marks, records, number) {
-        const text = new Uint8Array(SENTENCE_BYTES * (this.n - 1) * (this.n - 2) / 2);
+        const text = new Uint8Array(toldSize(this.n));
         const size = tellLine(this.n, this.table, marks, lent(records), number, text);
         return new TextDecoder().decode(text.subarray(0, size)).split("\n").slice(0, -1);
     }
@@ -97,15 +96,5 @@ export function settled(n, marks, call = withdraw) {
     if (countMarks(n, marks).pending) call(n, left);
     return left;
 }
-
-// Whether the library tells a line in sentences (an older one does not).
-export const tells = (() => {
-    try {
-        tellLine(0, new Uint32Array(0), new Uint8Array(0), new Uint16Array(0), 1, new Uint8Array(0));
-    } catch (refused) {
-        return refused instanceof Refused;
-    }
-    return true;
-})();
 
 export { confirm, withdraw };

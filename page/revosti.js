@@ -138,10 +138,10 @@ export function turn(desks, n, table, marks, sheet) {
     return { desk, lineLeft: part.lineLeft(answer), ...verdict, answer };
 }
 
-/** How many bytes of the text the sentence has that tells a record of a sheet. */
+/** How many bytes the sentences of a line have, which are written to the front of the text. */
 export function tellLine(n, table, marks, sheet, record, text) {
     const place = (answer) => ({ record: part.record(answer) });
-    return part.pageBytes(called(place, "revosti_tell_line", word(n), table, marks, sheet, word(record), text));
+    return part.toldBytes(called(place, "revosti_tell_line", word(n), table, marks, sheet, word(record), text));
 }
 
 /** The answer of a call. Where it is refused, `place` takes out of the answer what it names beside the number. */

@@ -3,7 +3,7 @@ import { Editor } from "revosti/editor";
 import { byId, el, later, longList, on, pointed } from "revosti/dom";
 import { edge, name } from "revosti/edges";
 import { faultWords, marksWords, struckWords, verdictWords } from "revosti/explain";
-import { Refused, tells } from "revosti/lengths";
+import { Refused } from "revosti/lengths";
 import { agreed, notice } from "revosti/notice";
 import { spokenOf } from "revosti/reasons";
 import { LINE, SPLIT } from "revosti/parts";
@@ -136,7 +136,7 @@ export class SheetPanel {
         if (found.k.length) box.append(el("p", {}, `K: ${found.k.map(e => name(...e)).join(", ")}`));
         if (found.words) box.append(el("p", {}, sentence(found.words)));
         else if ([LINE, SPLIT].includes(found.kind)) this.showPairs(box, found);
-        if (found.line && tells) this.showReasons(box, found);
+        if (found.line) this.showReasons(box, found);
     }
 
     showPairs(box, { points: [c], k, pairs, due }) {

@@ -2,6 +2,7 @@
 
 import subprocess
 import unittest
+from itertools import combinations
 
 from support import ROOT, WASM, PageTest, page
 
@@ -22,7 +23,7 @@ PARTS = {  # the inline functions of the header, once more
     "refusal": lambda answer: answer & 0xff, "record": lambda answer: answer >> 8 & 0xffff, "lines": lambda answer: answer >> 24 & 0xffff,
     "isReleased": lambda answer: answer >> 40 & 1, "pairs": lambda answer: answer >> 16, "tourLength": lambda answer: answer >> 16,
     "tourOpen": lambda answer: answer >> 8 & 1, "points": lambda answer: answer >> 16 & 0xffffffff, "textLine": lambda answer: answer >> 8,
-    "pageBytes": lambda answer: answer >> 16, "wrongLine": lambda answer: answer >> 8 & 0xff,
+    "pageBytes": lambda answer: answer >> 16, "toldBytes": lambda answer: answer >> 16, "wrongLine": lambda answer: answer >> 8 & 0xff,
     "next": lambda answer: answer >> 16 & 0xffffffff, "desk": lambda answer: answer >> 48 & 0xff,
     "lineLeft": lambda answer: answer >> 56 & 1, "saving": saving,
 }
@@ -137,12 +138,13 @@ class Script(PageTest):
 
     def test_places_of_edges(self):
         sizes = (4, 5, 9, 180)
-        found = self.browser.run("""const { edges, place, pageCount, marksSize, markOf } = await import("revosti/revosti");
+        found = self.browser.run("""const { edges, place, pageCount, toldSize, marksSize, markOf } = await import("revosti/revosti");
             const pairs = (n) => [...Array(n * n).keys()].map((i) => [1 + Math.floor(i / n), 1 + (i % n)]).filter(([a, b]) => a < b);
             const seen = (n, marks) => pairs(n).map(([a, b]) => [place(n, a, b), place(n, b, a), markOf(n, marks, a, b)]);
-            return given.map((n) => [edges(n), pageCount(n), marksSize(n), seen(n, [...Array(marksSize(n)).keys()])])""", *sizes)
-        for n, (edges, pages, size, seen) in zip(sizes, found):
+            return given.map((n) => [edges(n), pageCount(n), toldSize(n), marksSize(n), seen(n, [...Array(marksSize(n)).keys()])])""", *sizes)
+        for n, (edges, pages, told, size, seen) in zip(sizes, found):
             self.assertEqual((edges, pages, size), (n * (n - 1) // 2, len(range(0, edges, 60)), len(range(0, edges, 4))))
+            self.assertEqual(told, 128 * len(list(combinations(range(n - 1), 2))))
             self.assertEqual(seen, [[place, place, place // 4 >> 2 * (place % 4) & 3] for place in range(edges)])
 
 

@@ -4,6 +4,8 @@ import unittest
 
 from acting import DOCS, EXAMPLES, SIX, Acting
 
+from revosti import fresh_marks, measure, tell_line
+
 FAULT = "strike 2-3, split at 6\n  pair 2-5: split at 1\n  pair 3-5: split at 1\n"
 
 
@@ -157,17 +159,20 @@ class Caret(Acting):
         self.browser.click("#case .more")
         self.assertEqual(self.browser.run(shown), 96)
 
-    def test_reasons_are_there_where_the_library_tells_them(self):
-        told = self.browser.run("return (await import('revosti/lengths')).tells")
+    def test_reasons_are_those_that_the_library_tells(self):
+        self.open("#open-any", EXAMPLES / "reasons.txt")
+        self.write("strike 1-3, split at 4\n  pair 3-5: split at 1\n")
         self.caret(1)
-        self.assertEqual(self.browser.run("return document.querySelectorAll('#case .reasons').length"), int(told))
-        if told:
-            self.browser.click("#case .reasons summary")
-            self.assertEqual(self.browser.run("return document.querySelectorAll('#case .sentence').length"), 10)
-            self.assertEqual(self.text("#case .sentence").rpartition(" ")[2], "6.")
+        self.browser.click("#case .reasons summary")
+        self.until("document.querySelector('#case .sentence')")
+        shown = self.browser.run("return [...document.querySelectorAll('#case .sentence')].map(one => one.textContent)")
+        table = measure(5, 1, [(0, 0), (10, 0), (10, 10), (0, 10), (0, 5)])
+        told = tell_line(5, table, fresh_marks(5), [[1, 1, 3, 0, 0, 4, 2, 0], [2, 3, 5, 0, 0, 1, 0, 0]], 1)
+        self.assertEqual(shown, told)
+        self.assertEqual([sentence[0] for sentence in told], list("ELMEEF"))
 
     def test_a_reason_lights_up_its_edges(self):
-        """The sentence is given, so that the page is tested with a library that tells none, too."""
+        """The sentence is given: both edges of an exchange, and what the pair puts in."""
         self.caret(1)
         self.browser.run("""const [{ sheetPanel }, { Lengths }] = await Promise.all([import("revosti/main"), import("revosti/lengths")]);
             document.querySelector("#case .reasons")?.remove();
