@@ -8,24 +8,6 @@ use borrow.Author.Needs.{needs}
 use Rattle.closings.proofs.closing.both_moves_save.Statement.{statement}
 use Rattle.closings.proofs.closing.both_moves_save.Tie as tie
 
-length-of-three-requires : tie.Need-length-of-three-requires
-length-of-three-requires c κs = search needs
-
-length-of-three-requires-2 : tie.Need-length-of-three-requires-2
-length-of-three-requires-2 c κs = search needs
-
-saving-requires : tie.Need-saving-requires
-saving-requires c κs = search needs
-
-length-of-three-requires-3 : tie.Need-length-of-three-requires-3
-length-of-three-requires-3 c κs = search needs
-
-length-of-three-requires-4 : tie.Need-length-of-three-requires-4
-length-of-three-requires-4 c κs = search needs
-
-saving-requires-2 : tie.Need-saving-requires-2
-saving-requires-2 c κs = search needs
-
 returns : tie.Need-returns
 returns c =
     let f = c .before .before .before .before in
@@ -44,12 +26,5 @@ returns-2 c =
 pub both-moves-save-spec : {M : Type 1} → statement M
 both-moves-save-spec =
     tie.close
-    (tie.spec
-    length-of-three-requires
-    length-of-three-requires-2
-    saving-requires
-    length-of-three-requires-3
-    length-of-three-requires-4
-    saving-requires-2
-    returns
-    returns-2)
+    (tie.spec (λ c κs. search needs) (λ c κs. search needs) (λ c κs. search needs) (λ c κs. search needs)
+    (λ c κs. search needs) (λ c κs. search needs) returns returns-2)

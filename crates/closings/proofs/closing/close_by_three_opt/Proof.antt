@@ -31,32 +31,11 @@ two-r c = sym (c .before .before .ends-of .ensures) ∙ c .x .given .1
 two-s : (c : tie.After-z) → ends-s (c .before .before .before .before .before .before .before .before .before .before .before) ≡ Two (c .z .given .0 .0) (c .z .given .0 .1 .0)
 two-s c = sym (c .before .before .ends-of2 .ensures) ∙ c .z .given .1
 
-well-placed-requires : tie.Need-well-placed-requires
-well-placed-requires c κs = search needs
-
 returns : tie.Need-returns
 returns c = sym (unplaced _ _ _ _ _ _ _ (sym (c .before .well-placed .ensures) ∙ not-true _ (c .if1 .taken)))
 
-ends-of-requires : tie.Need-ends-of-requires
-ends-of-requires c κs = search needs
-
-enum-known-x : tie.Need-enum-known-x
-enum-known-x c = search needs
-
-enum-told : tie.Need-enum-told
-enum-told c = search needs
-
 returns-2 : tie.Need-returns-2
 returns-2 c = sym (no-ends-r _ _ _ _ _ _ _ (is-placed (c .before .before .before)) (sym (c .before .before .ends-of .ensures) ∙ c .enum-told .given .1))
-
-ends-of-requires-2 : tie.Need-ends-of-requires-2
-ends-of-requires-2 c κs = search needs
-
-enum-known-z : tie.Need-enum-known-z
-enum-known-z c = search needs
-
-enum-told-2 : tie.Need-enum-told-2
-enum-told-2 c = search needs
 
 returns-3 : tie.Need-returns-3
 returns-3 c =
@@ -86,17 +65,6 @@ returns-5 c =
 pub close-by-three-opt-spec : {M : Type 1} → statement M
 close-by-three-opt-spec =
     tie.close
-    (tie.spec
-    well-placed-requires
-    returns
-    ends-of-requires
-    enum-known-x
-    enum-told
-    returns-2
-    ends-of-requires-2
-    enum-known-z
-    enum-told-2
-    returns-3
-    some-labelling-saves-requires
-    returns-4
+    (tie.spec (λ c κs. search needs) returns (λ c κs. search needs) (λ c. search needs) (λ c. search needs) returns-2
+    (λ c κs. search needs) (λ c. search needs) (λ c. search needs) returns-3 some-labelling-saves-requires returns-4
     returns-5)

@@ -49,20 +49,8 @@ tried c =
 swaps-holds : tie.Need-swaps-holds Inv-loop μ-loop Inv-swaps μ-swaps
 swaps-holds c = (search needs, refl, below-none _)
 
-end-by-requires : tie.Need-end-by-requires Inv-loop μ-loop Inv-swaps μ-swaps
-end-by-requires c κs = search needs
-
-end-by-requires-2 : tie.Need-end-by-requires-2 Inv-loop μ-loop Inv-swaps μ-swaps
-end-by-requires-2 c κs = search needs
-
 loop-holds : tie.Need-loop-holds Inv-loop μ-loop Inv-swaps μ-swaps
 loop-holds c = (search needs, c .before .before .before .swaps .inv .1, below-none _)
-
-end-by-requires-3 : tie.Need-end-by-requires-3 Inv-loop μ-loop Inv-swaps μ-swaps
-end-by-requires-3 c κs = search needs
-
-end-by-requires-4 : tie.Need-end-by-requires-4 Inv-loop μ-loop Inv-swaps μ-swaps
-end-by-requires-4 c κs = search needs
 
 both-moves-save-requires : tie.Need-both-moves-save-requires Inv-loop μ-loop Inv-swaps μ-swaps
 both-moves-save-requires c κs =
@@ -105,23 +93,6 @@ returns-2 c = sym (cell-saves _ _ _ _ _ _ _ _ _ _ _ _ (search needs) (search nee
 pub some-labelling-saves-spec : {M : Type 1} → statement M
 some-labelling-saves-spec =
     tie.close
-    (tie.spec
-    Inv-loop
-    μ-loop
-    Inv-swaps
-    μ-swaps
-    swaps-holds
-    end-by-requires
-    end-by-requires-2
-    loop-holds
-    end-by-requires-3
-    end-by-requires-4
-    both-moves-save-requires
-    add-j
-    loop-less
-    loop-again
-    add-i
-    swaps-less
-    swaps-again
-    returns
-    returns-2)
+    (tie.spec Inv-loop μ-loop Inv-swaps μ-swaps swaps-holds (λ c κs. search needs) (λ c κs. search needs) loop-holds
+    (λ c κs. search needs) (λ c κs. search needs) both-moves-save-requires add-j loop-less loop-again add-i swaps-less
+    swaps-again returns returns-2)

@@ -5,15 +5,9 @@ use Rattle.closings.specs.ClosingTest.{placed?}
 use Rattle.closings.proofs.closing.well_placed.Statement.{statement}
 use Rattle.closings.proofs.closing.well_placed.Tie as tie
 
-has-requires : tie.Need-has-requires
-has-requires c κs = search needs
-
 returns : tie.Need-returns
 unfolding placed?
 returns c = rw (placed?, ← c .before .has .ensures, not-true (c .before .has .result) (c .if1 .taken))
-
-centres-apart-requires : tie.Need-centres-apart-requires
-centres-apart-requires c κs = search needs
 
 returns-2 : tie.Need-returns-2
 unfolding placed?
@@ -21,9 +15,6 @@ returns-2 c =
     let h = c .before .before .before .has in
     let a = c .before .centres-apart in
     rw (placed?, ← h .ensures, not-false (h .result) (c .before .before .if1 .left), ← a .ensures, not-true (a .result) (c .if2 .taken))
-
-has-requires-2 : tie.Need-has-requires-2
-has-requires-2 c κs = search needs
 
 returns-3 : tie.Need-returns-3
 unfolding placed?
@@ -42,4 +33,4 @@ returns-3 c =
 
 pub well-placed-spec : {M : Type 1} → statement M
 well-placed-spec =
-    tie.close (tie.spec has-requires returns centres-apart-requires returns-2 has-requires-2 returns-3)
+    tie.close (tie.spec (λ c κs. search needs) returns (λ c κs. search needs) returns-2 (λ c κs. search needs) returns-3)

@@ -7,27 +7,6 @@ use Rattle.closings.proofs.Savings.{crossing-made}
 use Rattle.closings.proofs.saving.crossing_saving.Statement.{statement}
 use Rattle.closings.proofs.saving.crossing_saving.Tie as tie
 
-label-saving-requires : tie.Need-label-saving-requires
-label-saving-requires c κs = search needs
-
-label-saving-requires-2 : tie.Need-label-saving-requires-2
-label-saving-requires-2 c κs = search needs
-
-label-saving-requires-3 : tie.Need-label-saving-requires-3
-label-saving-requires-3 c κs = search needs
-
-label-saving-requires-4 : tie.Need-label-saving-requires-4
-label-saving-requires-4 c κs = search needs
-
-larger-requires : tie.Need-larger-requires
-larger-requires c κs = search needs
-
-larger-requires-2 : tie.Need-larger-requires-2
-larger-requires-2 c κs = search needs
-
-larger-requires-3 : tie.Need-larger-requires-3
-larger-requires-3 c κs = search needs
-
 returns : tie.Need-returns
 returns c =
     let l = c .before .before .before in
@@ -45,12 +24,5 @@ returns c =
 pub crossing-saving-spec : {M : Type 1} → statement M
 crossing-saving-spec =
     tie.close
-    (tie.spec
-    label-saving-requires
-    label-saving-requires-2
-    label-saving-requires-3
-    label-saving-requires-4
-    larger-requires
-    larger-requires-2
-    larger-requires-3
-    returns)
+    (tie.spec (λ c κs. search needs) (λ c κs. search needs) (λ c κs. search needs) (λ c κs. search needs)
+    (λ c κs. search needs) (λ c κs. search needs) (λ c κs. search needs) returns)

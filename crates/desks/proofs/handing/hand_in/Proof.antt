@@ -16,9 +16,6 @@ at-desk c = sym (c .before .is-desk .ensures) ∙ not-false _ (c .if2 .left)
 returns : tie.Need-returns
 returns c = hand-in-short _ _ _ _ _ _ (c .if1 .taken)
 
-is-desk-requires : tie.Need-is-desk-requires
-is-desk-requires c κs = search needs
-
 returns-2 : tie.Need-returns-2
 returns-2 c = hand-in-nowhere _ _ _ _ _ _ (c .before .before .if1 .left) (sym (c .before .is-desk .ensures) ∙ not-true _ (c .if2 .taken))
 
@@ -28,37 +25,19 @@ cast-number c = omega (arith, desk-within _ (at-desk c) .1)
 has-line-requires : tie.Need-has-line-requires
 has-line-requires c κs = desk-asked _ _ (c .before .before .before .if1 .left) (at-desk (c .before))
 
-same-length : tie.Need-same-length
-same-length c = search needs
-
 returns-3 : tie.Need-returns-3
 returns-3 c = hand-in-busy _ _ _ _ _ _ (c .before .before .before .before .before .if1 .left) (at-desk (c .before .before .before))
     (sym (c .before .has-line .ensures) ∙ c .if3 .taken)
 
-test-sheet-requires : tie.Need-test-sheet-requires
-test-sheet-requires c κs = search needs
-
-enum-known-refusal : tie.Need-enum-known-refusal
-enum-known-refusal c = search needs
-
-enum-told : tie.Need-enum-told
-enum-told c = search needs
-
 set-desk-requires : tie.Need-set-desk-requires
 set-desk-requires c κs = desk-asked _ _ (c .before .before .before .before .before .before .before .before .before .if1 .left)
     (at-desk (c .before .before .before .before .before .before .before))
-
-same-length-2 : tie.Need-same-length-2
-same-length-2 c = search needs
 
 returns-4 : tie.Need-returns-4
 returns-4 c = hand-in-refused _ _ _ _ _ _ (c .before .before .before .before .before .before .before .before .before .if1 .left)
     (at-desk (c .before .before .before .before .before .before .before))
     (sym (c .before .before .before .before .before .has-line .ensures) ∙ c .before .before .before .before .if3 .left)
     (c .before .before .before .test-sheet .ensures) (c .before .refusal .given .1)
-
-same-length-3 : tie.Need-same-length-3
-same-length-3 c = search needs
 
 returns-5 : tie.Need-returns-5
 returns-5 c = hand-in-done _ _ _ _ _ _
@@ -72,19 +51,6 @@ returns-5 c = hand-in-done _ _ _ _ _ _
 pub hand-in-spec : {M : Type 1} → statement M
 hand-in-spec =
     tie.close
-    (tie.spec
-    returns
-    is-desk-requires
-    returns-2
-    cast-number
-    has-line-requires
-    same-length
-    returns-3
-    test-sheet-requires
-    enum-known-refusal
-    enum-told
-    set-desk-requires
-    same-length-2
-    returns-4
-    same-length-3
-    returns-5)
+    (tie.spec returns (λ c κs. search needs) returns-2 cast-number has-line-requires (λ c. search needs) returns-3
+    (λ c κs. search needs) (λ c. search needs) (λ c. search needs) set-desk-requires (λ c. search needs) returns-4
+    (λ c. search needs) returns-5)

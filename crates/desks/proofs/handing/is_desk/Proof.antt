@@ -7,11 +7,8 @@ use Rattle.desks.proofs.handing.is_desk.Tie as tie
 returns : tie.Need-returns
 returns c = desk-zero _ (c .if1 .taken)
 
-cast-result : tie.Need-cast-result
-cast-result c = search needs
-
 returns-2 : tie.Need-returns-2
 returns-2 c = desk-above _ (c .if1 .left)
 
 pub is-desk-spec : {M : Type 1} → statement M
-is-desk-spec = tie.close (tie.spec returns cast-result returns-2)
+is-desk-spec = tie.close (tie.spec returns (λ c. search needs) returns-2)

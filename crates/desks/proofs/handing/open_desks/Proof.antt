@@ -7,18 +7,9 @@ use Rattle.desks.proofs.handing.open_desks.Tie as tie
 returns : tie.Need-returns
 returns c = open-short (c .if1 .taken)
 
-slice-aggregate-encode16 : tie.Need-slice-aggregate-encode16
-slice-aggregate-encode16 c = search needs
-
-encode16-requires : tie.Need-encode16-requires
-encode16-requires c κs = search needs
-
-same-length : tie.Need-same-length
-same-length c = search needs
-
 returns-2 : tie.Need-returns-2
 returns-2 c = open-done (c .before .before .before .before .before .if1 .left) (c .before .before .encode16 .ensures)
 
 pub open-desks-spec : {M : Type 1} → statement M
 open-desks-spec =
-    tie.close (tie.spec returns slice-aggregate-encode16 encode16-requires same-length returns-2)
+    tie.close (tie.spec returns (λ c. search needs) (λ c κs. search needs) (λ c. search needs) returns-2)

@@ -6,29 +6,8 @@ use borrow.Author.Needs.{needs}
 use Rattle.desks.proofs.handing.test_sheet.Statement.{statement}
 use Rattle.desks.proofs.handing.test_sheet.Tie as tie
 
-test-ready-requires : tie.Need-test-ready-requires
-test-ready-requires c κs = search needs
-
-enum-known-number : tie.Need-enum-known-number
-enum-known-number c = search needs
-
 returns : tie.Need-returns
 returns c = sheet-untested _ _ _ _ (c .before .before .before .test-ready .ensures) (c .before .number .given .1)
-
-enum-told : tie.Need-enum-told
-enum-told c = search needs
-
-count16-requires : tie.Need-count16-requires
-count16-requires c κs = search needs
-
-admit-requires : tie.Need-admit-requires
-admit-requires c κs = search needs
-
-enum-told-2 : tie.Need-enum-told-2
-enum-told-2 c = search needs
-
-enum-told-3 : tie.Need-enum-told-3
-enum-told-3 c = search needs
 
 returns-2 : tie.Need-returns-2
 returns-2 c = sheet-refuses _ _ _ _ (c .before .before .before .before .before .before .test-ready .ensures)
@@ -43,14 +22,5 @@ returns-3 c = sheet-passes _ _ _ _ (c .before .before .before .before .before .b
 pub test-sheet-spec : {M : Type 1} → statement M
 test-sheet-spec =
     tie.close
-    (tie.spec
-    test-ready-requires
-    enum-known-number
-    returns
-    enum-told
-    count16-requires
-    admit-requires
-    enum-told-2
-    enum-told-3
-    returns-2
-    returns-3)
+    (tie.spec (λ c κs. search needs) (λ c. search needs) returns (λ c. search needs) (λ c κs. search needs)
+    (λ c κs. search needs) (λ c. search needs) (λ c. search needs) returns-2 returns-3)

@@ -5,12 +5,9 @@ use borrow.Author.Needs.{needs}
 use Rattle.desks.proofs.state.following.Statement.{statement}
 use Rattle.desks.proofs.state.following.Tie as tie
 
-add-result : tie.Need-add-result
-add-result c = search needs
-
 returns : tie.Need-returns
 unfolding following
 returns c = refl
 
 pub following-spec : {M : Type 1} → statement M
-following-spec = tie.close (tie.spec add-result returns)
+following-spec = tie.close (tie.spec (λ c. search needs) returns)

@@ -7,11 +7,8 @@ use Rattle.desks.proofs.state.next_desk.Tie as tie
 returns : tie.Need-returns
 returns c = next-short _ (c .if1 .taken)
 
-next-of-requires : tie.Need-next-of-requires
-next-of-requires c κs = search needs
-
 returns-2 : tie.Need-returns-2
 returns-2 c = next-told _ (c .before .if1 .left) (c .next-of .ensures)
 
 pub next-desk-spec : {M : Type 1} → statement M
-next-desk-spec = tie.close (tie.spec returns next-of-requires returns-2)
+next-desk-spec = tie.close (tie.spec returns (λ c κs. search needs) returns-2)

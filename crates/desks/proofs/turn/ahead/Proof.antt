@@ -5,20 +5,11 @@ use borrow.Author.Needs.{needs}
 use Rattle.desks.proofs.turn.ahead.Statement.{statement}
 use Rattle.desks.proofs.turn.ahead.Tie as tie
 
-accepted-requires : tie.Need-accepted-requires
-accepted-requires c κs = search needs
-
 returns : tie.Need-returns
 returns c = c .accepted .ensures ∙ ahead-ends _ _ _ _ _ (c .before .if1 .taken)
 
-stopped-requires : tie.Need-stopped-requires
-stopped-requires c κs = search needs
-
 returns-2 : tie.Need-returns-2
 returns-2 c = c .stopped .ensures ∙ ahead-8 _ _ _ _ _ (c .before .before .if1 .left) (c .before .if2 .taken)
-
-stopped-requires-2 : tie.Need-stopped-requires-2
-stopped-requires-2 c κs = search needs
 
 returns-3 : tie.Need-returns-3
 returns-3 c = c .stopped2 .ensures
@@ -30,11 +21,5 @@ returns-4 c = ahead-waits _ _ _ _ _ (c .before .before .if1 .left) (c .before .i
 pub ahead-spec : {M : Type 1} → statement M
 ahead-spec =
     tie.close
-    (tie.spec
-    accepted-requires
-    returns
-    stopped-requires
-    returns-2
-    stopped-requires-2
-    returns-3
+    (tie.spec (λ c κs. search needs) returns (λ c κs. search needs) returns-2 (λ c κs. search needs) returns-3
     returns-4)

@@ -18,26 +18,11 @@ abbrev μ-loop : tie.MeasureT-loop
 loop-holds : tie.Need-loop-holds Inv-loop μ-loop
 loop-holds c = encoding-start (c .before .before .pre)
 
-mul-put16 : tie.Need-mul-put16 Inv-loop μ-loop
-mul-put16 c = search needs
-
-shared-slice-read-put16 : tie.Need-shared-slice-read-put16 Inv-loop μ-loop
-shared-slice-read-put16 c = search needs
-
 put16-requires : tie.Need-put16-requires Inv-loop μ-loop
 put16-requires c κs = record { inside = omega (arith, c .before .before .before .loop .inv, c .before .before .loop-test .taken) }
 
-add-i : tie.Need-add-i Inv-loop μ-loop
-add-i c = search needs
-
-loop-less : tie.Need-loop-less Inv-loop μ-loop
-loop-less c = search needs
-
 loop-again : tie.Need-loop-again Inv-loop μ-loop
 loop-again c = encoding-on (c .before .before .before .before .before .before .loop .inv) (c .before .before .before .before .before .loop-test .taken) refl (c .before .before .put16 .ensures)
-
-same-length : tie.Need-same-length Inv-loop μ-loop
-same-length c = search needs
 
 returns : tie.Need-returns Inv-loop μ-loop
 returns c = all-encoded (c .before .loop .inv) (c .loop-test .left)
@@ -45,4 +30,5 @@ returns c = all-encoded (c .before .loop .inv) (c .loop-test .left)
 pub encode16-spec : {M : Type 1} → statement M
 encode16-spec =
     tie.close
-    (tie.spec Inv-loop μ-loop loop-holds mul-put16 shared-slice-read-put16 put16-requires add-i loop-less loop-again same-length returns)
+    (tie.spec Inv-loop μ-loop loop-holds (λ c. search needs) (λ c. search needs) put16-requires (λ c. search needs)
+    (λ c. search needs) loop-again (λ c. search needs) returns)

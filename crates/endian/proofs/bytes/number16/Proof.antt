@@ -11,23 +11,11 @@ mul-start c = omega (arith, inside16 _ _ (c .before .pre))
 shared-slice-read-byte16 : tie.Need-shared-slice-read-byte16
 shared-slice-read-byte16 c = omega (arith, inside16 _ _ (c .before .before .pre))
 
-byte16-requires : tie.Need-byte16-requires
-byte16-requires c κs = search needs
-
 add-byte16 : tie.Need-add-byte16
 add-byte16 c = omega (arith, inside16 _ _ (c .before .before .before .pre))
 
 shared-slice-read-byte16-2 : tie.Need-shared-slice-read-byte16-2
 shared-slice-read-byte16-2 c = omega (arith, inside16 _ _ (c .before .before .before .before .pre))
-
-byte16-requires-2 : tie.Need-byte16-requires-2
-byte16-requires-2 c κs = search needs
-
-mul-result : tie.Need-mul-result
-mul-result c = search needs
-
-add-result : tie.Need-add-result
-add-result c = search needs
 
 returns : tie.Need-returns
 returns c = entry16 _ _ (c .before .before .before .before .before .pre) (c .before .before .byte16 .ensures) (c .byte162 .ensures)
@@ -35,13 +23,5 @@ returns c = entry16 _ _ (c .before .before .before .before .before .pre) (c .bef
 pub number16-spec : {M : Type 1} → statement M
 number16-spec =
     tie.close
-    (tie.spec
-    mul-start
-    shared-slice-read-byte16
-    byte16-requires
-    add-byte16
-    shared-slice-read-byte16-2
-    byte16-requires-2
-    mul-result
-    add-result
-    returns)
+    (tie.spec mul-start shared-slice-read-byte16 (λ c κs. search needs) add-byte16 shared-slice-read-byte16-2
+    (λ c κs. search needs) (λ c. search needs) (λ c. search needs) returns)

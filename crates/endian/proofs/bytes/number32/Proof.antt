@@ -11,23 +11,11 @@ mul-start c = omega (arith, inside32 _ _ (c .before .pre))
 shared-slice-read-byte : tie.Need-shared-slice-read-byte
 shared-slice-read-byte c = omega (arith, inside32 _ _ (c .before .before .pre))
 
-byte-requires : tie.Need-byte-requires
-byte-requires c κs = search needs
-
 add-byte : tie.Need-add-byte
 add-byte c = omega (arith, inside32 _ _ (c .before .before .before .pre))
 
 shared-slice-read-byte-2 : tie.Need-shared-slice-read-byte-2
 shared-slice-read-byte-2 c = omega (arith, inside32 _ _ (c .before .before .before .before .pre))
-
-byte-requires-2 : tie.Need-byte-requires-2
-byte-requires-2 c κs = search needs
-
-mul-result : tie.Need-mul-result
-mul-result c = search needs
-
-add-result : tie.Need-add-result
-add-result c = search needs
 
 add-byte-2 : tie.Need-add-byte-2
 add-byte-2 c = omega (arith, inside32 _ _ (c .before .before .before .before .before .pre))
@@ -35,29 +23,11 @@ add-byte-2 c = omega (arith, inside32 _ _ (c .before .before .before .before .be
 shared-slice-read-byte-3 : tie.Need-shared-slice-read-byte-3
 shared-slice-read-byte-3 c = omega (arith, inside32 _ _ (c .before .before .before .before .before .before .pre))
 
-byte-requires-3 : tie.Need-byte-requires-3
-byte-requires-3 c κs = search needs
-
-mul-result-2 : tie.Need-mul-result-2
-mul-result-2 c = search needs
-
-add-result-2 : tie.Need-add-result-2
-add-result-2 c = search needs
-
 add-byte-3 : tie.Need-add-byte-3
 add-byte-3 c = omega (arith, inside32 _ _ (c .before .before .before .before .before .before .before .pre))
 
 shared-slice-read-byte-4 : tie.Need-shared-slice-read-byte-4
 shared-slice-read-byte-4 c = omega (arith, inside32 _ _ (c .before .before .before .before .before .before .before .before .pre))
-
-byte-requires-4 : tie.Need-byte-requires-4
-byte-requires-4 c κs = search needs
-
-mul-result-3 : tie.Need-mul-result-3
-mul-result-3 c = search needs
-
-add-result-3 : tie.Need-add-result-3
-add-result-3 c = search needs
 
 returns : tie.Need-returns
 returns c = entry32 _ _ (c .before .before .before .before .before .before .before .before .before .pre) (c .before .before .before .before .before .before .byte .ensures) (c .before .before .before .before .byte2 .ensures) (c .before .before .byte3 .ensures) (c .byte4 .ensures)
@@ -65,23 +35,7 @@ returns c = entry32 _ _ (c .before .before .before .before .before .before .befo
 pub number32-spec : {M : Type 1} → statement M
 number32-spec =
     tie.close
-    (tie.spec
-    mul-start
-    shared-slice-read-byte
-    byte-requires
-    add-byte
-    shared-slice-read-byte-2
-    byte-requires-2
-    mul-result
-    add-result
-    add-byte-2
-    shared-slice-read-byte-3
-    byte-requires-3
-    mul-result-2
-    add-result-2
-    add-byte-3
-    shared-slice-read-byte-4
-    byte-requires-4
-    mul-result-3
-    add-result-3
-    returns)
+    (tie.spec mul-start shared-slice-read-byte (λ c κs. search needs) add-byte shared-slice-read-byte-2
+    (λ c κs. search needs) (λ c. search needs) (λ c. search needs) add-byte-2 shared-slice-read-byte-3
+    (λ c κs. search needs) (λ c. search needs) (λ c. search needs) add-byte-3 shared-slice-read-byte-4
+    (λ c κs. search needs) (λ c. search needs) (λ c. search needs) returns)

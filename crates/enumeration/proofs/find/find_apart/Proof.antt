@@ -16,17 +16,8 @@ abbrev μ-loop : tie.MeasureT-loop
 loop-holds : tie.Need-loop-holds Inv-loop μ-loop
 loop-holds c = let s = c .before .before .args in rows-start (passesApart? (s .n) (whole32 (s .table .now)) (s .legs .now) (s .bound) (s .low) (s .high)) (c .before .before .pre)
 
-barred-in-requires : tie.Need-barred-in-requires Inv-loop μ-loop
-barred-in-requires c κs = search needs
-
 find-in-row-requires : tie.Need-find-in-row-requires Inv-loop μ-loop
 find-in-row-requires c κs = rows-row (c .before .before .before .before .before .before .pre) (c .before .before .before .loop .inv) (c .before .before .loop-test .taken)
-
-add-x : tie.Need-add-x Inv-loop μ-loop
-add-x c = search needs
-
-loop-less : tie.Need-loop-less Inv-loop μ-loop
-loop-less c = search needs
 
 loop-again : tie.Need-loop-again Inv-loop μ-loop
 loop-again c = apart-on (c .before .before .before .before .before .before .before .before .before .args .low) (c .before .before .before .before .before .before .before .before .before .args .high) (c .before .before .before .before .before .before .before .before .before .pre) (c .before .before .before .before .before .before .loop .inv) (c .before .before .before .before .before .loop-test .taken) (c .before .before .before .before .barred-in .ensures) (c .before .before .find-in-row .ensures)
@@ -38,4 +29,4 @@ returns : tie.Need-returns Inv-loop μ-loop
 returns c = rows-done (c .before .before .before .before .pre) (c .before .loop .inv) (c .loop-test .left)
 
 pub find-apart-spec : {M : Type 1} → statement M
-find-apart-spec = tie.close (tie.spec Inv-loop μ-loop loop-holds barred-in-requires find-in-row-requires add-x loop-less loop-again same-length returns)
+find-apart-spec = tie.close (tie.spec Inv-loop μ-loop loop-holds (λ c κs. search needs) find-in-row-requires (λ c. search needs) (λ c. search needs) loop-again same-length returns)

@@ -5,23 +5,14 @@ use Rattle.enumeration.proofs.AtEnd.{end-done}
 use Rattle.enumeration.proofs.find.find_at_end.Statement.{statement}
 use Rattle.enumeration.proofs.find.find_at_end.Tie as tie
 
-find-below-requires : tie.Need-find-below-requires
-find-below-requires c κs = search needs
-
 find-in-row-requires : tie.Need-find-in-row-requires
 find-in-row-requires c κs = rows-row (c .before .before .before .before .before .before .before .before .pre .asked) (c .before .before .before .before .find-below .ensures) (c .before .if1 .taken)
 
-same-length : tie.Need-same-length
-same-length c = search needs
-
 returns : tie.Need-returns
 returns c = end-done (c .before .before .before .before .before .before .before .before .before .before .before .pre) (c .before .before .before .before .before .before .before .find-below .ensures) (c .before .before .before .before .if1 .taken) (c .before .before .find-in-row .ensures)
-
-same-length-2 : tie.Need-same-length-2
-same-length-2 c = search needs
 
 returns-2 : tie.Need-returns-2
 returns-2 c = rows-done (c .before .before .before .before .before .before .before .pre .asked) (c .before .before .before .find-below .ensures) (c .if1 .left)
 
 pub find-at-end-spec : {M : Type 1} → statement M
-find-at-end-spec = tie.close (tie.spec find-below-requires find-in-row-requires same-length returns same-length-2 returns-2)
+find-at-end-spec = tie.close (tie.spec (λ c κs. search needs) find-in-row-requires (λ c. search needs) returns (λ c. search needs) returns-2)

@@ -16,12 +16,6 @@ Inv-loop n table legs bound other found₀ cost count₀ x₀ found count x = Be
 abbrev μ-loop : tie.MeasureT-loop
 μ-loop n table legs bound other found₀ cost count₀ x₀ found count x = other - x
 
-mul-cost : tie.Need-mul-cost Inv-loop μ-loop
-mul-cost c = search needs
-
-element-copy-out-cost : tie.Need-element-copy-out-cost Inv-loop μ-loop
-element-copy-out-cost c = search needs
-
 add-cost : tie.Need-add-cost Inv-loop μ-loop
 add-cost c = omega (arith, c .before .before .before .pre .asked .bounded .list .at-most-far (c .before .before .before .args .other))
 
@@ -30,9 +24,6 @@ loop-holds c = below-start (c .before .before .before .pre)
 
 length-between-requires : tie.Need-length-between-requires Inv-loop μ-loop
 length-between-requires c κs = below-spans (c .before .loop .inv) (c .loop-test .taken)
-
-cast-length : tie.Need-cast-length Inv-loop μ-loop
-cast-length c = search needs
 
 cast-at : tie.Need-cast-at Inv-loop μ-loop
 cast-at c = omega (arith, below-room (c .before .before .loop .inv) (c .before .loop-test .taken))
@@ -55,32 +46,14 @@ mul-found-2 c = omega (arith, below-room (c .before .before .loop .inv) (c .befo
 slice-write-found-2 : tie.Need-slice-write-found-2 Inv-loop μ-loop
 slice-write-found-2 c = lt-length-set (c .before .before .loop .found) (2 * c .before .before .loop .count) (c .before .before .loop .x) (below-room (c .before .before .loop .inv) (c .before .loop-test .taken) .1)
 
-cast-kept : tie.Need-cast-kept Inv-loop μ-loop
-cast-kept c = search needs
-
-mul-kept : tie.Need-mul-kept Inv-loop μ-loop
-mul-kept c = search needs
-
-element-copy-out-kept : tie.Need-element-copy-out-kept Inv-loop μ-loop
-element-copy-out-kept c = search needs
-
 add-kept : tie.Need-add-kept Inv-loop μ-loop
 add-kept c = omega (arith, c .before .before .before .before .before .before .before .pre .asked .bounded .list .at-most-far (c .before .before .before .before .before .before .before .args .other), c .before .before .before .before .before .before .before .pre .asked .bounded .list .at-most-far (c .before .before .before .loop .x))
 
 add-kept-2 : tie.Need-add-kept-2 Inv-loop μ-loop
 add-kept-2 c = omega (arith, length-small (c .before .before .before .before .before .before .before .pre .asked .lengths) (c .before .before .before .loop .x) (c .before .before .before .before .before .before .before .args .other), c .before .length-between .ensures .at, c .before .before .before .before .before .before .before .pre .asked .bounded .tight)
 
-kept-requires : tie.Need-kept-requires Inv-loop μ-loop
-kept-requires c κs = search needs
-
 add-count : tie.Need-add-count Inv-loop μ-loop
 add-count c = omega (arith, below-room (c .before .before .before .before .loop .inv) (c .before .before .before .loop-test .taken), below-more (c .before .before .before .before .loop .inv) (c .before .before .before .loop-test .taken) (c .before .before .length-between .ensures) (c .kept .ensures))
-
-add-x : tie.Need-add-x Inv-loop μ-loop
-add-x c = search needs
-
-loop-less : tie.Need-loop-less Inv-loop μ-loop
-loop-less c = search needs
 
 loop-again : tie.Need-loop-again Inv-loop μ-loop
 loop-again c = below-on (c .before .before .before .before .loop .inv) (c .before .before .before .loop-test .taken) (c .before .before .length-between .ensures) (c .kept .ensures)
@@ -94,31 +67,7 @@ returns c = below-end (c .before .loop .inv) (c .loop-test .left)
 pub find-below-spec : {M : Type 1} → statement M
 find-below-spec =
     tie.close
-    (tie.spec
-    Inv-loop
-    μ-loop
-    mul-cost
-    element-copy-out-cost
-    add-cost
-    loop-holds
-    length-between-requires
-    cast-length
-    cast-at
-    mul-at
-    mul-found
-    slice-write-found
-    add-found
-    mul-found-2
-    slice-write-found-2
-    cast-kept
-    mul-kept
-    element-copy-out-kept
-    add-kept
-    add-kept-2
-    kept-requires
-    add-count
-    add-x
-    loop-less
-    loop-again
-    same-length
-    returns)
+    (tie.spec Inv-loop μ-loop (λ c. search needs) (λ c. search needs) add-cost loop-holds length-between-requires
+    (λ c. search needs) cast-at mul-at mul-found slice-write-found add-found mul-found-2 slice-write-found-2
+    (λ c. search needs) (λ c. search needs) (λ c. search needs) add-kept add-kept-2 (λ c κs. search needs) add-count
+    (λ c. search needs) (λ c. search needs) loop-again same-length returns)

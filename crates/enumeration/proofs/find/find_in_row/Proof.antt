@@ -15,29 +15,14 @@ Inv-loop n table legs bound x barred found₀ before leg cost first start left s
 abbrev μ-loop : tie.MeasureT-loop
 μ-loop n table legs bound x barred found₀ before leg cost first start left skip count₀ i₀ found count i = n - x - i
 
-mul-leg : tie.Need-mul-leg Inv-loop μ-loop
-mul-leg c = search needs
-
-element-copy-out-leg : tie.Need-element-copy-out-leg Inv-loop μ-loop
-element-copy-out-leg c = search needs
-
 returns : tie.Need-returns Inv-loop μ-loop
 returns c = row-far (c .before .before .before .before .args .barred) (c .before .before .before .before .pre) (c .if1 .taken)
 
 add-cost : tie.Need-add-cost Inv-loop μ-loop
 add-cost c = omega (arith, c .before .before .before .before .pre .bounded .list .at-most-far (c .before .before .before .before .args .x))
 
-add-place : tie.Need-add-place Inv-loop μ-loop
-add-place c = search needs
-
 place-requires : tie.Need-place-requires Inv-loop μ-loop
 place-requires c κs = row-edge (c .before .before .before .before .pre)
-
-add-start : tie.Need-add-start Inv-loop μ-loop
-add-start c = search needs
-
-sub-left : tie.Need-sub-left Inv-loop μ-loop
-sub-left c = search needs
 
 loop-holds : tie.Need-loop-holds Inv-loop μ-loop
 loop-holds c = rowing-start (c .before .before .before .before .before .args .barred) (c .before .before .before .before .before .pre) (c .place .ensures .at)
@@ -48,17 +33,11 @@ cast-at c = omega (arith, has-room (c .before .loop .inv) (c .loop-test .taken))
 mul-at : tie.Need-mul-at Inv-loop μ-loop
 mul-at c = omega (arith, has-room (c .before .loop .inv) (c .loop-test .taken))
 
-add-z : tie.Need-add-z Inv-loop μ-loop
-add-z c = search needs
-
 mul-found : tie.Need-mul-found Inv-loop μ-loop
 mul-found c = omega (arith, has-room (c .before .loop .inv) (c .loop-test .taken))
 
 slice-write-found : tie.Need-slice-write-found Inv-loop μ-loop
 slice-write-found c = omega (arith, has-room (c .before .loop .inv) (c .loop-test .taken))
-
-cast-found : tie.Need-cast-found Inv-loop μ-loop
-cast-found c = search needs
 
 add-found : tie.Need-add-found Inv-loop μ-loop
 add-found c = omega (arith, has-room (c .before .loop .inv) (c .loop-test .taken))
@@ -68,12 +47,6 @@ mul-found-2 c = omega (arith, has-room (c .before .loop .inv) (c .loop-test .tak
 
 slice-write-found-2 : tie.Need-slice-write-found-2 Inv-loop μ-loop
 slice-write-found-2 c = lt-length-set (c .before .loop .found) (2 * c .before .loop .count) (c .before .before .before .before .before .before .before .args .x) (has-room (c .before .loop .inv) (c .loop-test .taken) .1)
-
-mul-kept : tie.Need-mul-kept Inv-loop μ-loop
-mul-kept c = search needs
-
-element-copy-out-kept : tie.Need-element-copy-out-kept Inv-loop μ-loop
-element-copy-out-kept c = search needs
 
 add-kept : tie.Need-add-kept Inv-loop μ-loop
 add-kept c = omega (arith, c .before .before .before .before .before .before .before .before .pre .bounded .list .at-most-far (c .before .before .before .before .before .before .before .before .args .x), c .before .before .before .before .before .before .before .before .pre .bounded .list .at-most-far (c .before .before .before .before .before .before .before .before .args .x + 1 + c .before .before .loop .i))
@@ -87,17 +60,8 @@ number32-requires c κs = in-table (c .before .before .loop .inv) (c .before .lo
 add-kept-2 : tie.Need-add-kept-2 Inv-loop μ-loop
 add-kept-2 c = omega (arith, c .number32 .ensures, c .before .before .before .before .before .before .before .before .before .pre .lengths .small (c .before .before .before .before .place .result + c .before .before .before .loop .i), c .before .before .before .before .before .before .before .before .before .pre .bounded .tight)
 
-kept-requires : tie.Need-kept-requires Inv-loop μ-loop
-kept-requires c κs = search needs
-
 add-count : tie.Need-add-count Inv-loop μ-loop
 add-count c = omega (arith, has-room (c .before .before .before .before .loop .inv) (c .before .before .before .loop-test .taken), one-more (c .before .before .before .before .loop .inv) (c .before .before .before .loop-test .taken) (c .before .number32 .result) (c .kept .ensures))
-
-add-i : tie.Need-add-i Inv-loop μ-loop
-add-i c = search needs
-
-loop-less : tie.Need-loop-less Inv-loop μ-loop
-loop-less c = search needs
 
 loop-again : tie.Need-loop-again Inv-loop μ-loop
 loop-again c = rowing-on (c .before .before .before .before .loop .inv) (c .before .before .before .loop-test .taken) (c .before .number32 .ensures) (c .kept .ensures)
@@ -111,37 +75,8 @@ returns-2 c = rowing-end (c .before .loop .inv) (c .loop-test .left)
 pub find-in-row-spec : {M : Type 1} → statement M
 find-in-row-spec =
     tie.close
-    (tie.spec
-    Inv-loop
-    μ-loop
-    mul-leg
-    element-copy-out-leg
-    returns
-    add-cost
-    add-place
-    place-requires
-    add-start
-    sub-left
-    loop-holds
-    cast-at
-    mul-at
-    add-z
-    mul-found
-    slice-write-found
-    cast-found
-    add-found
-    mul-found-2
-    slice-write-found-2
-    mul-kept
-    element-copy-out-kept
-    add-kept
-    add-number32
-    number32-requires
-    add-kept-2
-    kept-requires
-    add-count
-    add-i
-    loop-less
-    loop-again
-    same-length
-    returns-2)
+    (tie.spec Inv-loop μ-loop (λ c. search needs) (λ c. search needs) returns add-cost (λ c. search needs)
+    place-requires (λ c. search needs) (λ c. search needs) loop-holds cast-at mul-at (λ c. search needs) mul-found
+    slice-write-found (λ c. search needs) add-found mul-found-2 slice-write-found-2 (λ c. search needs)
+    (λ c. search needs) add-kept add-number32 number32-requires add-kept-2 (λ c κs. search needs) add-count
+    (λ c. search needs) (λ c. search needs) loop-again same-length returns-2)

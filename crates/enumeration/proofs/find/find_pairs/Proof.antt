@@ -4,17 +4,11 @@ use Rattle.enumeration.proofs.Choice.{single-asked, prepared-single, fi
 use Rattle.enumeration.proofs.find.find_pairs.Statement.{statement}
 use Rattle.enumeration.proofs.find.find_pairs.Tie as tie
 
-single-requires : tie.Need-single-requires
-single-requires c κs = search needs
-
 prepare-single-requires : tie.Need-prepare-single-requires
 prepare-single-requires c κs = single-asked (c .before .before .before .before .before .pre) (c .single .ensures)
 
 find-at-end-requires : tie.Need-find-at-end-requires
 find-at-end-requires c κs = record { asked = search needs; point = c .before .before .before .before .before .before .before .before .before .before .pre .second }
-
-same-length : tie.Need-same-length
-same-length c = search needs
 
 returns : tie.Need-returns
 returns c = first-found (c .before .before .before .before .before .before .before .before .before .before .before .before .before .pre) (prepared-single (c .before .before .before .before .before .before .before .before .single .ensures) (c .before .before .before .before .before .before .before .prepare-single .ensures)) (c .before .before .before .before .before .if1 .taken) (c .before .before .find-at-end .ensures)
@@ -22,26 +16,11 @@ returns c = first-found (c .before .before .before .before .before .before .befo
 find-at-end-requires-2 : tie.Need-find-at-end-requires-2
 find-at-end-requires-2 c κs = record { asked = search needs; point = c .before .before .before .before .before .before .before .before .before .before .before .pre .first }
 
-same-length-2 : tie.Need-same-length-2
-same-length-2 c = search needs
-
 returns-2 : tie.Need-returns-2
 returns-2 c = second-found (c .before .before .before .before .before .before .before .before .before .before .before .before .before .before .pre) (prepared-single (c .before .before .before .before .before .before .before .before .before .single .ensures) (c .before .before .before .before .before .before .before .before .prepare-single .ensures)) (c .before .before .before .before .before .if2 .taken) (c .before .before .find-at-end2 .ensures)
 
-find-apart-requires : tie.Need-find-apart-requires
-find-apart-requires c κs = search needs
-
-same-length-3 : tie.Need-same-length-3
-same-length-3 c = search needs
-
 returns-3 : tie.Need-returns-3
 returns-3 c = apart-up (c .before .before .before .before .before .before .before .before .before .before .before .before .before .before .before .pre) (prepared-single (c .before .before .before .before .before .before .before .before .before .before .single .ensures) (c .before .before .before .before .before .before .before .before .before .prepare-single .ensures)) (c .before .before .before .before .before .before .before .if1 .left) (c .before .before .before .before .before .before .if2 .left) (c .before .before .before .before .before .if3 .taken) (c .before .before .find-apart .ensures)
-
-find-apart-requires-2 : tie.Need-find-apart-requires-2
-find-apart-requires-2 c κs = search needs
-
-same-length-4 : tie.Need-same-length-4
-same-length-4 c = search needs
 
 returns-4 : tie.Need-returns-4
 returns-4 c = apart-down (c .before .before .before .before .before .before .before .before .before .before .before .before .before .before .before .pre) (prepared-single (c .before .before .before .before .before .before .before .before .before .before .single .ensures) (c .before .before .before .before .before .before .before .before .before .prepare-single .ensures)) (c .before .before .before .before .before .before .before .if1 .left) (c .before .before .before .before .before .before .if2 .left) (c .before .before .before .before .before .if3 .left) (c .before .before .find-apart2 .ensures)
@@ -49,18 +28,6 @@ returns-4 c = apart-down (c .before .before .before .before .before .before .bef
 pub find-pairs-spec : {M : Type 1} → statement M
 find-pairs-spec =
     tie.close
-    (tie.spec
-    single-requires
-    prepare-single-requires
-    find-at-end-requires
-    same-length
-    returns
-    find-at-end-requires-2
-    same-length-2
-    returns-2
-    find-apart-requires
-    same-length-3
-    returns-3
-    find-apart-requires-2
-    same-length-4
-    returns-4)
+    (tie.spec (λ c κs. search needs) prepare-single-requires find-at-end-requires (λ c. search needs) returns
+    find-at-end-requires-2 (λ c. search needs) returns-2 (λ c κs. search needs) (λ c. search needs) returns-3
+    (λ c κs. search needs) (λ c. search needs) returns-4)

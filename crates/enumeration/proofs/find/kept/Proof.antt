@@ -6,11 +6,8 @@ use Rattle.enumeration.proofs.Writing.{byte-ones}
 use Rattle.enumeration.proofs.find.kept.Statement.{statement}
 use Rattle.enumeration.proofs.find.kept.Tie as tie
 
-cast-result : tie.Need-cast-result
-cast-result c = search needs
-
 returns : tie.Need-returns
 returns c = byte-ones (leb (c .args .cost) (c .args .most) && not (eqb (c .args .z) (c .args .barred)))
 
 pub kept-spec : {M : Type 1} → statement M
-kept-spec = tie.close (tie.spec cast-result returns)
+kept-spec = tie.close (tie.spec (λ c. search needs) returns)

@@ -4,24 +4,6 @@ use borrow.Author.Needs.{needs}
 use Rattle.lengths.proofs.distance.gap_distance.Statement.{statement}
 use Rattle.lengths.proofs.distance.gap_distance.Tie as tie
 
-enum-told : tie.Need-enum-told
-enum-told c = search needs
-
-add-result : tie.Need-add-result
-add-result c = search needs
-
-enum-told-2 : tie.Need-enum-told-2
-enum-told-2 c = search needs
-
-larger-requires : tie.Need-larger-requires
-larger-requires c κs = search needs
-
-enum-known-rule : tie.Need-enum-known-rule
-enum-known-rule c = search needs
-
-rooted-requires : tie.Need-rooted-requires
-rooted-requires c κs = search needs
-
 returns : tie.Need-returns
 unfolding gapDistance
 returns c = record { at = rw (c .enum-told .given .1); bits = search needs }
@@ -37,13 +19,5 @@ returns-3 c = record { at = rw (c .before .before .rule .given .1) (c .rooted .e
 pub gap-distance-spec : {M : Type 1} → statement M
 gap-distance-spec =
     tie.close
-    (tie.spec
-    enum-told
-    add-result
-    enum-told-2
-    larger-requires
-    enum-known-rule
-    rooted-requires
-    returns
-    returns-2
-    returns-3)
+    (tie.spec (λ c. search needs) (λ c. search needs) (λ c. search needs) (λ c κs. search needs) (λ c. search needs)
+    (λ c κs. search needs) returns returns-2 returns-3)

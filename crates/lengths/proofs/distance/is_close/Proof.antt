@@ -11,17 +11,8 @@ returns c = λ t. absurd (true≢false (sym t))
 returns-2 : tie.Need-returns-2
 returns-2 c = λ t. absurd (true≢false (sym t))
 
-test-requires : tie.Need-test-requires
-test-requires c κs = search needs
-
 returns-3 : tie.Need-returns-3
 returns-3 c = λ t. absurd (true≢false (sym t))
-
-add-test : tie.Need-add-test
-add-test c = search needs
-
-test-requires-2 : tie.Need-test-requires-2
-test-requires-2 c κs = search needs
 
 returns-4 : tie.Need-returns-4
 returns-4 c = λ t. record {
@@ -34,4 +25,4 @@ returns-4 c = λ t. record {
 pub is-close-spec : {M : Type 1} → statement M
 is-close-spec =
     tie.close
-    (tie.spec returns returns-2 test-requires returns-3 add-test test-requires-2 returns-4)
+    (tie.spec returns returns-2 (λ c κs. search needs) returns-3 (λ c. search needs) (λ c κs. search needs) returns-4)

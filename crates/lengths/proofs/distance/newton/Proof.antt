@@ -5,9 +5,6 @@ use borrow.Author.Needs.{needs}
 use Rattle.lengths.proofs.distance.newton.Statement.{statement}
 use Rattle.lengths.proofs.distance.newton.Tie as tie
 
-div-result : tie.Need-div-result
-div-result c = search needs
-
 add-result : tie.Need-add-result
 add-result c = record { fits = omega (arith, c .pre, div-le-self (c .args .s) (c .args .x)) }
 
@@ -15,4 +12,4 @@ returns : tie.Need-returns
 returns c = omega (arith, c .pre, div-le-self (c .args .s) (c .args .x))
 
 pub newton-spec : {M : Type 1} → statement M
-newton-spec = tie.close (tie.spec div-result add-result returns)
+newton-spec = tie.close (tie.spec (λ c. search needs) add-result returns)

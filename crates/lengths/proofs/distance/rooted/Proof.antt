@@ -21,25 +21,13 @@ add-s : tie.Need-add-s
 unfolding squares
 add-s c = record { fits = omega (arith, squares-small (c .pre .0) (c .pre .1)) }
 
-estimate-requires : tie.Need-estimate-requires
-estimate-requires c κs = search needs
-
-enum-told : tie.Need-enum-told
-enum-told c = search needs
-
 rounded-requires : tie.Need-rounded-requires
 unfolding squares
 rounded-requires c κs = (squares-small (c .before .before .before .pre .0) (c .before .before .before .pre .1), c .before .before .estimate .ensures)
 
-enum-told-2 : tie.Need-enum-told-2
-enum-told-2 c = search needs
-
 rounded-requires-2 : tie.Need-rounded-requires-2
 unfolding squares
 rounded-requires-2 c κs = (squares-small (c .before .before .before .pre .0) (c .before .before .before .pre .1), c .before .before .estimate .ensures)
-
-enum-told-3 : tie.Need-enum-told-3
-enum-told-3 c = search needs
 
 add-rounded : tie.Need-add-rounded
 unfolding squares
@@ -67,19 +55,5 @@ returns-3 c = rw (c .before .enum-told3 .given .1) (record { at = c .rounded3 .e
 pub rooted-spec : {M : Type 1} → statement M
 rooted-spec =
     tie.close
-    (tie.spec
-    mul-s
-    mul-s-2
-    add-s
-    estimate-requires
-    enum-told
-    rounded-requires
-    enum-told-2
-    rounded-requires-2
-    enum-told-3
-    add-rounded
-    mul-rounded
-    rounded-requires-3
-    returns
-    returns-2
-    returns-3)
+    (tie.spec mul-s mul-s-2 add-s (λ c κs. search needs) (λ c. search needs) rounded-requires (λ c. search needs)
+    rounded-requires-2 (λ c. search needs) add-rounded mul-rounded rounded-requires-3 returns returns-2 returns-3)

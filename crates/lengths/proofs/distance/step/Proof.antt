@@ -4,14 +4,8 @@ use borrow.Author.Needs.{needs}
 use Rattle.lengths.proofs.distance.step.Statement.{statement}
 use Rattle.lengths.proofs.distance.step.Tie as tie
 
-test-requires : tie.Need-test-requires
-test-requires c κs = search needs
-
-cast-result : tie.Need-cast-result
-cast-result c = search needs
-
 returns : tie.Need-returns
 returns c = failing _ (c .test .ensures)
 
 pub step-spec : {M : Type 1} → statement M
-step-spec = tie.close (tie.spec test-requires cast-result returns)
+step-spec = tie.close (tie.spec (λ c κs. search needs) (λ c. search needs) returns)

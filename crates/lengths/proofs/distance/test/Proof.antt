@@ -6,29 +6,8 @@ use borrow.Author.Needs.{needs}
 use Rattle.lengths.proofs.distance.test.Statement.{statement}
 use Rattle.lengths.proofs.distance.test.Tie as tie
 
-enum-told : tie.Need-enum-told
-enum-told c = search needs
-
-mul-result : tie.Need-mul-result
-mul-result c = search needs
-
-mul-result-2 : tie.Need-mul-result-2
-mul-result-2 c = search needs
-
-add-result : tie.Need-add-result
-add-result c = search needs
-
-mul-result-3 : tie.Need-mul-result-3
-mul-result-3 c = search needs
-
-add-result-2 : tie.Need-add-result-2
-add-result-2 c = search needs
-
 mul-result-4 : tie.Need-mul-result-4
 mul-result-4 c = product-fits 4194304 4194304 (search needs) (search needs) tt
-
-enum-told-2 : tie.Need-enum-told-2
-enum-told-2 c = search needs
 
 mul-result-5 : tie.Need-mul-result-5
 mul-result-5 c = product-fits 2097151 2097151 (search needs) (search needs) tt
@@ -44,15 +23,5 @@ returns-2 c = rw (c .enum-told2 .given .1)
 pub test-spec : {M : Type 1} → statement M
 test-spec =
     tie.close
-    (tie.spec
-    enum-told
-    mul-result
-    mul-result-2
-    add-result
-    mul-result-3
-    add-result-2
-    mul-result-4
-    enum-told-2
-    mul-result-5
-    returns
-    returns-2)
+    (tie.spec (λ c. search needs) (λ c. search needs) (λ c. search needs) (λ c. search needs) (λ c. search needs)
+    (λ c. search needs) mul-result-4 (λ c. search needs) mul-result-5 returns returns-2)

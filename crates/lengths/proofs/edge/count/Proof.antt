@@ -10,9 +10,6 @@ returns : tie.Need-returns
 unfolding edgeCount
 returns c = rw (c .if1 .taken)
 
-sub-result : tie.Need-sub-result
-sub-result c = search needs
-
 mul-result : tie.Need-mul-result
 mul-result c = product-fits 65535 65535 (search needs) (search needs) tt
 
@@ -21,4 +18,4 @@ unfolding edgeCount
 returns-2 c = refl
 
 pub count-spec : {M : Type 1} → statement M
-count-spec = tie.close (tie.spec returns sub-result mul-result returns-2)
+count-spec = tie.close (tie.spec returns (λ c. search needs) mul-result returns-2)

@@ -13,20 +13,11 @@ Inv-loop bytes limit count within₀ i₀ within i = Limiting limit (whole32 byt
 abbrev μ-loop : tie.MeasureT-loop
 μ-loop bytes limit count within₀ i₀ within i = count - i
 
-count32-requires : tie.Need-count32-requires Inv-loop μ-loop
-count32-requires c κs = search needs
-
 loop-holds : tie.Need-loop-holds Inv-loop μ-loop
 loop-holds c = limiting-start _ _
 
 number32-requires : tie.Need-number32-requires Inv-loop μ-loop
 number32-requires c κs = omega (arith, c .before .before .count32 .ensures, c .loop-test .taken)
-
-add-i : tie.Need-add-i Inv-loop μ-loop
-add-i c = search needs
-
-loop-less : tie.Need-loop-less Inv-loop μ-loop
-loop-less c = search needs
 
 loop-again : tie.Need-loop-again Inv-loop μ-loop
 loop-again c = limiting-on (c .before .before .before .loop .inv) (omega (arith, c .before .before .before .before .count32 .ensures, c .before .before .loop-test .taken)) (c .before .number32 .ensures) (λ w. w .taken) (λ w. w .left) (c .if1 .came)
@@ -37,13 +28,5 @@ returns c = limiting-done (c .before .loop .inv) (omega (arith, c .before .befor
 pub all-at-most-spec : {M : Type 1} → statement M
 all-at-most-spec =
     tie.close
-    (tie.spec
-    Inv-loop
-    μ-loop
-    count32-requires
-    loop-holds
-    number32-requires
-    add-i
-    loop-less
-    loop-again
-    returns)
+    (tie.spec Inv-loop μ-loop (λ c κs. search needs) loop-holds number32-requires (λ c. search needs)
+    (λ c. search needs) loop-again returns)

@@ -13,9 +13,6 @@ Inv-loop low high count within₀ i₀ within i = Ordering (whole32 low) (whole3
 abbrev μ-loop : tie.MeasureT-loop
 μ-loop low high count within₀ i₀ within i = count - i
 
-count32-requires : tie.Need-count32-requires Inv-loop μ-loop
-count32-requires c κs = search needs
-
 loop-holds : tie.Need-loop-holds Inv-loop μ-loop
 loop-holds c = ordering-start _ _
 
@@ -24,12 +21,6 @@ number32-requires c κs = omega (arith, c .before .before .count32 .ensures, c .
 
 number32-requires-2 : tie.Need-number32-requires-2 Inv-loop μ-loop
 number32-requires-2 c κs = omega (arith, c .before .before .before .count32 .ensures, c .before .loop-test .taken)
-
-add-i : tie.Need-add-i Inv-loop μ-loop
-add-i c = search needs
-
-loop-less : tie.Need-loop-less Inv-loop μ-loop
-loop-less c = search needs
 
 loop-again : tie.Need-loop-again Inv-loop μ-loop
 loop-again c = ordering-on (c .before .before .before .before .loop .inv) (c .before .before .before .before .before .before .before .before .pre) (omega (arith, c .before .before .before .before .before .count32 .ensures, c .before .before .before .loop-test .taken)) (c .before .number322 .ensures) (c .before .before .number32 .ensures) (λ w. w .taken) (λ w. w .left) (c .if1 .came)
@@ -40,14 +31,5 @@ returns c = ordering-done (c .before .loop .inv) (omega (arith, c .before .befor
 pub each-at-most-spec : {M : Type 1} → statement M
 each-at-most-spec =
     tie.close
-    (tie.spec
-    Inv-loop
-    μ-loop
-    count32-requires
-    loop-holds
-    number32-requires
-    number32-requires-2
-    add-i
-    loop-less
-    loop-again
-    returns)
+    (tie.spec Inv-loop μ-loop (λ c κs. search needs) loop-holds number32-requires number32-requires-2
+    (λ c. search needs) (λ c. search needs) loop-again returns)

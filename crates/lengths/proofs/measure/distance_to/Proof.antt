@@ -8,35 +8,11 @@ use borrow.Author.Needs.{needs}
 use Rattle.lengths.proofs.measure.distance_to.Statement.{statement}
 use Rattle.lengths.proofs.measure.distance_to.Tie as tie
 
-sub-i : tie.Need-sub-i
-sub-i c = search needs
-
-mul-i : tie.Need-mul-i
-mul-i c = search needs
-
-number32-requires : tie.Need-number32-requires
-number32-requires c κs = search needs
-
-gap-requires : tie.Need-gap-requires
-gap-requires c κs = search needs
-
-add-number32 : tie.Need-add-number32
-add-number32 c = search needs
-
-number32-requires-2 : tie.Need-number32-requires-2
-number32-requires-2 c κs = search needs
-
-gap-requires-2 : tie.Need-gap-requires-2
-gap-requires-2 c κs = search needs
-
 gap-distance-requires : tie.Need-gap-distance-requires
 unfolding xOf yOf
 gap-distance-requires c κs =
     let at = c .before .before .before .before .before .pre in
     (x-within at (c .before .before .gap .ensures) (c .before .before .before .number32 .ensures), y-within at (c .gap2 .ensures) (c .before .number322 .ensures))
-
-cast-result : tie.Need-cast-result
-cast-result c = search needs
 
 returns : tie.Need-returns
 unfolding distanceTo xOf yOf
@@ -47,14 +23,5 @@ returns c =
 pub distance-to-spec : {M : Type 1} → statement M
 distance-to-spec =
     tie.close
-    (tie.spec
-    sub-i
-    mul-i
-    number32-requires
-    gap-requires
-    add-number32
-    number32-requires-2
-    gap-requires-2
-    gap-distance-requires
-    cast-result
-    returns)
+    (tie.spec (λ c. search needs) (λ c. search needs) (λ c κs. search needs) (λ c κs. search needs) (λ c. search needs)
+    (λ c κs. search needs) (λ c κs. search needs) gap-distance-requires (λ c. search needs) returns)

@@ -20,23 +20,11 @@ loop-holds c = first-row (c .before .before .pre)
 measure-row-requires : tie.Need-measure-row-requires Inv-loop μ-loop
 measure-row-requires c κs = row-fillable (c .before .before .loop .inv) (c .before .loop-test .taken)
 
-sub-at : tie.Need-sub-at Inv-loop μ-loop
-sub-at c = search needs
-
 add-at : tie.Need-add-at Inv-loop μ-loop
 add-at c = record { fits = omega (arith, row-fits (c .before .before .before .before .before .loop .inv) (c .before .before .before .before .loop-test .taken), edges-few _ (c .before .before .before .before .before .loop .inv .asked .few)) }
 
-add-a : tie.Need-add-a Inv-loop μ-loop
-add-a c = search needs
-
-loop-less : tie.Need-loop-less Inv-loop μ-loop
-loop-less c = search needs
-
 loop-again : tie.Need-loop-again Inv-loop μ-loop
 loop-again c = rows-more (c .before .before .before .before .before .loop .inv) (c .before .before .before .before .loop-test .taken) (c .before .before .measure-row .ensures)
-
-same-length : tie.Need-same-length Inv-loop μ-loop
-same-length c = search needs
 
 returns : tie.Need-returns Inv-loop μ-loop
 returns c = all-filled (c .before .loop .inv) (c .loop-test .left)
@@ -44,15 +32,5 @@ returns c = all-filled (c .before .loop .inv) (c .loop-test .left)
 pub fill-spec : {M : Type 1} → statement M
 fill-spec =
     tie.close
-    (tie.spec
-    Inv-loop
-    μ-loop
-    loop-holds
-    measure-row-requires
-    sub-at
-    add-at
-    add-a
-    loop-less
-    loop-again
-    same-length
-    returns)
+    (tie.spec Inv-loop μ-loop loop-holds measure-row-requires (λ c. search needs) add-at (λ c. search needs)
+    (λ c. search needs) loop-again (λ c. search needs) returns)

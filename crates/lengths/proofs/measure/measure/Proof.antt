@@ -24,71 +24,23 @@ sizes c = sized (admits (c .before .before .before .before .before .before)) (sy
 rule-known : (c : tie.After-known-told2) → ruleOf (c .before .before .before .before .before .before .before .before .before .before .before .before .before .before .before .before .args .rule) ≡ Known (c .before .known .given .0 .0)
 rule-known c = sym (c .before .before .before .numbered .ensures) ∙ c .before .known .given .1
 
-admit-requires : tie.Need-admit-requires
-admit-requires c κs = search needs
-
-enum-known-instance : tie.Need-enum-known-instance
-enum-known-instance c = search needs
-
-enum-told : tie.Need-enum-told
-enum-told c = search needs
-
 returns : tie.Need-returns
 returns c = refused-points (sym (c .before .before .admit .ensures) ∙ c .enum-told .given .1)
-
-count32-requires : tie.Need-count32-requires
-count32-requires c κs = search needs
-
-cast-if1 : tie.Need-cast-if1
-cast-if1 c = search needs
-
-mul-if1 : tie.Need-mul-if1
-mul-if1 c = search needs
 
 returns-2 : tie.Need-returns-2
 returns-2 c = refused-coordinates (admits (c .before .before)) (λ e. c .if1 .taken (c .before .count32 .ensures ∙ e))
 
-count32-requires-2 : tie.Need-count32-requires-2
-count32-requires-2 c κs = search needs
-
-count-requires : tie.Need-count-requires
-count-requires c κs = search needs
-
-same-length : tie.Need-same-length
-same-length c = search needs
-
 returns-3 : tie.Need-returns-3
 returns-3 c = refused-table (admits (c .before .before .before .before .before .before)) (sym (c .before .before .before .before .before .count32 .ensures) ∙ c .before .before .before .before .if1 .left) (λ e. c .if2 .taken (c .before .before .count322 .ensures ∙ e ∙ sym (c .before .count .ensures)))
 
-numbered-requires : tie.Need-numbered-requires
-numbered-requires c κs = search needs
-
-enum-known-known : tie.Need-enum-known-known
-enum-known-known c = search needs
-
-enum-told-2 : tie.Need-enum-told-2
-enum-told-2 c = search needs
-
-same-length-2 : tie.Need-same-length-2
-same-length-2 c = search needs
-
 returns-4 : tie.Need-returns-4
 returns-4 c = refused-rule (sizes (c .before .before .before)) (sym (c .before .before .numbered .ensures) ∙ c .enum-told2 .given .1)
-
-all-at-most-requires : tie.Need-all-at-most-requires
-all-at-most-requires c κs = search needs
-
-same-length-3 : tie.Need-same-length-3
-same-length-3 c = search needs
 
 returns-5 : tie.Need-returns-5
 returns-5 c = refused-limit (sizes (c .before .before .before .before .before .before)) (rule-known (c .before .before)) (sym (c .before .all-at-most .ensures) ∙ not-true _ (c .if3 .taken))
 
 fill-requires : tie.Need-fill-requires
 fill-requires c κs = fillable (sizes (c .before .before .before .before .before .before .before)) (sym (c .before .before .all-at-most .ensures) ∙ not-false _ (c .before .if3 .left))
-
-same-length-4 : tie.Need-same-length-4
-same-length-4 c = search needs
 
 returns-6 : tie.Need-returns-6
 returns-6 c =
@@ -98,27 +50,7 @@ returns-6 c =
 pub measure-spec : {M : Type 1} → statement M
 measure-spec =
     tie.close
-    (tie.spec
-    admit-requires
-    enum-known-instance
-    enum-told
-    returns
-    count32-requires
-    cast-if1
-    mul-if1
-    returns-2
-    count32-requires-2
-    count-requires
-    same-length
-    returns-3
-    numbered-requires
-    enum-known-known
-    enum-told-2
-    same-length-2
-    returns-4
-    all-at-most-requires
-    same-length-3
-    returns-5
-    fill-requires
-    same-length-4
-    returns-6)
+    (tie.spec (λ c κs. search needs) (λ c. search needs) (λ c. search needs) returns (λ c κs. search needs)
+    (λ c. search needs) (λ c. search needs) returns-2 (λ c κs. search needs) (λ c κs. search needs) (λ c. search needs)
+    returns-3 (λ c κs. search needs) (λ c. search needs) (λ c. search needs) (λ c. search needs) returns-4
+    (λ c κs. search needs) (λ c. search needs) returns-5 fill-requires (λ c. search needs) returns-6)

@@ -17,23 +17,8 @@ abbrev μ-loop : tie.MeasureT-loop
 returns : tie.Need-returns Inv-loop μ-loop
 returns c = none-above (c .before .before .before .pre) (c .if1 .taken)
 
-sub-above : tie.Need-sub-above Inv-loop μ-loop
-sub-above c = search needs
-
-cast-above : tie.Need-cast-above Inv-loop μ-loop
-cast-above c = search needs
-
-add-place : tie.Need-add-place Inv-loop μ-loop
-add-place c = search needs
-
 place-requires : tie.Need-place-requires Inv-loop μ-loop
 place-requires c κs = above-edge (c .before .before .before .pre) (c .if1 .left)
-
-add-start : tie.Need-add-start Inv-loop μ-loop
-add-start c = search needs
-
-add-start-2 : tie.Need-add-start-2 Inv-loop μ-loop
-add-start-2 c = search needs
 
 loop-holds : tie.Need-loop-holds Inv-loop μ-loop
 loop-holds c = above-start (c .before .before .before .before .pre)
@@ -44,26 +29,11 @@ add-number32 c = omega (arith, above-inside (c .before .before .before .before .
 number32-requires : tie.Need-number32-requires Inv-loop μ-loop
 number32-requires c κs = above-inside (c .before .before .before .before .before .before .pre) (c .before .loop .inv) (c .before .before .place .ensures) (c .loop-test .taken)
 
-add-rows : tie.Need-add-rows Inv-loop μ-loop
-add-rows c = search needs
-
-mul-rows : tie.Need-mul-rows Inv-loop μ-loop
-mul-rows c = search needs
-
 slice-write-rows : tie.Need-slice-write-rows Inv-loop μ-loop
 slice-write-rows c = above-room (c .before .before .before .before .before .before .before .pre) (c .before .before .loop .inv) (c .before .before .before .place .ensures) (c .before .loop-test .taken)
 
-add-i : tie.Need-add-i Inv-loop μ-loop
-add-i c = search needs
-
-loop-less : tie.Need-loop-less Inv-loop μ-loop
-loop-less c = search needs
-
 loop-again : tie.Need-loop-again Inv-loop μ-loop
 loop-again c = above-more (c .before .before .before .before .before .before .before .pre) (c .before .before .loop .inv) (c .before .before .before .place .ensures) (c .before .loop-test .taken) (c .number32 .ensures)
-
-same-length : tie.Need-same-length Inv-loop μ-loop
-same-length c = search needs
 
 returns-2 : tie.Need-returns-2 Inv-loop μ-loop
 returns-2 c = above-done (c .before .loop .inv) (c .loop-test .left)
@@ -71,24 +41,7 @@ returns-2 c = above-done (c .before .loop .inv) (c .loop-test .left)
 pub fill-above-spec : {M : Type 1} → statement M
 fill-above-spec =
     tie.close
-    (tie.spec
-    Inv-loop
-    μ-loop
-    returns
-    sub-above
-    cast-above
-    add-place
-    place-requires
-    add-start
-    add-start-2
-    loop-holds
-    add-number32
-    number32-requires
-    add-rows
-    mul-rows
-    slice-write-rows
-    add-i
-    loop-less
-    loop-again
-    same-length
+    (tie.spec Inv-loop μ-loop returns (λ c. search needs) (λ c. search needs) (λ c. search needs) place-requires
+    (λ c. search needs) (λ c. search needs) loop-holds add-number32 number32-requires (λ c. search needs)
+    (λ c. search needs) slice-write-rows (λ c. search needs) (λ c. search needs) loop-again (λ c. search needs)
     returns-2)

@@ -14,12 +14,6 @@ Inv-loop n table v rows₀ at points last from₀ step₀ x₀ rows from step x 
 abbrev μ-loop : tie.MeasureT-loop
 μ-loop n table v rows₀ at points last from₀ step₀ x₀ rows from step x = v - x
 
-sub-from : tie.Need-sub-from Inv-loop μ-loop
-sub-from c = search needs
-
-sub-step : tie.Need-sub-step Inv-loop μ-loop
-sub-step c = search needs
-
 loop-holds : tie.Need-loop-holds Inv-loop μ-loop
 loop-holds c = below-start (c .before .before .pre)
 
@@ -29,32 +23,14 @@ sub-number32 c = omega (arith, below-place (c .before .before .before .before .p
 number32-requires : tie.Need-number32-requires Inv-loop μ-loop
 number32-requires c κs = below-inside (c .before .before .before .before .pre) (c .before .loop .inv) (c .loop-test .taken)
 
-add-rows : tie.Need-add-rows Inv-loop μ-loop
-add-rows c = search needs
-
-mul-rows : tie.Need-mul-rows Inv-loop μ-loop
-mul-rows c = search needs
-
 slice-write-rows : tie.Need-slice-write-rows Inv-loop μ-loop
 slice-write-rows c = below-room (c .before .before .before .before .before .pre) (c .before .before .loop .inv) (c .before .loop-test .taken)
-
-sub-step-2 : tie.Need-sub-step-2 Inv-loop μ-loop
-sub-step-2 c = search needs
 
 add-from : tie.Need-add-from Inv-loop μ-loop
 add-from c = omega (arith, below-inside (c .before .before .before .before .before .pre) (c .before .before .loop .inv) (c .before .loop-test .taken), c .before .before .before .before .before .pre .whole, edges-few _ (c .before .before .before .before .before .pre .few))
 
-add-x : tie.Need-add-x Inv-loop μ-loop
-add-x c = search needs
-
-loop-less : tie.Need-loop-less Inv-loop μ-loop
-loop-less c = search needs
-
 loop-again : tie.Need-loop-again Inv-loop μ-loop
 loop-again c = below-more (c .before .before .before .before .before .pre) (c .before .before .loop .inv) (c .before .loop-test .taken) (c .number32 .ensures)
-
-same-length : tie.Need-same-length Inv-loop μ-loop
-same-length c = search needs
 
 returns : tie.Need-returns Inv-loop μ-loop
 returns c = below-done (c .before .loop .inv) (c .loop-test .left)
@@ -62,21 +38,6 @@ returns c = below-done (c .before .loop .inv) (c .loop-test .left)
 pub fill-below-spec : {M : Type 1} → statement M
 fill-below-spec =
     tie.close
-    (tie.spec
-    Inv-loop
-    μ-loop
-    sub-from
-    sub-step
-    loop-holds
-    sub-number32
-    number32-requires
-    add-rows
-    mul-rows
-    slice-write-rows
-    sub-step-2
-    add-from
-    add-x
-    loop-less
-    loop-again
-    same-length
-    returns)
+    (tie.spec Inv-loop μ-loop (λ c. search needs) (λ c. search needs) loop-holds sub-number32 number32-requires
+    (λ c. search needs) (λ c. search needs) slice-write-rows (λ c. search needs) add-from (λ c. search needs)
+    (λ c. search needs) loop-again (λ c. search needs) returns)

@@ -12,9 +12,6 @@ Inv-loop n table rows₀ width v₀ at₀ rows v at = RowsTo n (whole32 table) r
 abbrev μ-loop : tie.MeasureT-loop
 μ-loop n table rows₀ width v₀ at₀ rows v at = n + 1 - v
 
-add-width : tie.Need-add-width Inv-loop μ-loop
-add-width c = search needs
-
 loop-holds : tie.Need-loop-holds Inv-loop μ-loop
 loop-holds c = rows-start (c .before .before .pre)
 
@@ -24,17 +21,8 @@ fill-row-requires c κs = row-fillable (c .before .before .before .before .befor
 add-at : tie.Need-add-at Inv-loop μ-loop
 add-at c = search (needs, next-row-fits (c .before .before .before .before .before .before .before .before .pre) (c .before .before .before .before .before .loop .inv) (c .before .before .before .before .loop-test .taken))
 
-add-v : tie.Need-add-v Inv-loop μ-loop
-add-v c = search needs
-
-loop-less : tie.Need-loop-less Inv-loop μ-loop
-loop-less c = search needs
-
 loop-again : tie.Need-loop-again Inv-loop μ-loop
 loop-again c = rows-more (c .before .before .before .before .before .before .before .before .pre) (c .before .before .before .before .before .loop .inv) (c .before .before .before .before .loop-test .taken) (c .before .before .fill-row .ensures)
-
-same-length : tie.Need-same-length Inv-loop μ-loop
-same-length c = search needs
 
 returns : tie.Need-returns Inv-loop μ-loop
 returns c = rows-done (c .before .loop .inv) (c .loop-test .left)
@@ -42,15 +30,5 @@ returns c = rows-done (c .before .loop .inv) (c .loop-test .left)
 pub fill-rows-spec : {M : Type 1} → statement M
 fill-rows-spec =
     tie.close
-    (tie.spec
-    Inv-loop
-    μ-loop
-    add-width
-    loop-holds
-    fill-row-requires
-    add-at
-    add-v
-    loop-less
-    loop-again
-    same-length
-    returns)
+    (tie.spec Inv-loop μ-loop (λ c. search needs) loop-holds fill-row-requires add-at (λ c. search needs)
+    (λ c. search needs) loop-again (λ c. search needs) returns)

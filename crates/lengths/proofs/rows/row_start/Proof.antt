@@ -9,14 +9,8 @@ use Rattle.lengths.proofs.rows.row_start.Tie as tie
 row-fits : (n v : ℕ) → n < 2 ^ 16 → v < 2 ^ 16 → (n + 1) * v < 2 ^ 64
 row-fits n v h g = let e : n + 1 ≤ 2 ^ 16 = omega arith in omega (arith, mul-le-mul e (le-of-lt g))
 
-add-result : tie.Need-add-result
-add-result c = search needs
-
 mul-result : tie.Need-mul-result
 mul-result c = omega (arith, row-fits (c .args .n) (c .args .v) (omega arith) (omega arith))
 
-returns : tie.Need-returns
-returns c = search needs
-
 pub row-start-spec : {M : Type 1} → statement M
-row-start-spec = tie.close (tie.spec add-result mul-result returns)
+row-start-spec = tie.close (tie.spec (λ c. search needs) mul-result (λ c. search needs))

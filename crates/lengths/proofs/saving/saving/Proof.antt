@@ -4,12 +4,6 @@ use borrow.Author.Needs.{needs}
 use Rattle.lengths.proofs.saving.saving.Statement.{statement}
 use Rattle.lengths.proofs.saving.saving.Tie as tie
 
-cast-result : tie.Need-cast-result
-cast-result c = search needs
-
-cast-result-2 : tie.Need-cast-result-2
-cast-result-2 c = search needs
-
 sub-result : tie.Need-sub-result
 sub-result c = difference-fits _ _ (c .pre .0) (c .pre .1)
 
@@ -17,4 +11,4 @@ returns : tie.Need-returns
 returns c = difference-is _ _ (c .pre .0) (c .pre .1)
 
 pub saving-spec : {M : Type 1} → statement M
-saving-spec = tie.close (tie.spec cast-result cast-result-2 sub-result returns)
+saving-spec = tie.close (tie.spec (λ c. search needs) (λ c. search needs) sub-result returns)

@@ -14,15 +14,6 @@ use Rattle.lengths.proofs.table.length_between.Tie as tie
 returns : tie.Need-returns
 returns c = record { at = sym (length-self _ (whole32 (now (c .before .before .args .table))) _) ∙ ap (lengthOf _ _ _) (c .if1 .taken); bits = search needs }
 
-place-requires : tie.Need-place-requires
-place-requires c κs = search needs
-
-number32-requires : tie.Need-number32-requires
-number32-requires c κs = search needs
-
-wide-requires : tie.Need-wide-requires
-wide-requires c κs = search needs
-
 returns-2 : tie.Need-returns-2
 returns-2 c = record {
   at =
@@ -35,4 +26,4 @@ returns-2 c = record {
 
 pub length-between-spec : {M : Type 1} → statement M
 length-between-spec =
-    tie.close (tie.spec returns place-requires number32-requires wide-requires returns-2)
+    tie.close (tie.spec returns (λ c κs. search needs) (λ c κs. search needs) (λ c κs. search needs) returns-2)

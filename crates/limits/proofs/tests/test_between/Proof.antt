@@ -14,15 +14,6 @@ use Rattle.limits.proofs.tests.test_between.Tie as tie
 passed : (c : tie.After-known-told) → let s = c .before .before .before .before .before .before .before in LimitsPassed (s .args .n) (whole32 (now (s .args .low))) (whole32 (now (s .args .high))) (c .before .tested .given .0 .0)
 passed c = passed-limits (sym (c .before .before .before .test-limits .ensures) ∙ c .before .tested .given .1)
 
-test-limits-requires : tie.Need-test-limits-requires
-test-limits-requires c κs = search needs
-
-enum-known-tested : tie.Need-enum-known-tested
-enum-known-tested c = search needs
-
-enum-known-tested-2 : tie.Need-enum-known-tested-2
-enum-known-tested-2 c = search needs
-
 returns : tie.Need-returns
 returns c = between-refused _ _ _ _ (c .before .before .before .test-limits .ensures) (c .before .tested2 .given .1)
 
@@ -38,11 +29,5 @@ returns-3 c = between-marked _ _ _ _ (c .before .before .before .before .before 
 pub test-between-spec : {M : Type 1} → statement M
 test-between-spec =
     tie.close
-    (tie.spec
-    test-limits-requires
-    enum-known-tested
-    enum-known-tested-2
-    returns
-    well-packed-requires
-    returns-2
+    (tie.spec (λ c κs. search needs) (λ c. search needs) (λ c. search needs) returns well-packed-requires returns-2
     returns-3)

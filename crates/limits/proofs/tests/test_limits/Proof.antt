@@ -32,41 +32,17 @@ low-small c = sym (c .before .all-at-most .ensures) ∙ not-false _ (c .if3 .lef
 high-small : (c : tie.Else4) → let k = c .before .before .before .before .before .before .before .before .before in allAtMost mostLength (whole32 (now (k .before .before .before .before .before .before .args .high))) ≡ true
 high-small c = sym (c .before .all-at-most2 .ensures) ∙ not-false _ (c .if4 .left)
 
-admit-requires : tie.Need-admit-requires
-admit-requires c κs = search needs
-
-enum-known-instance : tie.Need-enum-known-instance
-enum-known-instance c = search needs
-
-enum-told : tie.Need-enum-told
-enum-told c = search needs
-
 returns : tie.Need-returns
 returns c = limits-points _ _ _ (sym (c .before .before .admit .ensures) ∙ c .enum-told .given .1)
-
-count-requires : tie.Need-count-requires
-count-requires c κs = search needs
-
-count32-requires : tie.Need-count32-requires
-count32-requires c κs = search needs
 
 returns-2 : tie.Need-returns-2
 returns-2 c = limits-low-size _ _ _ (admits (c .before .before .before)) (λ e. c .if1 .taken (c .before .count32 .ensures ∙ e ∙ sym (c .before .before .count .ensures)))
 
-count32-requires-2 : tie.Need-count32-requires-2
-count32-requires-2 c κs = search needs
-
 returns-3 : tie.Need-returns-3
 returns-3 c = limits-high-size _ _ _ (admits (c .before .before .before .before .before)) (low-whole (c .before .before)) (λ e. c .if2 .taken (c .before .count322 .ensures ∙ e ∙ sym (c .before .before .before .before .count .ensures)))
 
-all-at-most-requires : tie.Need-all-at-most-requires
-all-at-most-requires c κs = search needs
-
 returns-4 : tie.Need-returns-4
 returns-4 c = let t = c .before .before in limits-low-length _ _ _ (admits (t .before .before .before .before .before)) (low-whole (t .before .before)) (high-whole t) (sym (c .before .all-at-most .ensures) ∙ not-true _ (c .if3 .taken))
-
-all-at-most-requires-2 : tie.Need-all-at-most-requires-2
-all-at-most-requires-2 c κs = search needs
 
 returns-5 : tie.Need-returns-5
 returns-5 c = let t = c .before .before .before .before in limits-high-length _ _ _ (admits (t .before .before .before .before .before)) (low-whole (t .before .before)) (high-whole t) (low-small (c .before .before)) (sym (c .before .all-at-most2 .ensures) ∙ not-true _ (c .if4 .taken))
@@ -83,20 +59,6 @@ returns-7 c = let t = c .before .before .before .before .before .before in limit
 pub test-limits-spec : {M : Type 1} → statement M
 test-limits-spec =
     tie.close
-    (tie.spec
-    admit-requires
-    enum-known-instance
-    enum-told
-    returns
-    count-requires
-    count32-requires
-    returns-2
-    count32-requires-2
-    returns-3
-    all-at-most-requires
-    returns-4
-    all-at-most-requires-2
-    returns-5
-    each-at-most-requires
-    returns-6
-    returns-7)
+    (tie.spec (λ c κs. search needs) (λ c. search needs) (λ c. search needs) returns (λ c κs. search needs)
+    (λ c κs. search needs) returns-2 (λ c κs. search needs) returns-3 (λ c κs. search needs) returns-4
+    (λ c κs. search needs) returns-5 each-at-most-requires returns-6 returns-7)

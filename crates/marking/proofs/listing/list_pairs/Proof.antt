@@ -4,23 +4,8 @@ use borrow.Author.Needs.{needs}
 use Rattle.marking.proofs.listing.list_pairs.Statement.{statement}
 use Rattle.marking.proofs.listing.list_pairs.Tie as tie
 
-test-instance-requires : tie.Need-test-instance-requires
-test-instance-requires c κs = search needs
-
-enum-known-points : tie.Need-enum-known-points
-enum-known-points c = search needs
-
 list-tested-requires : tie.Need-list-tested-requires
 list-tested-requires c κs = listed-listable _ _ _ (c .before .before .before .before .test-instance .ensures) (c .before .before .points .given .1)
-
-enum-known-number : tie.Need-enum-known-number
-enum-known-number c = search needs
-
-turned-down-requires : tie.Need-turned-down-requires
-turned-down-requires c κs = search needs
-
-same-length : tie.Need-same-length
-same-length c = search needs
 
 returns : tie.Need-returns
 returns c = listed-tested _ _ _ _ _ _ (c .before .before .before .before .before .before .before .test-instance .ensures) (c .before .before .before .before .before .points .given .1) (c .before .before .list-tested .ensures)
@@ -31,12 +16,5 @@ returns-2 c = listed-refused _ _ _ _ _ _ (c .before .before .before .before .tes
 pub list-pairs-spec : {M : Type 1} → statement M
 list-pairs-spec =
     tie.close
-    (tie.spec
-    test-instance-requires
-    enum-known-points
-    list-tested-requires
-    enum-known-number
-    turned-down-requires
-    same-length
-    returns
-    returns-2)
+    (tie.spec (λ c κs. search needs) (λ c. search needs) list-tested-requires (λ c. search needs) (λ c κs. search needs)
+    (λ c. search needs) returns returns-2)

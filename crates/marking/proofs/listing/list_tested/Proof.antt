@@ -22,44 +22,23 @@ fit c = sym (c .before .points-fit .ensures) ∙ not-false _ (c .if1 .left)
 is-open : (c : tie.Else2) → let s = c .before .before .before .before .before .before .before .before .args in unstruckIn (s .n) (marksOf (s .n) (now (s .marks))) (s .a) (s .b) ≡ true
 is-open c = sym (c .before .is-open .ensures) ∙ not-false _ (c .if2 .left)
 
-points-fit-requires : tie.Need-points-fit-requires
-points-fit-requires c κs = search needs
-
-turned-down-requires : tie.Need-turned-down-requires
-turned-down-requires c κs = search needs
-
 returns : tie.Need-returns
 returns c = tested-points (c .turned-down .ensures) (sym (c .before .before .points-fit .ensures) ∙ not-true _ (c .before .if1 .taken))
 
 is-open-requires : tie.Need-is-open-requires
 is-open-requires c κs = markable (c .before .before .before .before .before .before .pre) _ _ _ (fit c)
 
-turned-down-requires-2 : tie.Need-turned-down-requires-2
-turned-down-requires-2 c κs = search needs
-
 returns-2 : tie.Need-returns-2
 returns-2 c = tested-struck (fit (c .before .before .before)) (c .turned-down2 .ensures) (sym (c .before .before .is-open .ensures) ∙ not-true _ (c .before .if2 .taken))
-
-slice-aggregate-list-into : tie.Need-slice-aggregate-list-into
-slice-aggregate-list-into c = search needs
 
 list-into-requires : tie.Need-list-into-requires
 list-into-requires c κs = let e = c .before .before .before .before .before in findable-small (e .before .before .before .before .before .before .pre) _ _ _ (fit e) (c .before .before .if3 .taken) (length-replicate {A = ℕ} (2 * fewEdges) 0)
 
-same-length : tie.Need-same-length
-same-length c = search needs
-
 returns-3 : tie.Need-returns-3
 returns-3 c = let e = c .before .before .before .before .before .before .before in tested-listed (fit (e .before .before)) (is-open e) (c .before .before .before .list-into .ensures)
 
-slice-aggregate-list-into-2 : tie.Need-slice-aggregate-list-into-2
-slice-aggregate-list-into-2 c = search needs
-
 list-into-requires-2 : tie.Need-list-into-requires-2
 list-into-requires-2 c κs = let e = c .before .before .before .before .before in findable-large (e .before .before .before .before .before .before .pre) _ _ _ (fit e) (length-replicate {A = ℕ} (2 * mostEdges) 0)
-
-same-length-2 : tie.Need-same-length-2
-same-length-2 c = search needs
 
 returns-4 : tie.Need-returns-4
 returns-4 c = let e = c .before .before .before .before .before .before .before in tested-listed (fit (e .before .before)) (is-open e) (c .before .before .before .list-into2 .ensures)
@@ -67,18 +46,6 @@ returns-4 c = let e = c .before .before .before .before .before .before .before 
 pub list-tested-spec : {M : Type 1} → statement M
 list-tested-spec =
     tie.close
-    (tie.spec
-    points-fit-requires
-    turned-down-requires
-    returns
-    is-open-requires
-    turned-down-requires-2
-    returns-2
-    slice-aggregate-list-into
-    list-into-requires
-    same-length
-    returns-3
-    slice-aggregate-list-into-2
-    list-into-requires-2
-    same-length-2
-    returns-4)
+    (tie.spec (λ c κs. search needs) (λ c κs. search needs) returns is-open-requires (λ c κs. search needs) returns-2
+    (λ c. search needs) list-into-requires (λ c. search needs) returns-3 (λ c. search needs) list-into-requires-2
+    (λ c. search needs) returns-4)

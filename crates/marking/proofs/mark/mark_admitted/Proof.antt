@@ -7,39 +7,14 @@ use borrow.Author.Needs.{needs}
 use Rattle.marking.proofs.mark.mark_admitted.Statement.{statement}
 use Rattle.marking.proofs.mark.mark_admitted.Tie as tie
 
-slice-aggregate-mark-by-rows : tie.Need-slice-aggregate-mark-by-rows
-slice-aggregate-mark-by-rows c = search needs
-
 mark-by-rows-requires : tie.Need-mark-by-rows-requires
 mark-by-rows-requires c κs = rows-room fewPoints (c .before .before .before .before .before .before .pre) (c .before .before .if1 .taken) (length-replicate {A = ℕ} ((fewPoints + 1) * (fewPoints + 1)) 0)
-
-same-length : tie.Need-same-length
-same-length c = search needs
-
-returns : tie.Need-returns
-returns c = search needs
-
-slice-aggregate-mark-by-rows-2 : tie.Need-slice-aggregate-mark-by-rows-2
-slice-aggregate-mark-by-rows-2 c = search needs
 
 mark-by-rows-requires-2 : tie.Need-mark-by-rows-requires-2
 mark-by-rows-requires-2 c κs = rows-room mostPoints (c .before .before .before .before .before .before .pre) (c .before .before .before .before .before .before .pre .admitted .limits .out-lengths .few) (length-replicate {A = ℕ} (pointPlaces * pointPlaces) 0)
 
-same-length-2 : tie.Need-same-length-2
-same-length-2 c = search needs
-
-returns-2 : tie.Need-returns-2
-returns-2 c = search needs
-
 pub mark-admitted-spec : {M : Type 1} → statement M
 mark-admitted-spec =
     tie.close
-    (tie.spec
-    slice-aggregate-mark-by-rows
-    mark-by-rows-requires
-    same-length
-    returns
-    slice-aggregate-mark-by-rows-2
-    mark-by-rows-requires-2
-    same-length-2
-    returns-2)
+    (tie.spec (λ c. search needs) mark-by-rows-requires (λ c. search needs) (λ c. search needs) (λ c. search needs)
+    mark-by-rows-requires-2 (λ c. search needs) (λ c. search needs))

@@ -20,29 +20,11 @@ whole : (c : tie.Else1) → let i = c .before .before .before .before in
     length (whole32 (now (i .before .before .before .before .args .table))) ≡ edgeCount (i .instance .given .0 .0 .points)
 whole c = sym (c .before .count32 .ensures) ∙ c .if1 .left ∙ c .before .before .count .ensures
 
-admit-requires : tie.Need-admit-requires
-admit-requires c κs = search needs
-
-enum-known-instance : tie.Need-enum-known-instance
-enum-known-instance c = search needs
-
-enum-told : tie.Need-enum-told
-enum-told c = search needs
-
 returns : tie.Need-returns
 returns c = refused-points _ _ (sym (c .before .before .admit .ensures) ∙ c .enum-told .given .1)
 
-count-requires : tie.Need-count-requires
-count-requires c κs = search needs
-
-count32-requires : tie.Need-count32-requires
-count32-requires c κs = search needs
-
 returns-2 : tie.Need-returns-2
 returns-2 c = refused-size _ _ (admits (c .before .before .before)) (λ e. c .if1 .taken (c .before .count32 .ensures ∙ e ∙ sym (c .before .before .count .ensures)))
-
-all-at-most-requires : tie.Need-all-at-most-requires
-all-at-most-requires c κs = search needs
 
 returns-3 : tie.Need-returns-3
 returns-3 c =
@@ -57,14 +39,5 @@ returns-4 c =
 pub test-table-spec : {M : Type 1} → statement M
 test-table-spec =
     tie.close
-    (tie.spec
-    admit-requires
-    enum-known-instance
-    enum-told
-    returns
-    count-requires
-    count32-requires
-    returns-2
-    all-at-most-requires
-    returns-3
-    returns-4)
+    (tie.spec (λ c κs. search needs) (λ c. search needs) (λ c. search needs) returns (λ c κs. search needs)
+    (λ c κs. search needs) returns-2 (λ c κs. search needs) returns-3 returns-4)

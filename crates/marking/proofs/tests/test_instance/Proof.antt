@@ -15,15 +15,6 @@ passed : (c : tie.After-known-told) → let s = c .before .before .before .befor
     TablePassed (s .args .n) (whole32 (now (s .args .table))) (c .before .tested .given .0 .0)
 passed c = table-passed (sym (c .before .before .before .test-table .ensures) ∙ c .before .tested .given .1)
 
-test-table-requires : tie.Need-test-table-requires
-test-table-requires c κs = search needs
-
-enum-known-tested : tie.Need-enum-known-tested
-enum-known-tested c = search needs
-
-enum-known-tested-2 : tie.Need-enum-known-tested-2
-enum-known-tested-2 c = search needs
-
 returns : tie.Need-returns
 returns c = refused-table _ _ _ (sym (c .before .before .before .test-table .ensures) ∙ c .before .tested2 .given .1)
 
@@ -43,11 +34,5 @@ returns-3 c =
 pub test-instance-spec : {M : Type 1} → statement M
 test-instance-spec =
     tie.close
-    (tie.spec
-    test-table-requires
-    enum-known-tested
-    enum-known-tested-2
-    returns
-    well-packed-requires
-    returns-2
+    (tie.spec (λ c κs. search needs) (λ c. search needs) (λ c. search needs) returns well-packed-requires returns-2
     returns-3)

@@ -30,12 +30,6 @@ is-open-requires c κs = marked-on (c .before .before .before .before .before .b
 returns : tie.Need-returns Inv-loop μ-loop
 returns c = struck-on (c .before .before .before .before .before .before .before .before .pre) (c .before .before .before .before .loop .inv) (omega (arith, tour-size (c .before .before .before .before .before .before .before .before .pre), c .before .before .before .loop-test .taken)) (c .before .before .number162 .ensures) (c .before .is-open .ensures) (not-true _ (c .if1 .taken))
 
-add-i : tie.Need-add-i Inv-loop μ-loop
-add-i c = search needs
-
-loop-less : tie.Need-loop-less Inv-loop μ-loop
-loop-less c = search needs
-
 loop-again : tie.Need-loop-again Inv-loop μ-loop
 loop-again c = checking-on (c .before .before .before .before .before .before .before .before .pre) (c .before .before .before .before .loop .inv) (omega (arith, tour-size (c .before .before .before .before .before .before .before .before .pre), c .before .before .before .loop-test .taken)) (c .before .before .number162 .ensures) (c .before .is-open .ensures) (not-false _ (c .if1 .left))
 
@@ -48,16 +42,5 @@ returns-2 c = all-opened (c .before .before .before .before .before .before .pre
 pub all-open-spec : {M : Type 1} → statement M
 all-open-spec =
     tie.close
-    (tie.spec
-    Inv-loop
-    μ-loop
-    number16-requires
-    loop-holds
-    number16-requires-2
-    is-open-requires
-    returns
-    add-i
-    loop-less
-    loop-again
-    is-open-requires-2
-    returns-2)
+    (tie.spec Inv-loop μ-loop number16-requires loop-holds number16-requires-2 is-open-requires returns
+    (λ c. search needs) (λ c. search needs) loop-again is-open-requires-2 returns-2)

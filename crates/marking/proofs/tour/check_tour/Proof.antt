@@ -20,15 +20,6 @@ toured : (c : tie.Else1) → let s = c .before .before .before .before .before .
     Toured (s .args .n) (whole32 (now (s .args .table))) (marksOf (c .before .before .before .tested .given .0 .0) (now (s .args .marks))) (c .before .before .before .tested .given .0 .0) (whole16 (now (s .args .tour)))
 toured c = record { passed = passed-at (c .before .before); tour = sym (c .before .each-once .ensures) ∙ not-false _ (c .if1 .left) }
 
-test-instance-requires : tie.Need-test-instance-requires
-test-instance-requires c κs = search needs
-
-enum-known-tested : tie.Need-enum-known-tested
-enum-known-tested c = search needs
-
-enum-known-tested-2 : tie.Need-enum-known-tested-2
-enum-known-tested-2 c = search needs
-
 returns : tie.Need-returns
 returns c = refused-tests (sym (c .before .before .before .test-instance .ensures) ∙ c .before .tested2 .given .1)
 
@@ -50,13 +41,5 @@ returns-3 c = let t = toured (c .before .before) in checked-set _ (t .passed) (c
 pub check-tour-spec : {M : Type 1} → statement M
 check-tour-spec =
     tie.close
-    (tie.spec
-    test-instance-requires
-    enum-known-tested
-    enum-known-tested-2
-    returns
-    each-once-requires
-    returns-2
-    length-of-requires
-    all-open-requires
-    returns-3)
+    (tie.spec (λ c κs. search needs) (λ c. search needs) (λ c. search needs) returns each-once-requires returns-2
+    length-of-requires all-open-requires returns-3)

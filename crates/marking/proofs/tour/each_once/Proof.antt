@@ -25,9 +25,6 @@ point c = sym (c .before .is-point .ensures) ∙ not-false _ (c .if2 .left)
 inside : (c : tie.Else2 Inv-loop μ-loop) → c .before .before .number16 .result < pointPlaces
 inside c = flag-inside (c .before .before .before .before .loop .inv) (c .before .before .before .before .before .before .before .before .pre) (omega (arith, c .before .before .before .before .before .before .count16 .ensures, c .before .before .before .loop-test .taken)) (c .before .before .number16 .ensures) (point c)
 
-count16-requires : tie.Need-count16-requires Inv-loop μ-loop
-count16-requires c κs = search needs
-
 returns : tie.Need-returns Inv-loop μ-loop
 returns c = wrong-length (c .before .before .before .args .n) (whole16 (now (c .before .before .before .args .tour))) (λ e. c .if1 .taken (c .before .count16 .ensures ∙ e))
 
@@ -36,9 +33,6 @@ loop-holds c = seeing-start (sym (c .before .count16 .ensures) ∙ c .if1 .left)
 
 number16-requires : tie.Need-number16-requires Inv-loop μ-loop
 number16-requires c κs = omega (arith, c .before .before .before .count16 .ensures, c .loop-test .taken)
-
-is-point-requires : tie.Need-is-point-requires Inv-loop μ-loop
-is-point-requires c κs = search needs
 
 returns-2 : tie.Need-returns-2 Inv-loop μ-loop
 returns-2 c = not-point (c .before .before .before .before .loop .inv) (c .before .before .before .before .before .before .before .before .pre) (omega (arith, c .before .before .before .before .before .before .count16 .ensures, c .before .before .before .loop-test .taken)) (c .before .before .number16 .ensures) (sym (c .before .is-point .ensures) ∙ not-true _ (c .if2 .taken))
@@ -58,12 +52,6 @@ cast-seen c = record { fits = omega (arith, inside (c .before)) }
 array-write-seen : tie.Need-array-write-seen Inv-loop μ-loop
 array-write-seen c = inside (c .before)
 
-add-i : tie.Need-add-i Inv-loop μ-loop
-add-i c = search needs
-
-loop-less : tie.Need-loop-less Inv-loop μ-loop
-loop-less c = search needs
-
 loop-again : tie.Need-loop-again Inv-loop μ-loop
 loop-again c = seeing-on (c .before .before .before .before .before .loop .inv) (c .before .before .before .before .before .before .before .before .before .pre) (omega (arith, c .before .before .before .before .before .before .before .count16 .ensures, c .before .before .before .before .loop-test .taken)) (c .before .before .before .number16 .ensures) (point (c .before)) (c .if3 .left)
 
@@ -73,21 +61,6 @@ returns-4 c = all-seen (c .before .loop .inv) (omega (arith, c .before .before .
 pub each-once-spec : {M : Type 1} → statement M
 each-once-spec =
     tie.close
-    (tie.spec
-    Inv-loop
-    μ-loop
-    count16-requires
-    returns
-    loop-holds
-    number16-requires
-    is-point-requires
-    returns-2
-    cast-if3
-    array-read-if3
-    returns-3
-    cast-seen
-    array-write-seen
-    add-i
-    loop-less
-    loop-again
-    returns-4)
+    (tie.spec Inv-loop μ-loop (λ c κs. search needs) returns loop-holds number16-requires (λ c κs. search needs)
+    returns-2 cast-if3 array-read-if3 returns-3 cast-seen array-write-seen (λ c. search needs) (λ c. search needs)
+    loop-again returns-4)

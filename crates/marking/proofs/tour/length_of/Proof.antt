@@ -28,12 +28,6 @@ length-between-requires c κs = spans-on (c .before .before .before .before .bef
 add-sum : tie.Need-add-sum Inv-loop μ-loop
 add-sum c = record { fits = sum-fits (c .before .before .before .before .before .before .before .pre) (c .before .before .before .loop .inv) (omega (arith, tour-size (c .before .before .before .before .before .before .before .pre), c .before .before .loop-test .taken)) (c .length-between .ensures .bits) }
 
-add-i : tie.Need-add-i Inv-loop μ-loop
-add-i c = search needs
-
-loop-less : tie.Need-loop-less Inv-loop μ-loop
-loop-less c = search needs
-
 loop-again : tie.Need-loop-again Inv-loop μ-loop
 loop-again c = summing-on (c .before .before .before .before .before .before .before .pre) (c .before .before .before .loop .inv) (omega (arith, tour-size (c .before .before .before .before .before .before .before .pre), c .before .before .loop-test .taken)) (c .before .number162 .ensures) (c .length-between .ensures)
 
@@ -49,17 +43,5 @@ returns c = all-summed (c .before .before .before .before .before .before .pre) 
 pub length-of-spec : {M : Type 1} → statement M
 length-of-spec =
     tie.close
-    (tie.spec
-    Inv-loop
-    μ-loop
-    number16-requires
-    loop-holds
-    number16-requires-2
-    length-between-requires
-    add-sum
-    add-i
-    loop-less
-    loop-again
-    length-between-requires-2
-    add-result
-    returns)
+    (tie.spec Inv-loop μ-loop number16-requires loop-holds number16-requires-2 length-between-requires add-sum
+    (λ c. search needs) (λ c. search needs) loop-again length-between-requires-2 add-result returns)

@@ -22,20 +22,8 @@ packed-byte-requires : tie.Need-packed-byte-requires Inv-loop μ-loop
 unfolding packedBytes
 packed-byte-requires c κs = let a = c .before .before .before .before .pre in record { marks = a .marks; inside = omega (arith, a .room, c .before .loop .inv .kept, c .loop-test .taken) }
 
-slice-write-set : tie.Need-slice-write-set Inv-loop μ-loop
-slice-write-set c = search needs
-
-add-k : tie.Need-add-k Inv-loop μ-loop
-add-k c = search needs
-
-loop-less : tie.Need-loop-less Inv-loop μ-loop
-loop-less c = search needs
-
 loop-again : tie.Need-loop-again Inv-loop μ-loop
 loop-again c = one-filled (c .before .before .loop .inv) (c .before .loop-test .taken) (c .packed-byte .ensures)
-
-same-length : tie.Need-same-length Inv-loop μ-loop
-same-length c = search needs
 
 returns : tie.Need-returns Inv-loop μ-loop
 returns c = all-packed _ (c .before .loop .inv) (c .before .before .before .before .pre .room) (c .loop-test .left)
@@ -43,14 +31,5 @@ returns c = all-packed _ (c .before .loop .inv) (c .before .before .before .befo
 pub pack-all-spec : {M : Type 1} → statement M
 pack-all-spec =
     tie.close
-    (tie.spec
-    Inv-loop
-    μ-loop
-    loop-holds
-    packed-byte-requires
-    slice-write-set
-    add-k
-    loop-less
-    loop-again
-    same-length
-    returns)
+    (tie.spec Inv-loop μ-loop loop-holds packed-byte-requires (λ c. search needs) (λ c. search needs)
+    (λ c. search needs) loop-again (λ c. search needs) returns)

@@ -11,26 +11,11 @@ use Rattle.marks.proofs.converting.pack_marks.Tie as tie
 admits : (c : tie.After-known-told) → Admits (c .before .before .before .before .before .before .args .n) (c .before .instance .given .0 .0)
 admits c = admitted (sym (c .before .before .before .admit .ensures) ∙ c .before .instance .given .1)
 
-admit-requires : tie.Need-admit-requires
-admit-requires c κs = search needs
-
-enum-known-instance : tie.Need-enum-known-instance
-enum-known-instance c = search needs
-
-enum-told : tie.Need-enum-told
-enum-told c = search needs
-
 returns : tie.Need-returns
 returns c = pack-points _ _ (sym (c .before .before .admit .ensures) ∙ c .enum-told .given .1)
 
-is-byte-set-requires : tie.Need-is-byte-set-requires
-is-byte-set-requires c κs = search needs
-
 returns-2 : tie.Need-returns-2
 returns-2 c = pack-bytes _ _ (admits (c .before .before)) (c .before .is-byte-set .ensures) (not-true _ (c .if1 .taken))
-
-size-requires : tie.Need-size-requires
-size-requires c κs = search needs
 
 returns-3 : tie.Need-returns-3
 returns-3 c = let k = c .before .before in pack-size _ _ (admits (k .before .before)) (k .before .is-byte-set .ensures) (not-false _ (k .if1 .left)) (λ e. c .if2 .taken (e ∙ sym (c .before .size .ensures)))
@@ -38,24 +23,11 @@ returns-3 c = let k = c .before .before in pack-size _ _ (admits (k .before .bef
 pack-all-requires : tie.Need-pack-all-requires
 pack-all-requires c κs = let d = c .before in let k = d .before .before in pack-asked _ _ (admits (k .before .before)) (k .before .is-byte-set .ensures) (not-false _ (k .if1 .left)) (d .if2 .left ∙ d .before .size .ensures)
 
-same-length : tie.Need-same-length
-same-length c = search needs
-
 returns-4 : tie.Need-returns-4
 returns-4 c = let d = c .before .before .before .before in let k = d .before .before in pack-done _ _ (admits (k .before .before)) (k .before .is-byte-set .ensures) (not-false _ (k .if1 .left)) (d .if2 .left ∙ d .before .size .ensures) (c .before .before .pack-all .ensures)
 
 pub pack-marks-spec : {M : Type 1} → statement M
 pack-marks-spec =
     tie.close
-    (tie.spec
-    admit-requires
-    enum-known-instance
-    enum-told
-    returns
-    is-byte-set-requires
-    returns-2
-    size-requires
-    returns-3
-    pack-all-requires
-    same-length
-    returns-4)
+    (tie.spec (λ c κs. search needs) (λ c. search needs) (λ c. search needs) returns (λ c κs. search needs) returns-2
+    (λ c κs. search needs) returns-3 pack-all-requires (λ c. search needs) returns-4)

@@ -25,20 +25,8 @@ shared-slice-read-quarter c = omega (arith, c .before .before .before .before .b
 quarter-requires : tie.Need-quarter-requires Inv-loop μ-loop
 quarter-requires c κs = omega arith
 
-slice-write-bytes : tie.Need-slice-write-bytes Inv-loop μ-loop
-slice-write-bytes c = search needs
-
-add-i : tie.Need-add-i Inv-loop μ-loop
-add-i c = search needs
-
-loop-less : tie.Need-loop-less Inv-loop μ-loop
-loop-less c = search needs
-
 loop-again : tie.Need-loop-again Inv-loop μ-loop
 loop-again c = one-filled (c .before .before .before .loop .inv) (c .before .before .loop-test .taken) (c .quarter .ensures ∙ sym (quarters-at _ _))
-
-same-length : tie.Need-same-length Inv-loop μ-loop
-same-length c = search needs
 
 returns : tie.Need-returns Inv-loop μ-loop
 returns c = all-unpacked _ (c .before .loop .inv) (c .before .before .before .before .pre) (c .loop-test .left)
@@ -46,15 +34,5 @@ returns c = all-unpacked _ (c .before .loop .inv) (c .before .before .before .be
 pub unpack-all-spec : {M : Type 1} → statement M
 unpack-all-spec =
     tie.close
-    (tie.spec
-    Inv-loop
-    μ-loop
-    loop-holds
-    shared-slice-read-quarter
-    quarter-requires
-    slice-write-bytes
-    add-i
-    loop-less
-    loop-again
-    same-length
-    returns)
+    (tie.spec Inv-loop μ-loop loop-holds shared-slice-read-quarter quarter-requires (λ c. search needs)
+    (λ c. search needs) (λ c. search needs) loop-again (λ c. search needs) returns)

@@ -12,15 +12,6 @@ use Rattle.marks.proofs.converting.unpack_marks.Tie as tie
 admits : (c : tie.After-known-told) → Admits (c .before .before .before .before .before .before .args .n) (c .before .instance .given .0 .0)
 admits c = admitted (sym (c .before .before .before .admit .ensures) ∙ c .before .instance .given .1)
 
-admit-requires : tie.Need-admit-requires
-admit-requires c κs = search needs
-
-enum-known-instance : tie.Need-enum-known-instance
-enum-known-instance c = search needs
-
-enum-told : tie.Need-enum-told
-enum-told c = search needs
-
 returns : tie.Need-returns
 returns c = unpack-points _ _ (sym (c .before .before .admit .ensures) ∙ c .enum-told .given .1)
 
@@ -30,17 +21,11 @@ well-packed-requires c κs = points-edges (admits c)
 returns-2 : tie.Need-returns-2
 returns-2 c = unpack-set _ _ (admits (c .before .before)) (c .before .well-packed .ensures) (not-true _ (c .if1 .taken))
 
-count-requires : tie.Need-count-requires
-count-requires c κs = search needs
-
 returns-3 : tie.Need-returns-3
 returns-3 c = let k = c .before .before in unpack-size _ _ (admits (k .before .before)) (k .before .well-packed .ensures) (not-false _ (k .if1 .left)) (λ e. c .if2 .taken (e ∙ sym (c .before .count .ensures)))
 
 unpack-all-requires : tie.Need-unpack-all-requires
 unpack-all-requires c κs = let d = c .before in let k = d .before .before in unpack-room _ (k .before .before .before .before .before .before .before .before .args .bytes .now) (admits (k .before .before)) (k .before .well-packed .ensures) (not-false _ (k .if1 .left)) (d .if2 .left ∙ d .before .count .ensures)
-
-same-length : tie.Need-same-length
-same-length c = search needs
 
 returns-4 : tie.Need-returns-4
 returns-4 c = let d = c .before .before .before .before in let k = d .before .before in unpack-done _ _ (admits (k .before .before)) (k .before .well-packed .ensures) (not-false _ (k .if1 .left)) (d .if2 .left ∙ d .before .count .ensures) (c .before .before .unpack-all .ensures)
@@ -48,15 +33,5 @@ returns-4 c = let d = c .before .before .before .before in let k = d .before .be
 pub unpack-marks-spec : {M : Type 1} → statement M
 unpack-marks-spec =
     tie.close
-    (tie.spec
-    admit-requires
-    enum-known-instance
-    enum-told
-    returns
-    well-packed-requires
-    returns-2
-    count-requires
-    returns-3
-    unpack-all-requires
-    same-length
-    returns-4)
+    (tie.spec (λ c κs. search needs) (λ c. search needs) (λ c. search needs) returns well-packed-requires returns-2
+    (λ c κs. search needs) returns-3 unpack-all-requires (λ c. search needs) returns-4)

@@ -22,9 +22,6 @@ abbrev μ-loop : tie.MeasureT-loop
 at : (c : tie.In-loop Inv-loop μ-loop) → c .before .loop .i < edgeCount (c .before .before .before .before .args .n)
 at c = rw (sym (c .before .before .count .ensures)) (c .loop-test .taken)
 
-count-requires : tie.Need-count-requires Inv-loop μ-loop
-count-requires c κs = search needs
-
 loop-holds : tie.Need-loop-holds Inv-loop μ-loop
 loop-holds c = count-none _
 
@@ -33,12 +30,6 @@ open-at-requires c κs = held-inside _ _ (c .before .before .before .before .pre
 
 add-opens : tie.Need-add-opens Inv-loop μ-loop
 add-opens c = record { fits = omega (arith, edges-few _ (c .before .before .before .before .before .before .pre .few), at (c .before .before), c .before .before .before .loop .inv) }
-
-add-i : tie.Need-add-i Inv-loop μ-loop
-add-i c = search needs
-
-loop-less : tie.Need-loop-less Inv-loop μ-loop
-loop-less c = search needs
 
 loop-again : tie.Need-loop-again Inv-loop μ-loop
 loop-again c = let k = c .before .before in let p = k .before .before .before .before .pre in let o = c .before .open-at .ensures ∙ held-open _ _ (p .whole) (at k) _ in
@@ -50,14 +41,5 @@ returns c = count-done (c .before .loop .inv) (rw (c .before .before .before .be
 pub open-edges-spec : {M : Type 1} → statement M
 open-edges-spec =
     tie.close
-    (tie.spec
-    Inv-loop
-    μ-loop
-    count-requires
-    loop-holds
-    open-at-requires
-    add-opens
-    add-i
-    loop-less
-    loop-again
-    returns)
+    (tie.spec Inv-loop μ-loop (λ c κs. search needs) loop-holds open-at-requires add-opens (λ c. search needs)
+    (λ c. search needs) loop-again returns)

@@ -14,32 +14,14 @@ use Rattle.marks.proofs.fresh.fresh_marks.Tie as tie
 admits : (c : tie.After-known-told) → Admits (c .before .before .before .before .before .args .n) (c .before .instance .given .0 .0)
 admits c = admitted (sym (c .before .before .before .admit .ensures) ∙ c .before .instance .given .1)
 
-admit-requires : tie.Need-admit-requires
-admit-requires c κs = search needs
-
-enum-known-instance : tie.Need-enum-known-instance
-enum-known-instance c = search needs
-
-enum-told : tie.Need-enum-told
-enum-told c = search needs
-
 returns : tie.Need-returns
 returns c = refused-fresh-points (sym (c .before .before .admit .ensures) ∙ c .enum-told .given .1)
-
-size-requires : tie.Need-size-requires
-size-requires c κs = search needs
 
 returns-2 : tie.Need-returns-2
 returns-2 c = refused-fresh-size (admits (c .before .before)) (λ e. c .if1 .taken (e ∙ sym (c .before .size .ensures)))
 
-count-requires : tie.Need-count-requires
-count-requires c κs = search needs
-
 open-all-requires : tie.Need-open-all-requires
 open-all-requires c κs = let k = c .before .before in k .if1 .left ∙ k .before .size .ensures ∙ ap packedBytes (sym (c .before .count .ensures))
-
-same-length : tie.Need-same-length
-same-length c = search needs
 
 returns-3 : tie.Need-returns-3
 returns-3 c = let d = c .before .before .before .before in let k = d .before in made-fresh (admits (k .before .before)) (k .if1 .left ∙ k .before .size .ensures) (c .before .before .open-all .ensures ∙ ap (λ (e : ℕ). packed (replicate e openMark)) (d .count .ensures))
@@ -47,14 +29,5 @@ returns-3 c = let d = c .before .before .before .before in let k = d .before in 
 pub fresh-marks-spec : {M : Type 1} → statement M
 fresh-marks-spec =
     tie.close
-    (tie.spec
-    admit-requires
-    enum-known-instance
-    enum-told
-    returns
-    size-requires
-    returns-2
-    count-requires
-    open-all-requires
-    same-length
-    returns-3)
+    (tie.spec (λ c κs. search needs) (λ c. search needs) (λ c. search needs) returns (λ c κs. search needs) returns-2
+    (λ c κs. search needs) open-all-requires (λ c. search needs) returns-3)

@@ -33,20 +33,8 @@ sub-open-byte c = omega (arith, left c)
 open-byte-requires : tie.Need-open-byte-requires Inv-loop μ-loop
 open-byte-requires c κs = omega (arith, left c)
 
-slice-write-set : tie.Need-slice-write-set Inv-loop μ-loop
-slice-write-set c = search needs
-
-add-i : tie.Need-add-i Inv-loop μ-loop
-add-i c = search needs
-
-loop-less : tie.Need-loop-less Inv-loop μ-loop
-loop-less c = search needs
-
 loop-again : tie.Need-loop-again Inv-loop μ-loop
 loop-again c = one-filled (c .before .before .loop .inv) (c .before .loop-test .taken) (c .open-byte .ensures ∙ opened-byte _ _ (omega (arith, left (c .before))))
-
-same-length : tie.Need-same-length Inv-loop μ-loop
-same-length c = search needs
 
 returns : tie.Need-returns Inv-loop μ-loop
 returns c = all-packed _ (c .before .loop .inv) (open-room _ (c .before .before .before .pre)) (c .loop-test .left)
@@ -54,16 +42,5 @@ returns c = all-packed _ (c .before .loop .inv) (open-room _ (c .before .before 
 pub open-all-spec : {M : Type 1} → statement M
 open-all-spec =
     tie.close
-    (tie.spec
-    Inv-loop
-    μ-loop
-    loop-holds
-    mul-open-byte
-    sub-open-byte
-    open-byte-requires
-    slice-write-set
-    add-i
-    loop-less
-    loop-again
-    same-length
-    returns)
+    (tie.spec Inv-loop μ-loop loop-holds mul-open-byte sub-open-byte open-byte-requires (λ c. search needs)
+    (λ c. search needs) (λ c. search needs) loop-again (λ c. search needs) returns)

@@ -7,21 +7,9 @@ use Rattle.marks.proofs.fresh.open_byte.Tie as tie
 returns : tie.Need-returns
 returns c = four-open _ (c .if1 .taken)
 
-sub-result : tie.Need-sub-result
-sub-result c = search needs
-
-mul-result : tie.Need-mul-result
-mul-result c = search needs
-
-cast-result : tie.Need-cast-result
-cast-result c = search needs
-
-shr-result : tie.Need-shr-result
-shr-result c = search needs
-
 returns-2 : tie.Need-returns-2
 returns-2 c = few-open _ (c .before .pre) (c .if1 .left)
 
 pub open-byte-spec : {M : Type 1} → statement M
 open-byte-spec =
-    tie.close (tie.spec returns sub-result mul-result cast-result shr-result returns-2)
+    tie.close (tie.spec returns (λ c. search needs) (λ c. search needs) (λ c. search needs) (λ c. search needs) returns-2)

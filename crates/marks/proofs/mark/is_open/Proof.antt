@@ -6,9 +6,6 @@ use borrow.Author.Needs.{needs}
 use Rattle.marks.proofs.mark.is_open.Statement.{statement}
 use Rattle.marks.proofs.mark.is_open.Tie as tie
 
-place-requires : tie.Need-place-requires
-place-requires c κs = search needs
-
 open-at-requires : tie.Need-open-at-requires
 open-at-requires c κs = edge-inside _ _ (c .before .before .pre) (c .place .ensures .at)
 
@@ -16,4 +13,4 @@ returns : tie.Need-returns
 returns c = c .open-at .ensures ∙ ap (openAt _ _) (c .before .place .ensures .at) ∙ edge-open _ _ (c .before .before .before .pre) _
 
 pub is-open-spec : {M : Type 1} → statement M
-is-open-spec = tie.close (tie.spec place-requires open-at-requires returns)
+is-open-spec = tie.close (tie.spec (λ c κs. search needs) open-at-requires returns)

@@ -10,16 +10,10 @@ use Rattle.marks.proofs.mark.open_at.Tie as tie
 shared-slice-read-quarter : tie.Need-shared-slice-read-quarter
 shared-slice-read-quarter c = omega (arith, c .before .before .pre)
 
-quarter-requires : tie.Need-quarter-requires
-quarter-requires c κs = search needs
-
-opens-requires : tie.Need-opens-requires
-opens-requires c κs = search needs
-
 returns : tie.Need-returns
 unfolding markAt
 returns c = c .opens .ensures ∙ ap (opens _) (c .before .quarter .ensures ∙ sym (quarters-at _ _))
 
 pub open-at-spec : {M : Type 1} → statement M
 open-at-spec =
-    tie.close (tie.spec shared-slice-read-quarter quarter-requires opens-requires returns)
+    tie.close (tie.spec shared-slice-read-quarter (λ c κs. search needs) (λ c κs. search needs) returns)

@@ -4,11 +4,8 @@ use borrow.Author.Needs.{needs}
 use Rattle.marks.proofs.mark.opens.Statement.{statement}
 use Rattle.marks.proofs.mark.opens.Tie as tie
 
-add-result : tie.Need-add-result
-add-result c = search needs
-
 returns : tie.Need-returns
 returns c = opened (c .fits .mark) (c .fits .most)
 
 pub opens-spec : {M : Type 1} → statement M
-opens-spec = tie.close (tie.spec add-result returns)
+opens-spec = tie.close (tie.spec (λ c. search needs) returns)

@@ -17,19 +17,10 @@ put-quarter-requires c κs = record { place = omega arith; two-bits = omega (ari
 slice-write-set : tie.Need-slice-write-set
 slice-write-set c = omega (arith, edge-inside _ _ (c .before .before .before .before .pre .asked) (c .before .before .place .ensures .at))
 
-same-length : tie.Need-same-length
-same-length c = search needs
-
 returns : tie.Need-returns
 returns c = edge-marked _ _ (c .before .before .before .before .pre .asked) (c .before .before .place .ensures .at) (c .before .before .before .before .pre .is-mark) (c .put-quarter .ensures)
 
 pub set-mark-spec : {M : Type 1} → statement M
 set-mark-spec =
     tie.close
-    (tie.spec
-    place-requires
-    slice-read-put-quarter
-    put-quarter-requires
-    slice-write-set
-    same-length
-    returns)
+    (tie.spec place-requires slice-read-put-quarter put-quarter-requires slice-write-set (λ c. search needs) returns)

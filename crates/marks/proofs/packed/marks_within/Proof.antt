@@ -16,18 +16,6 @@ abbrev μ-loop : tie.MeasureT-loop
 loop-holds : tie.Need-loop-holds Inv-loop μ-loop
 loop-holds c = testing-start _ _
 
-shared-slice-read-marks-above : tie.Need-shared-slice-read-marks-above Inv-loop μ-loop
-shared-slice-read-marks-above c = search needs
-
-marks-above-requires : tie.Need-marks-above-requires Inv-loop μ-loop
-marks-above-requires c κs = search needs
-
-add-i : tie.Need-add-i Inv-loop μ-loop
-add-i c = search needs
-
-loop-less : tie.Need-loop-less Inv-loop μ-loop
-loop-less c = search needs
-
 loop-again : tie.Need-loop-again Inv-loop μ-loop
 loop-again c = testing-on (c .before .before .before .before .loop .inv) (c .before .before .before .loop-test .taken) (c .before .marks-above .ensures) (λ w. w .taken) (λ w. omega (arith, w .left)) (c .if1 .came)
 
@@ -37,13 +25,5 @@ returns c = testing-done (c .before .loop .inv) (c .loop-test .left)
 pub marks-within-spec : {M : Type 1} → statement M
 marks-within-spec =
     tie.close
-    (tie.spec
-    Inv-loop
-    μ-loop
-    loop-holds
-    shared-slice-read-marks-above
-    marks-above-requires
-    add-i
-    loop-less
-    loop-again
-    returns)
+    (tie.spec Inv-loop μ-loop loop-holds (λ c. search needs) (λ c κs. search needs) (λ c. search needs)
+    (λ c. search needs) loop-again returns)

@@ -9,18 +9,6 @@ use Rattle.marks.proofs.packed.put_quarter.Tie as tie
 put : (c : tie.After-quarter) → Putting (c .before .args .byte) (c .before .args .j) (c .before .args .mark) (c .quarter .result)
 put c = putting (omega (arith, c .before .fits .byte)) (c .before .pre) (c .quarter .ensures)
 
-mul-weight : tie.Need-mul-weight
-mul-weight c = search needs
-
-cast-weight : tie.Need-cast-weight
-cast-weight c = search needs
-
-shl-weight : tie.Need-shl-weight
-shl-weight c = search needs
-
-quarter-requires : tie.Need-quarter-requires
-quarter-requires c κs = search needs
-
 mul-result : tie.Need-mul-result
 mul-result c = record { fits = omega (arith, put c .old, c .before .fits .byte) }
 
@@ -39,13 +27,5 @@ returns c = put c .put
 pub put-quarter-spec : {M : Type 1} → statement M
 put-quarter-spec =
     tie.close
-    (tie.spec
-    mul-weight
-    cast-weight
-    shl-weight
-    quarter-requires
-    mul-result
-    sub-result
-    mul-result-2
-    add-result
-    returns)
+    (tie.spec (λ c. search needs) (λ c. search needs) (λ c. search needs) (λ c κs. search needs) mul-result sub-result
+    mul-result-2 add-result returns)

@@ -6,9 +6,6 @@ use borrow.Author.Needs.{needs}
 use Rattle.marks.proofs.packed.size.Statement.{statement}
 use Rattle.marks.proofs.packed.size.Tie as tie
 
-count-requires : tie.Need-count-requires
-count-requires c κs = search needs
-
 add-result : tie.Need-add-result
 add-result c = record { fits = omega (arith, edges-fit (c .before .fits .n .fits), edgeCount-tri (c .before .args .n), c .count .ensures) }
 
@@ -17,4 +14,4 @@ unfolding packedBytes
 returns c = omega arith
 
 pub size-spec : {M : Type 1} → statement M
-size-spec = tie.close (tie.spec count-requires add-result returns)
+size-spec = tie.close (tie.spec (λ c κs. search needs) add-result returns)

@@ -13,9 +13,6 @@ use Rattle.marks.proofs.packed.unused_clear.Tie as tie
 sub-last : tie.Need-sub-last
 sub-last c = omega (arith, last-inside (c .before .pre))
 
-count-requires : tie.Need-count-requires
-count-requires c κs = search needs
-
 mul-used : tie.Need-mul-used
 mul-used c = record { fits = omega (arith, last-few (c .before .before .pre), edges-fit (c .before .before .fits .n .fits), edgeCount-tri (c .before .before .args .n)) }
 
@@ -43,14 +40,5 @@ returns c = let set = c .before .before .before .args .set .now in ap (λ (e : �
 pub unused-clear-spec : {M : Type 1} → statement M
 unused-clear-spec =
     tie.close
-    (tie.spec
-    sub-last
-    count-requires
-    mul-used
-    sub-used
-    shared-slice-read-result
-    cast-result
-    mul-result
-    cast-result-2
-    shr-result
-    returns)
+    (tie.spec sub-last (λ c κs. search needs) mul-used sub-used shared-slice-read-result cast-result mul-result
+    cast-result-2 shr-result returns)

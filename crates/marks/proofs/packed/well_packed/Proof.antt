@@ -6,14 +6,8 @@ use borrow.Author.Needs.{needs}
 use Rattle.marks.proofs.packed.well_packed.Statement.{statement}
 use Rattle.marks.proofs.packed.well_packed.Tie as tie
 
-size-requires : tie.Need-size-requires
-size-requires c κs = search needs
-
 returns : tie.Need-returns
 returns c = wrong-size _ _ (λ e. c .if1 .taken (e ∙ sym (c .before .size .ensures)))
-
-marks-within-requires : tie.Need-marks-within-requires
-marks-within-requires c κs = search needs
 
 returns-2 : tie.Need-returns-2
 returns-2 c = let k = c .before .before in wrong-mark _ _ (k .if1 .left ∙ k .before .size .ensures) (c .before .marks-within .ensures) (not-true _ (c .if2 .taken))
@@ -27,10 +21,4 @@ returns-3 c = let k = c .before .before .before in unused-left _ _ (k .if1 .left
 pub well-packed-spec : {M : Type 1} → statement M
 well-packed-spec =
     tie.close
-    (tie.spec
-    size-requires
-    returns
-    marks-within-requires
-    returns-2
-    unused-clear-requires
-    returns-3)
+    (tie.spec (λ c κs. search needs) returns (λ c κs. search needs) returns-2 unused-clear-requires returns-3)

@@ -13,32 +13,14 @@ use Rattle.marks.proofs.pending.settle.Tie as tie
 admits : (c : tie.After-known-told) → Admits (c .before .before .before .before .before .args .n) (c .before .instance .given .0 .0)
 admits c = admitted (sym (c .before .before .before .admit .ensures) ∙ c .before .instance .given .1)
 
-admit-requires : tie.Need-admit-requires
-admit-requires c κs = search needs
-
-enum-known-instance : tie.Need-enum-known-instance
-enum-known-instance c = search needs
-
-enum-told : tie.Need-enum-told
-enum-told c = search needs
-
 returns : tie.Need-returns
 returns c = refused-points _ (sym (c .before .before .admit .ensures) ∙ c .enum-told .given .1)
 
 well-packed-requires : tie.Need-well-packed-requires
 well-packed-requires c κs = points-edges (admits (c .before))
 
-same-length : tie.Need-same-length
-same-length c = search needs
-
 returns-2 : tie.Need-returns-2
 returns-2 c = refused-set _ (admits (c .before .before .before)) (c .before .well-packed .ensures) (not-true _ (c .if1 .taken))
-
-marks-within-requires : tie.Need-marks-within-requires
-marks-within-requires c κs = search needs
-
-same-length-2 : tie.Need-same-length-2
-same-length-2 c = search needs
 
 returns-3 : tie.Need-returns-3
 returns-3 c = let k = c .before .before .before in refused-nothing _ (admits (k .before .before .before)) (k .before .well-packed .ensures) (not-false _ (k .if1 .left)) (c .before .marks-within .ensures) (c .if2 .taken)
@@ -46,26 +28,12 @@ returns-3 c = let k = c .before .before .before in refused-nothing _ (admits (k 
 settle-all-requires : tie.Need-settle-all-requires
 settle-all-requires c κs = omega (arith, c .before .before .before .before .before .before .before .before .before .before .before .before .pre)
 
-same-length-3 : tie.Need-same-length-3
-same-length-3 c = search needs
-
 returns-4 : tie.Need-returns-4
 returns-4 c = let d = c .before .before .before .before in let k = d .before .before .before in done _ (admits (k .before .before .before)) (k .before .well-packed .ensures) (not-false _ (k .if1 .left)) (omega (arith, k .before .before .before .before .before .before .before .before .pre)) (d .before .marks-within .ensures) (d .if2 .left) (c .before .before .settle-all .ensures)
 
 pub settle-spec : {M : Type 1} → statement M
 settle-spec =
     tie.close
-    (tie.spec
-    admit-requires
-    enum-known-instance
-    enum-told
-    returns
-    well-packed-requires
-    same-length
-    returns-2
-    marks-within-requires
-    same-length-2
-    returns-3
-    settle-all-requires
-    same-length-3
-    returns-4)
+    (tie.spec (λ c κs. search needs) (λ c. search needs) (λ c. search needs) returns well-packed-requires
+    (λ c. search needs) returns-2 (λ c κs. search needs) (λ c. search needs) returns-3 settle-all-requires
+    (λ c. search needs) returns-4)

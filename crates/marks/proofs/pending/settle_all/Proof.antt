@@ -15,26 +15,8 @@ abbrev μ-loop : tie.MeasureT-loop
 loop-holds : tie.Need-loop-holds Inv-loop μ-loop
 loop-holds c = none-settled _ _
 
-slice-read-settle-byte : tie.Need-slice-read-settle-byte Inv-loop μ-loop
-slice-read-settle-byte c = search needs
-
-settle-byte-requires : tie.Need-settle-byte-requires Inv-loop μ-loop
-settle-byte-requires c κs = search needs
-
-slice-write-set : tie.Need-slice-write-set Inv-loop μ-loop
-slice-write-set c = search needs
-
-add-i : tie.Need-add-i Inv-loop μ-loop
-add-i c = search needs
-
-loop-less : tie.Need-loop-less Inv-loop μ-loop
-loop-less c = search needs
-
 loop-again : tie.Need-loop-again Inv-loop μ-loop
 loop-again c = one-settled (c .before .before .before .loop .inv) (c .before .before .loop-test .taken) (c .settle-byte .ensures)
-
-same-length : tie.Need-same-length Inv-loop μ-loop
-same-length c = search needs
 
 returns : tie.Need-returns Inv-loop μ-loop
 returns c = all-settled (c .before .loop .inv) (c .loop-test .left)
@@ -42,15 +24,5 @@ returns c = all-settled (c .before .loop .inv) (c .loop-test .left)
 pub settle-all-spec : {M : Type 1} → statement M
 settle-all-spec =
     tie.close
-    (tie.spec
-    Inv-loop
-    μ-loop
-    loop-holds
-    slice-read-settle-byte
-    settle-byte-requires
-    slice-write-set
-    add-i
-    loop-less
-    loop-again
-    same-length
-    returns)
+    (tie.spec Inv-loop μ-loop loop-holds (λ c. search needs) (λ c κs. search needs) (λ c. search needs)
+    (λ c. search needs) (λ c. search needs) loop-again (λ c. search needs) returns)

@@ -7,9 +7,6 @@ use borrow.Author.Needs.{needs}
 use Rattle.marks.proofs.pending.settle_quarter.Statement.{statement}
 use Rattle.marks.proofs.pending.settle_quarter.Tie as tie
 
-quarter-requires : tie.Need-quarter-requires
-quarter-requires c κs = search needs
-
 returns : tie.Need-returns
 returns c = record { settled = sym (rw (sym (c .before .quarter .ensures), c .if1 .taken)); two-bits = c .before .before .pre .two-bits }
 
@@ -17,4 +14,4 @@ returns-2 : tie.Need-returns-2
 returns-2 c = record { settled = c .before .quarter .ensures ∙ sym (rw (ne-eqb _ _ (λ e. c .if1 .left (c .before .quarter .ensures ∙ e)))); two-bits = omega (arith, c .before .quarter .ensures, quarter-small (c .before .before .args .byte) (c .before .before .args .j)) }
 
 pub settle-quarter-spec : {M : Type 1} → statement M
-settle-quarter-spec = tie.close (tie.spec quarter-requires returns returns-2)
+settle-quarter-spec = tie.close (tie.spec (λ c κs. search needs) returns returns-2)

@@ -6,9 +6,6 @@ use borrow.Author.Needs.{needs}
 use Rattle.or_opt.proofs.ends.end_stays.Statement.{statement}
 use Rattle.or_opt.proofs.ends.end_stays.Tie as tie
 
-row-start-requires : tie.Need-row-start-requires
-row-start-requires c κs = search needs
-
 length-in-requires : tie.Need-length-in-requires
 length-in-requires c κs = end-room-c (c .before .before .before .pre) (c .row-start .ensures) refl
 
@@ -17,9 +14,6 @@ length-in-requires-2 c κs = end-room-next (c .before .before .before .before .p
 
 add-taken : tie.Need-add-taken
 add-taken c = omega (arith, end-taken (c .before .before .before .before .before .pre) (c .before .before .row-start .ensures) refl (c .before .length-in .ensures) (c .length-in2 .ensures) refl)
-
-row-start-requires-2 : tie.Need-row-start-requires-2
-row-start-requires-2 c κs = search needs
 
 length-in-requires-3 : tie.Need-length-in-requires-3
 length-in-requires-3 c κs = end-room (c .before .before .before .before .before .before .pre) (c .before .before .before .row-start .ensures) (c .row-start2 .ensures)
@@ -33,12 +27,5 @@ returns c = end-told (c .before .before .before .before .before .before .before 
 pub end-stays-spec : {M : Type 1} → statement M
 end-stays-spec =
     tie.close
-    (tie.spec
-    row-start-requires
-    length-in-requires
-    length-in-requires-2
-    add-taken
-    row-start-requires-2
-    length-in-requires-3
-    stays-at-all-requires
-    returns)
+    (tie.spec (λ c κs. search needs) length-in-requires length-in-requires-2 add-taken (λ c κs. search needs)
+    length-in-requires-3 stays-at-all-requires returns)

@@ -8,23 +8,8 @@ use Rattle.or_opt.proofs.ends.settle_end.Tie as tie
 returns : tie.Need-returns
 returns c = leg-joined (c .before .before .before .pre) (c .if1 .taken)
 
-mul-if2 : tie.Need-mul-if2
-mul-if2 c = search needs
-
-element-copy-out-if2 : tie.Need-element-copy-out-if2
-element-copy-out-if2 c = search needs
-
 returns-2 : tie.Need-returns-2
 returns-2 c = leg-far (c .before .before .before .before .before .pre) (c .if2 .taken)
-
-end-stays-requires : tie.Need-end-stays-requires
-end-stays-requires c κs = search needs
-
-mul-legs : tie.Need-mul-legs
-mul-legs c = search needs
-
-element-write-legs : tie.Need-element-write-legs
-element-write-legs c = search needs
 
 returns-3 : tie.Need-returns-3
 returns-3 c = leg-lost (c .before .before .before .before .before .before .before .pre) (c .before .end-stays .ensures) (c .before .before .before .before .if1 .left) (not-true _ (c .if3 .taken))
@@ -35,13 +20,5 @@ returns-4 c = leg-stays (c .before .before .before .before .before .before .befo
 pub settle-end-spec : {M : Type 1} → statement M
 settle-end-spec =
     tie.close
-    (tie.spec
-    returns
-    mul-if2
-    element-copy-out-if2
-    returns-2
-    end-stays-requires
-    mul-legs
-    element-write-legs
-    returns-3
-    returns-4)
+    (tie.spec returns (λ c. search needs) (λ c. search needs) returns-2 (λ c κs. search needs) (λ c. search needs)
+    (λ c. search needs) returns-3 returns-4)

@@ -12,9 +12,6 @@ returns c = onto-from (c .before .before .before .pre) (c .if1 .taken)
 returns-2 : tie.Need-returns-2
 returns-2 c = onto-to (c .before .before .before .before .pre) (c .before .if1 .left) (c .if2 .taken)
 
-row-start-requires : tie.Need-row-start-requires
-row-start-requires c κs = search needs
-
 length-in-requires : tie.Need-length-in-requires
 length-in-requires c κs = room-u (c .before .before .before .before .before .pre) (c .row-start .ensures) refl
 
@@ -26,9 +23,6 @@ length-in-requires-2 c κs = room-v (c .before .before .before .before .before .
 
 add-new-2 : tie.Need-add-new-2
 add-new-2 c = omega (arith, small-new (c .before .before .before .before .before .before .before .pre) (c .before .before .row-start .ensures) refl (c .before .length-in .ensures) (c .length-in2 .ensures) refl)
-
-row-start-requires-2 : tie.Need-row-start-requires-2
-row-start-requires-2 c κs = search needs
 
 length-in-requires-3 : tie.Need-length-in-requires-3
 length-in-requires-3 c κs = room-uv (c .before .before .before .before .before .before .before .before .pre) (c .before .before .before .row-start .ensures) (c .row-start2 .ensures)
@@ -42,15 +36,5 @@ returns-3 c = onto-compared (c .before .before .before .before .before .before .
 pub stays-spec : {M : Type 1} → statement M
 stays-spec =
     tie.close
-    (tie.spec
-    returns
-    returns-2
-    row-start-requires
-    length-in-requires
-    add-new
-    length-in-requires-2
-    add-new-2
-    row-start-requires-2
-    length-in-requires-3
-    add-result
-    returns-3)
+    (tie.spec returns returns-2 (λ c κs. search needs) length-in-requires add-new length-in-requires-2 add-new-2
+    (λ c κs. search needs) length-in-requires-3 add-result returns-3)

@@ -15,29 +15,11 @@ abbrev μ-loop : tie.MeasureT-loop
 loop-holds : tie.Need-loop-holds Inv-loop μ-loop
 loop-holds c = staying-start (c .before .before .before .before .pre)
 
-mul-stays : tie.Need-mul-stays Inv-loop μ-loop
-mul-stays c = search needs
-
-array-read-stays : tie.Need-array-read-stays Inv-loop μ-loop
-array-read-stays c = search needs
-
-mul-stays-2 : tie.Need-mul-stays-2 Inv-loop μ-loop
-mul-stays-2 c = search needs
-
-array-read-stays-2 : tie.Need-array-read-stays-2 Inv-loop μ-loop
-array-read-stays-2 c = search needs
-
 stays-requires : tie.Need-stays-requires Inv-loop μ-loop
 stays-requires c κs = onto-asks (c .before .loop .inv) (c .loop-test .taken)
 
 returns : tie.Need-returns Inv-loop μ-loop
 returns c = staying-stops (c .before .before .before .loop .inv) (c .before .before .loop-test .taken) (c .before .stays .ensures) (not-true _ (c .if1 .taken))
-
-add-i : tie.Need-add-i Inv-loop μ-loop
-add-i c = search needs
-
-loop-less : tie.Need-loop-less Inv-loop μ-loop
-loop-less c = search needs
 
 loop-again : tie.Need-loop-again Inv-loop μ-loop
 loop-again c = staying-on (c .before .before .before .loop .inv) (c .before .before .loop-test .taken) (c .before .stays .ensures) (not-false _ (c .if1 .left))
@@ -48,17 +30,5 @@ returns-2 c = staying-end (c .before .loop .inv) (c .loop-test .left)
 pub stays-at-all-spec : {M : Type 1} → statement M
 stays-at-all-spec =
     tie.close
-    (tie.spec
-    Inv-loop
-    μ-loop
-    loop-holds
-    mul-stays
-    array-read-stays
-    mul-stays-2
-    array-read-stays-2
-    stays-requires
-    returns
-    add-i
-    loop-less
-    loop-again
-    returns-2)
+    (tie.spec Inv-loop μ-loop loop-holds (λ c. search needs) (λ c. search needs) (λ c. search needs) (λ c. search needs)
+    stays-requires returns (λ c. search needs) (λ c. search needs) loop-again returns-2)

@@ -6,9 +6,6 @@ use borrow.Author.Needs.{needs}
 use Rattle.or_opt.proofs.settled.move_between.Statement.{statement}
 use Rattle.or_opt.proofs.settled.move_between.Tie as tie
 
-row-start-requires : tie.Need-row-start-requires
-row-start-requires c κs = search needs
-
 length-in-requires : tie.Need-length-in-requires
 length-in-requires c κs = room-s (c .before .before .before .pre) (c .row-start .ensures) refl
 
@@ -21,32 +18,14 @@ add-taken c = omega (arith, taken-small (c .before .before .before .before .befo
 length-in-requires-3 : tie.Need-length-in-requires-3
 length-in-requires-3 c κs = room-c (c .before .before .before .before .before .pre) (c .before .before .row-start .ensures) refl
 
-row-start-requires-2 : tie.Need-row-start-requires-2
-row-start-requires-2 c κs = search needs
-
 length-in-requires-4 : tie.Need-length-in-requires-4
 length-in-requires-4 c κs = room-st (c .before .before .before .before .before .before .before .pre) (c .before .before .before .before .row-start .ensures) (c .row-start2 .ensures)
 
 add-given : tie.Need-add-given
 add-given c = omega (arith, given-small (c .before .before .before .before .before .before .before .before .pre) (c .before .before .before .before .before .row-start .ensures) (c .before .row-start2 .ensures) (c .before .before .before .before .length-in .ensures) (c .before .before .before .length-in2 .ensures) (c .before .before .length-in3 .ensures) (c .length-in4 .ensures))
 
-mul-own-leg : tie.Need-mul-own-leg
-mul-own-leg c = search needs
-
-element-copy-out-own-leg : tie.Need-element-copy-out-own-leg
-element-copy-out-own-leg c = search needs
-
-own-leg-requires : tie.Need-own-leg-requires
-own-leg-requires c κs = search needs
-
 narrow-requires : tie.Need-narrow-requires
 narrow-requires c κs = narrow-asks (c .before .before .before .before .before .before .before .before .before .before .before .pre) (c .before .before .before .before .before .before .before .before .row-start .ensures) (c .before .before .before .before .row-start2 .ensures) (c .before .before .before .before .before .before .before .length-in .ensures) (c .before .before .before .before .before .before .length-in2 .ensures) (c .before .before .before .before .before .length-in3 .ensures) (c .before .before .before .length-in4 .ensures)
-
-mul-legs : tie.Need-mul-legs
-mul-legs c = search needs
-
-element-write-legs : tie.Need-element-write-legs
-element-write-legs c = search needs
 
 returns : tie.Need-returns
 returns c = moved-told (c .before .before .before .before .before .before .before .before .before .before .before .before .pre) (c .before .before .before .before .before .before .before .before .before .row-start .ensures) (c .before .before .before .before .before .row-start2 .ensures) (c .before .before .before .before .before .before .before .before .length-in .ensures) (c .before .before .before .before .before .before .before .length-in2 .ensures) (c .before .before .before .before .before .before .length-in3 .ensures) (c .before .before .before .before .length-in4 .ensures) (c .narrow .ensures) (c .before .before .own-leg .ensures)
@@ -54,19 +33,6 @@ returns c = moved-told (c .before .before .before .before .before .before .befor
 pub move-between-spec : {M : Type 1} → statement M
 move-between-spec =
     tie.close
-    (tie.spec
-    row-start-requires
-    length-in-requires
-    length-in-requires-2
-    add-taken
-    length-in-requires-3
-    row-start-requires-2
-    length-in-requires-4
-    add-given
-    mul-own-leg
-    element-copy-out-own-leg
-    own-leg-requires
-    narrow-requires
-    mul-legs
-    element-write-legs
-    returns)
+    (tie.spec (λ c κs. search needs) length-in-requires length-in-requires-2 add-taken length-in-requires-3
+    (λ c κs. search needs) length-in-requires-4 add-given (λ c. search needs) (λ c. search needs) (λ c κs. search needs)
+    narrow-requires (λ c. search needs) (λ c. search needs) returns)

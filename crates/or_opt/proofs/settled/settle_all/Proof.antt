@@ -16,29 +16,11 @@ abbrev μ-loop : tie.MeasureT-loop
 loop-holds : tie.Need-loop-holds Inv-loop μ-loop
 loop-holds c = settling-start (c .before .before .before .before .pre)
 
-mul-has : tie.Need-mul-has Inv-loop μ-loop
-mul-has c = search needs
-
-array-read-has : tie.Need-array-read-has Inv-loop μ-loop
-array-read-has c = search needs
-
-mul-has-2 : tie.Need-mul-has-2 Inv-loop μ-loop
-mul-has-2 c = search needs
-
-array-read-has-2 : tie.Need-array-read-has-2 Inv-loop μ-loop
-array-read-has-2 c = search needs
-
 has-requires : tie.Need-has-requires Inv-loop μ-loop
 has-requires c κs = settling-stored (c .before .loop .inv) (c .loop-test .taken)
 
 settle-with-requires : tie.Need-settle-with-requires Inv-loop μ-loop
 settle-with-requires c κs = settling-asks (c .before .before .before .before .loop .inv) (c .before .before .before .loop-test .taken)
-
-add-i : tie.Need-add-i Inv-loop μ-loop
-add-i c = search needs
-
-loop-less : tie.Need-loop-less Inv-loop μ-loop
-loop-less c = search needs
 
 loop-again : tie.Need-loop-again Inv-loop μ-loop
 loop-again c =
@@ -53,17 +35,5 @@ returns c = settling-end (c .before .loop .inv) (c .loop-test .left)
 pub settle-all-spec : {M : Type 1} → statement M
 settle-all-spec =
     tie.close
-    (tie.spec
-    Inv-loop
-    μ-loop
-    loop-holds
-    mul-has
-    array-read-has
-    mul-has-2
-    array-read-has-2
-    has-requires
-    settle-with-requires
-    add-i
-    loop-less
-    loop-again
-    returns)
+    (tie.spec Inv-loop μ-loop loop-holds (λ c. search needs) (λ c. search needs) (λ c. search needs) (λ c. search needs)
+    has-requires settle-with-requires (λ c. search needs) (λ c. search needs) loop-again returns)

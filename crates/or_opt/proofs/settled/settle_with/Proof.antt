@@ -14,38 +14,8 @@ abbrev μ-loop : tie.MeasureT-loop
 loop-holds : tie.Need-loop-holds Inv-loop μ-loop
 loop-holds c = pairing-start (c .before .before .before .before .pre)
 
-mul-settle-two : tie.Need-mul-settle-two Inv-loop μ-loop
-mul-settle-two c = search needs
-
-array-read-settle-two : tie.Need-array-read-settle-two Inv-loop μ-loop
-array-read-settle-two c = search needs
-
-mul-settle-two-2 : tie.Need-mul-settle-two-2 Inv-loop μ-loop
-mul-settle-two-2 c = search needs
-
-array-read-settle-two-2 : tie.Need-array-read-settle-two-2 Inv-loop μ-loop
-array-read-settle-two-2 c = search needs
-
-mul-settle-two-3 : tie.Need-mul-settle-two-3 Inv-loop μ-loop
-mul-settle-two-3 c = search needs
-
-array-read-settle-two-3 : tie.Need-array-read-settle-two-3 Inv-loop μ-loop
-array-read-settle-two-3 c = search needs
-
-mul-settle-two-4 : tie.Need-mul-settle-two-4 Inv-loop μ-loop
-mul-settle-two-4 c = search needs
-
-array-read-settle-two-4 : tie.Need-array-read-settle-two-4 Inv-loop μ-loop
-array-read-settle-two-4 c = search needs
-
 settle-two-requires : tie.Need-settle-two-requires Inv-loop μ-loop
 settle-two-requires c κs = pairing-asks (c .before .before .loop .inv) (c .before .loop-test .taken)
-
-add-j : tie.Need-add-j Inv-loop μ-loop
-add-j c = search needs
-
-loop-less : tie.Need-loop-less Inv-loop μ-loop
-loop-less c = search needs
 
 loop-again : tie.Need-loop-again Inv-loop μ-loop
 loop-again c = pairing-on (c .before .before .before .loop .inv) (c .before .before .loop-test .taken) (c .settle-two .ensures)
@@ -56,20 +26,6 @@ returns c = pairing-end (c .before .loop .inv) (c .loop-test .left)
 pub settle-with-spec : {M : Type 1} → statement M
 settle-with-spec =
     tie.close
-    (tie.spec
-    Inv-loop
-    μ-loop
-    loop-holds
-    mul-settle-two
-    array-read-settle-two
-    mul-settle-two-2
-    array-read-settle-two-2
-    mul-settle-two-3
-    array-read-settle-two-3
-    mul-settle-two-4
-    array-read-settle-two-4
-    settle-two-requires
-    add-j
-    loop-less
-    loop-again
-    returns)
+    (tie.spec Inv-loop μ-loop loop-holds (λ c. search needs) (λ c. search needs) (λ c. search needs) (λ c. search needs)
+    (λ c. search needs) (λ c. search needs) (λ c. search needs) (λ c. search needs) settle-two-requires
+    (λ c. search needs) (λ c. search needs) loop-again returns)

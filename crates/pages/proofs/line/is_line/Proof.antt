@@ -14,36 +14,11 @@ returns-2 c =
     let l = k .before in
     compared _ _ _ (l .length-read .ensures) (k .if1 .left) (m .mark-read .ensures) (wrote-whole (w .put-line .ensures) (sym (line-length (l .before .before .pre .points) (k .if1 .left) _))) (c .same .ensures)
 
-length-read-requires : tie.Need-length-read-requires
-length-read-requires c κs = search needs
-
 returns : tie.Need-returns
 returns c = long-line _ _ _ (c .before .length-read .ensures) (omega (arith, c .if1 .taken))
-
-mark-read-requires : tie.Need-mark-read-requires
-mark-read-requires c κs = search needs
-
-slice-aggregate-put-line : tie.Need-slice-aggregate-put-line
-slice-aggregate-put-line c = search needs
-
-put-line-requires : tie.Need-put-line-requires
-put-line-requires c κs = search needs
-
-slice-aggregate-same : tie.Need-slice-aggregate-same
-slice-aggregate-same c = search needs
-
-same-requires : tie.Need-same-requires
-same-requires c κs = search needs
 
 pub is-line-spec : {M : Type 1} → statement M
 is-line-spec =
     tie.close
-    (tie.spec
-    length-read-requires
-    returns
-    mark-read-requires
-    slice-aggregate-put-line
-    put-line-requires
-    slice-aggregate-same
-    same-requires
-    returns-2)
+    (tie.spec (λ c κs. search needs) returns (λ c κs. search needs) (λ c. search needs) (λ c κs. search needs)
+    (λ c. search needs) (λ c κs. search needs) returns-2)

@@ -5,9 +5,6 @@ use borrow.Author.Needs.{needs}
 use Rattle.pages.proofs.line.mark_read.Statement.{statement}
 use Rattle.pages.proofs.line.mark_read.Tie as tie
 
-shared-slice-read-letter : tie.Need-shared-slice-read-letter
-shared-slice-read-letter c = search needs
-
 returns : tie.Need-returns
 returns c = read-open _ refl (c .if1 .taken)
 
@@ -18,4 +15,4 @@ returns-3 : tie.Need-returns-3
 returns-3 c = read-struck _ refl (c .before .if1 .left) (c .if2 .left)
 
 pub mark-read-spec : {M : Type 1} → statement M
-mark-read-spec = tie.close (tie.spec shared-slice-read-letter returns returns-2 returns-3)
+mark-read-spec = tie.close (tie.spec (λ c. search needs) returns returns-2 returns-3)

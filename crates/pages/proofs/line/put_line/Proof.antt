@@ -23,9 +23,6 @@ put-end-requires c κs =
     let w = w₂ .before .before .before .before in
     end-room (w .before .before .before .pre) (w .put-padded .ensures) (w₂ .put-padded2 .ensures) (w₃ .put-padded3 .ensures) _
 
-same-length : tie.Need-same-length
-same-length c = search needs
-
 returns : tie.Need-returns
 returns c =
     let v = c .before .before in
@@ -37,10 +34,5 @@ returns c =
 pub put-line-spec : {M : Type 1} → statement M
 put-line-spec =
     tie.close
-    (tie.spec
-    put-padded-requires
-    put-padded-requires-2
-    put-padded-requires-3
-    put-end-requires
-    same-length
+    (tie.spec put-padded-requires put-padded-requires-2 put-padded-requires-3 put-end-requires (λ c. search needs)
     returns)

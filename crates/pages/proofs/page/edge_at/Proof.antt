@@ -17,12 +17,6 @@ loop-holds c = walk-start (c .pre)
 following-requires : tie.Need-following-requires Inv-loop μ-loop
 following-requires c κs = walk-edge (c .before .before .pre) (c .before .loop .inv) (c .loop-test .taken)
 
-add-i : tie.Need-add-i Inv-loop μ-loop
-add-i c = search needs
-
-loop-less : tie.Need-loop-less Inv-loop μ-loop
-loop-less c = search needs
-
 loop-again : tie.Need-loop-again Inv-loop μ-loop
 loop-again c = walk-on (c .before .before .before .pre) (c .before .before .loop .inv) (c .before .loop-test .taken) (c .following .ensures)
 
@@ -32,4 +26,4 @@ returns c = walk-done (c .before .before .pre) (c .before .loop .inv) (c .loop-t
 pub edge-at-spec : {M : Type 1} → statement M
 edge-at-spec =
     tie.close
-    (tie.spec Inv-loop μ-loop loop-holds following-requires add-i loop-less loop-again returns)
+    (tie.spec Inv-loop μ-loop loop-holds following-requires (λ c. search needs) (λ c. search needs) loop-again returns)

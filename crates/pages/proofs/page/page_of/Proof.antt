@@ -9,23 +9,8 @@ use Rattle.pages.proofs.page.page_of.Tie as tie
 returns : tie.Need-returns
 returns c = page-zero _ _ (c .if1 .taken)
 
-count-requires : tie.Need-count-requires
-count-requires c κs = search needs
-
-sub-first : tie.Need-sub-first
-sub-first c = search needs
-
-mul-first : tie.Need-mul-first
-mul-first c = search needs
-
 returns-2 : tie.Need-returns-2
 returns-2 c = page-past _ _ (c .before .count .ensures) (c .before .before .if1 .left) (c .if2 .taken)
-
-sub-if3 : tie.Need-sub-if3
-sub-if3 c = search needs
-
-sub-t8 : tie.Need-sub-t8
-sub-t8 c = search needs
 
 returns-3 : tie.Need-returns-3
 returns-3 c = let k = c .before in page-last _ _ (k .before .count .ensures) (k .before .before .if1 .left) refl (λ h. omega (arith, k .if2 .left)) (c .if3 .taken)
@@ -36,13 +21,5 @@ returns-4 c = let k = c .before in page-full _ _ (k .before .count .ensures) (k 
 pub page-of-spec : {M : Type 1} → statement M
 page-of-spec =
     tie.close
-    (tie.spec
-    returns
-    count-requires
-    sub-first
-    mul-first
-    returns-2
-    sub-if3
-    sub-t8
-    returns-3
-    returns-4)
+    (tie.spec returns (λ c κs. search needs) (λ c. search needs) (λ c. search needs) returns-2 (λ c. search needs)
+    (λ c. search needs) returns-3 returns-4)

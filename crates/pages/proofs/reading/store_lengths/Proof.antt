@@ -27,12 +27,6 @@ add-end c = omega (arith, c .before .before .before .before .pre .most, c .loop-
 add-put32 : tie.Need-add-put32 Inv-loop μ-loop
 add-put32 c = let l = c .before in omega (arith, l .before .before .before .before .pre .few, l .loop-test .taken)
 
-sub-length-read : tie.Need-sub-length-read Inv-loop μ-loop
-sub-length-read c = search needs
-
-part-length-read-start : tie.Need-part-length-read-start Inv-loop μ-loop
-part-length-read-start c = search needs
-
 part-length-read-end : tie.Need-part-length-read-end Inv-loop μ-loop
 part-length-read-end c = let l = c .before in omega (arith, l .before .before .before .before .pre .whole, l .loop-test .taken)
 
@@ -41,12 +35,6 @@ length-read-requires c κs = let l = c .before .before in stored-line (l .before
 
 put32-requires : tie.Need-put32-requires Inv-loop μ-loop
 put32-requires c κs = let l = c .before .before .before in entry-there (l .before .before .before .before .pre) (l .before .loop .inv) (l .loop-test .taken)
-
-add-i : tie.Need-add-i Inv-loop μ-loop
-add-i c = search needs
-
-loop-less : tie.Need-loop-less Inv-loop μ-loop
-loop-less c = search needs
 
 loop-again : tie.Need-loop-again Inv-loop μ-loop
 loop-again c =
@@ -64,20 +52,6 @@ returns c = lengths-done (c .before .before .before .before .pre) (c .before .lo
 pub store-lengths-spec : {M : Type 1} → statement M
 store-lengths-spec =
     tie.close
-    (tie.spec
-    Inv-loop
-    μ-loop
-    loop-holds
-    mul-at
-    add-end
-    add-put32
-    sub-length-read
-    part-length-read-start
-    part-length-read-end
-    length-read-requires
-    put32-requires
-    add-i
-    loop-less
-    loop-again
-    same-length
-    returns)
+    (tie.spec Inv-loop μ-loop loop-holds mul-at add-end add-put32 (λ c. search needs) (λ c. search needs)
+    part-length-read-end length-read-requires put32-requires (λ c. search needs) (λ c. search needs) loop-again
+    same-length returns)

@@ -25,12 +25,6 @@ mul-at c = omega (arith, c .before .before .before .before .pre .most, c .loop-t
 add-end : tie.Need-add-end Inv-loop μ-loop
 add-end c = omega (arith, c .before .before .before .before .pre .most, c .loop-test .taken)
 
-sub-mark-read : tie.Need-sub-mark-read Inv-loop μ-loop
-sub-mark-read c = search needs
-
-part-mark-read-start : tie.Need-part-mark-read-start Inv-loop μ-loop
-part-mark-read-start c = search needs
-
 part-mark-read-end : tie.Need-part-mark-read-end Inv-loop μ-loop
 part-mark-read-end c = omega (arith, c .before .before .before .before .pre .whole, c .loop-test .taken)
 
@@ -49,12 +43,6 @@ put-quarter-requires c κs = record { place = omega arith; two-bits = omega (ari
 slice-write-set : tie.Need-slice-write-set Inv-loop μ-loop
 slice-write-set c = let l = c .before .before .before .before in mark-inside (l .before .before .before .before .pre) (l .before .loop .inv) (l .loop-test .taken)
 
-add-i : tie.Need-add-i Inv-loop μ-loop
-add-i c = search needs
-
-loop-less : tie.Need-loop-less Inv-loop μ-loop
-loop-less c = search needs
-
 loop-again : tie.Need-loop-again Inv-loop μ-loop
 loop-again c =
     let m = c .before .before in
@@ -70,22 +58,6 @@ returns c = marks-done (c .before .before .before .before .pre) (c .before .loop
 pub store-marks-spec : {M : Type 1} → statement M
 store-marks-spec =
     tie.close
-    (tie.spec
-    Inv-loop
-    μ-loop
-    loop-holds
-    mul-at
-    add-end
-    sub-mark-read
-    part-mark-read-start
-    part-mark-read-end
-    mark-read-requires
-    add-place
-    slice-read-put-quarter
-    put-quarter-requires
-    slice-write-set
-    add-i
-    loop-less
-    loop-again
-    same-length
-    returns)
+    (tie.spec Inv-loop μ-loop loop-holds mul-at add-end (λ c. search needs) (λ c. search needs) part-mark-read-end
+    mark-read-requires add-place slice-read-put-quarter put-quarter-requires slice-write-set (λ c. search needs)
+    (λ c. search needs) loop-again same-length returns)

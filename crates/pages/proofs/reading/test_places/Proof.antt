@@ -12,23 +12,8 @@ use Rattle.pages.proofs.reading.test_places.Tie as tie
 admits : (c : tie.After-known-told) → Admits (c .before .before .before .before .before .before .args .n) (c .before .instance .given .0 .0)
 admits c = admitted (sym (c .before .before .before .admit .ensures) ∙ c .before .instance .given .1)
 
-admit-requires : tie.Need-admit-requires
-admit-requires c κs = search needs
-
-enum-known-instance : tie.Need-enum-known-instance
-enum-known-instance c = search needs
-
-enum-told : tie.Need-enum-told
-enum-told c = search needs
-
 returns : tie.Need-returns
 returns c = places-points _ _ _ (sym (c .before .before .admit .ensures) ∙ c .enum-told .given .1)
-
-count32-requires : tie.Need-count32-requires
-count32-requires c κs = search needs
-
-count-requires : tie.Need-count-requires
-count-requires c κs = search needs
 
 returns-2 : tie.Need-returns-2
 returns-2 c =
@@ -53,14 +38,5 @@ returns-4 c =
 pub test-places-spec : {M : Type 1} → statement M
 test-places-spec =
     tie.close
-    (tie.spec
-    admit-requires
-    enum-known-instance
-    enum-told
-    returns
-    count32-requires
-    count-requires
-    returns-2
-    well-packed-requires
-    returns-3
-    returns-4)
+    (tie.spec (λ c κs. search needs) (λ c. search needs) (λ c. search needs) returns (λ c κs. search needs)
+    (λ c κs. search needs) returns-2 well-packed-requires returns-3 returns-4)

@@ -28,20 +28,11 @@ cast-has-line-2 c = omega (arith, seek-short (c .before .before .before .before 
 has-line-requires : tie.Need-has-line-requires Inv-loop μ-loop
 has-line-requires c κs = seek-asked (c .before .before .before .before .pre) (c .before .loop .inv) (c .loop-test .taken)
 
-add-result : tie.Need-add-result Inv-loop μ-loop
-add-result c = search needs
-
 returns : tie.Need-returns Inv-loop μ-loop
 returns c = let k = c .before in let l = k .before in seek-wrong (l .before .before .before .before .pre) (l .before .loop .inv) (l .loop-test .taken) (k .has-line .ensures) (c .if1 .taken)
 
 following-requires : tie.Need-following-requires Inv-loop μ-loop
 following-requires c κs = let l = c .before .before in (l .before .before .before .before .pre .few, seek-edge (l .before .before .before .before .pre) (l .before .loop .inv) (l .loop-test .taken))
-
-add-i : tie.Need-add-i Inv-loop μ-loop
-add-i c = search needs
-
-loop-less : tie.Need-loop-less Inv-loop μ-loop
-loop-less c = search needs
 
 loop-again : tie.Need-loop-again Inv-loop μ-loop
 loop-again c =
@@ -58,19 +49,6 @@ returns-2 c = seek-done (c .before .before .before .before .pre) (c .before .loo
 pub wrong-line-spec : {M : Type 1} → statement M
 wrong-line-spec =
     tie.close
-    (tie.spec
-    Inv-loop
-    μ-loop
-    edge-at-requires
-    loop-holds
-    cast-has-line
-    cast-has-line-2
-    has-line-requires
-    add-result
-    returns
-    following-requires
-    add-i
-    loop-less
-    loop-again
-    add-result-2
+    (tie.spec Inv-loop μ-loop edge-at-requires loop-holds cast-has-line cast-has-line-2 has-line-requires
+    (λ c. search needs) returns following-requires (λ c. search needs) (λ c. search needs) loop-again add-result-2
     returns-2)

@@ -34,9 +34,6 @@ shared-slice-read-quarter c =
     let l = c .before .before in
     omega (arith, held-inside _ _ (l .before .before .before .before .before .before .pre .marked) (put-inside (l .before .before .before .before .before .before .pre) (l .before .loop .inv) (l .loop-test .taken)))
 
-quarter-requires : tie.Need-quarter-requires Inv-loop μ-loop
-quarter-requires c κs = search needs
-
 cast-put-line : tie.Need-cast-put-line Inv-loop μ-loop
 cast-put-line c = let l = c .before .before .before in omega (arith, put-short (l .before .before .before .before .before .before .pre) (l .before .loop .inv) (l .loop-test .taken))
 
@@ -52,12 +49,6 @@ following-requires : tie.Need-following-requires Inv-loop μ-loop
 following-requires c κs =
     let l = c .before .before .before .before .before .before .before in
     (l .before .before .before .before .before .before .pre .part .few, put-edge (l .before .before .before .before .before .before .pre) (l .before .loop .inv) (l .loop-test .taken))
-
-add-i : tie.Need-add-i Inv-loop μ-loop
-add-i c = search needs
-
-loop-less : tie.Need-loop-less Inv-loop μ-loop
-loop-less c = search needs
 
 loop-again : tie.Need-loop-again Inv-loop μ-loop
 loop-again c =
@@ -78,21 +69,6 @@ returns c = put-done (c .before .before .before .before .before .before .pre) (c
 pub put-lines-spec : {M : Type 1} → statement M
 put-lines-spec =
     tie.close
-    (tie.spec
-    Inv-loop
-    μ-loop
-    edge-at-requires
-    loop-holds
-    add-place
-    number32-requires
-    shared-slice-read-quarter
-    quarter-requires
-    cast-put-line
-    cast-put-line-2
-    put-line-requires
-    following-requires
-    add-i
-    loop-less
-    loop-again
-    same-length
-    returns)
+    (tie.spec Inv-loop μ-loop edge-at-requires loop-holds add-place number32-requires shared-slice-read-quarter
+    (λ c κs. search needs) cast-put-line cast-put-line-2 put-line-requires following-requires (λ c. search needs)
+    (λ c. search needs) loop-again same-length returns)

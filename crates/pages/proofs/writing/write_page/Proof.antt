@@ -7,26 +7,8 @@ use borrow.Author.Needs.{needs}
 use Rattle.pages.proofs.writing.write_page.Statement.{statement}
 use Rattle.pages.proofs.writing.write_page.Tie as tie
 
-test-instance-requires : tie.Need-test-instance-requires
-test-instance-requires c κs = search needs
-
-enum-known-tested : tie.Need-enum-known-tested
-enum-known-tested c = search needs
-
-enum-known-tested-2 : tie.Need-enum-known-tested-2
-enum-known-tested-2 c = search needs
-
 returns : tie.Need-returns
 returns c = write-tests (sym (c .before .before .before .test-instance .ensures) ∙ c .before .tested2 .given .1)
-
-page-of-requires : tie.Need-page-of-requires
-page-of-requires c κs = search needs
-
-enum-known-first : tie.Need-enum-known-first
-enum-known-first c = search needs
-
-enum-told : tie.Need-enum-told
-enum-told c = search needs
 
 returns-2 : tie.Need-returns-2
 returns-2 c =
@@ -45,27 +27,12 @@ put-lines-requires c κs = let k = c .before .before in write-asked _ _ _ (sym (
 cast-t20 : tie.Need-cast-t20
 cast-t20 c = let w = c .before .before in let k = w .before .before .before in omega (arith, write-few _ _ _ (sym (k .before .before .before .before .before .before .before .test-instance .ensures) ∙ k .before .before .before .before .before .tested .given .1) (paged (sym (k .before .before .before .page-of .ensures) ∙ k .before .first .given .1)) (w .put-lines .ensures))
 
-same-length : tie.Need-same-length
-same-length c = search needs
-
 returns-4 : tie.Need-returns-4
 returns-4 c = let w = c .before .before in let k = w .before .before .before in write-done _ _ _ (sym (k .before .before .before .before .before .before .before .test-instance .ensures) ∙ k .before .before .before .before .before .tested .given .1) (paged (sym (k .before .before .before .page-of .ensures) ∙ k .before .first .given .1)) (w .put-lines .ensures) (w .before .before .if1 .left)
 
 pub write-page-spec : {M : Type 1} → statement M
 write-page-spec =
     tie.close
-    (tie.spec
-    test-instance-requires
-    enum-known-tested
-    enum-known-tested-2
-    returns
-    page-of-requires
-    enum-known-first
-    enum-told
-    returns-2
-    mul-if1
-    returns-3
-    put-lines-requires
-    cast-t20
-    same-length
+    (tie.spec (λ c κs. search needs) (λ c. search needs) (λ c. search needs) returns (λ c κs. search needs)
+    (λ c. search needs) (λ c. search needs) returns-2 mul-if1 returns-3 put-lines-requires cast-t20 (λ c. search needs)
     returns-4)

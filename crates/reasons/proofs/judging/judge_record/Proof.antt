@@ -7,35 +7,18 @@ use borrow.Author.Needs.{needs}
 use Rattle.reasons.proofs.judging.judge_record.Statement.{statement}
 use Rattle.reasons.proofs.judging.judge_record.Tie as tie
 
-slice-aggregate-judge-by-rows : tie.Need-slice-aggregate-judge-by-rows
-slice-aggregate-judge-by-rows c = search needs
-
 judge-by-rows-requires : tie.Need-judge-by-rows-requires
 judge-by-rows-requires c κs =
     judge-room fewPoints (c .before .before .before .before .before .pre) (c .before .if1 .taken) (length-replicate {A =
     ℕ} ((fewPoints + 1) * (fewPoints + 1)) 0)
-
-returns : tie.Need-returns
-returns c = search needs
-
-slice-aggregate-judge-by-rows-2 : tie.Need-slice-aggregate-judge-by-rows-2
-slice-aggregate-judge-by-rows-2 c = search needs
 
 judge-by-rows-requires-2 : tie.Need-judge-by-rows-requires-2
 judge-by-rows-requires-2 c κs =
     let p = c .before .before .before .before .before .pre in
     judge-room mostPoints p (p .admitted .limits .out-lengths .few) (length-replicate {A = ℕ} (pointPlaces * pointPlaces) 0)
 
-returns-2 : tie.Need-returns-2
-returns-2 c = search needs
-
 pub judge-record-spec : {M : Type 1} → statement M
 judge-record-spec =
     tie.close
-    (tie.spec
-    slice-aggregate-judge-by-rows
-    judge-by-rows-requires
-    returns
-    slice-aggregate-judge-by-rows-2
-    judge-by-rows-requires-2
-    returns-2)
+    (tie.spec (λ c. search needs) judge-by-rows-requires (λ c. search needs) (λ c. search needs)
+    judge-by-rows-requires-2 (λ c. search needs))

@@ -17,9 +17,6 @@ Inv-loop n table marks sheet a b c first text₀ points edges x₀ y₀ case₀ 
 abbrev μ-loop : tie.MeasureT-loop
 μ-loop n table marks sheet a b c first text₀ points edges x₀ y₀ case₀ at₀ k₀ text x y case at k = edgeCount n - k
 
-count-requires : tie.Need-count-requires Inv-loop μ-loop
-count-requires c κs = search needs
-
 loop-holds : tie.Need-loop-holds Inv-loop μ-loop
 loop-holds c = put-start (c .before .before .before .before .before .pre) _ _ _
 
@@ -51,9 +48,6 @@ following-requires c κs =
     let p = l .before .before .before .before .before .before .before .pre in
     (p .split .lengths .few, edge-here p _ (l .before .loop .inv) (l .before .before .count .ensures) (l .loop-test .taken))
 
-add-k : tie.Need-add-k Inv-loop μ-loop
-add-k c = search needs
-
 loop-less : tie.Need-loop-less Inv-loop μ-loop
 loop-less c =
     omega (
@@ -80,17 +74,5 @@ returns c =
 pub put-text-spec : {M : Type 1} → statement M
 put-text-spec =
     tie.close
-    (tie.spec
-    Inv-loop
-    μ-loop
-    count-requires
-    loop-holds
-    cast-tell-edge
-    cast-tell-edge-2
-    tell-edge-requires
-    following-requires
-    add-k
-    loop-less
-    loop-again
-    same-length
-    returns)
+    (tie.spec Inv-loop μ-loop (λ c κs. search needs) loop-holds cast-tell-edge cast-tell-edge-2 tell-edge-requires
+    following-requires (λ c. search needs) loop-less loop-again same-length returns)

@@ -10,15 +10,6 @@ returns c = low-end _ _ _ _ _ (c .if1 .taken)
 returns-2 : tie.Need-returns-2
 returns-2 c = high-end _ _ _ _ _ (c .before .if1 .left) (c .if2 .taken)
 
-tell-pair-requires : tie.Need-tell-pair-requires
-tell-pair-requires c κs = search needs
-
-put-fitting-requires : tie.Need-put-fitting-requires
-put-fitting-requires c κs = search needs
-
-same-length : tie.Need-same-length
-same-length c = search needs
-
 returns-3 : tie.Need-returns-3
 returns-3 c =
     let t = c .before .before .before .before in
@@ -28,4 +19,4 @@ returns-3 c =
 pub tell-edge-spec : {M : Type 1} → statement M
 tell-edge-spec =
     tie.close
-    (tie.spec returns returns-2 tell-pair-requires put-fitting-requires same-length returns-3)
+    (tie.spec returns returns-2 (λ c κs. search needs) (λ c κs. search needs) (λ c. search needs) returns-3)

@@ -4,21 +4,6 @@ use borrow.Author.Needs.{needs}
 use Rattle.reasons.proofs.line_text.tell_pair.Statement.{statement}
 use Rattle.reasons.proofs.line_text.tell_pair.Tie as tie
 
-pair-outcome-requires : tie.Need-pair-outcome-requires
-pair-outcome-requires c κs = search needs
-
-enum-known-reason : tie.Need-enum-known-reason
-enum-known-reason c = search needs
-
-enum-told : tie.Need-enum-told
-enum-told c = search needs
-
-field-requires : tie.Need-field-requires
-field-requires c κs = search needs
-
-field-requires-2 : tie.Need-field-requires-2
-field-requires-2 c κs = search needs
-
 returns : tie.Need-returns
 returns c = told-shut _ _ (c .before .before .before .pair-outcome .ensures) (c .before .reason .given .1)
 
@@ -30,11 +15,5 @@ returns-2 c =
 pub tell-pair-spec : {M : Type 1} → statement M
 tell-pair-spec =
     tie.close
-    (tie.spec
-    pair-outcome-requires
-    enum-known-reason
-    enum-told
-    field-requires
-    field-requires-2
-    returns
-    returns-2)
+    (tie.spec (λ c κs. search needs) (λ c. search needs) (λ c. search needs) (λ c κs. search needs)
+    (λ c κs. search needs) returns returns-2)

@@ -6,17 +6,11 @@ use borrow.Author.Needs.{needs}
 use Rattle.reasons.proofs.pair.are_ends.Statement.{statement}
 use Rattle.reasons.proofs.pair.are_ends.Tie as tie
 
-is-end-requires : tie.Need-is-end-requires
-is-end-requires c κs = search needs
-
 returns : tie.Need-returns
 returns c = and-stop _ (sym (c .before .is-end .ensures) ∙ not-true _ (c .if1 .taken))
-
-is-end-requires-2 : tie.Need-is-end-requires-2
-is-end-requires-2 c κs = search needs
 
 returns-2 : tie.Need-returns-2
 returns-2 c = and-go (sym (c .before .before .is-end .ensures) ∙ not-false _ (c .before .if1 .left)) (c .is-end2 .ensures)
 
 pub are-ends-spec : {M : Type 1} → statement M
-are-ends-spec = tie.close (tie.spec is-end-requires returns is-end-requires-2 returns-2)
+are-ends-spec = tie.close (tie.spec (λ c κs. search needs) returns (λ c κs. search needs) returns-2)

@@ -5,9 +5,6 @@ use borrow.Author.Needs.{needs}
 use Rattle.reasons.proofs.pair.exchange_gain.Statement.{statement}
 use Rattle.reasons.proofs.pair.exchange_gain.Tie as tie
 
-exchange-saving-requires : tie.Need-exchange-saving-requires
-exchange-saving-requires c κs = search needs
-
 gain-requires : tie.Need-gain-requires
 gain-requires c κs = held-small (c .exchange-saving .ok) (c .exchange-saving .ensures) (exchange-small (c .before .before .pre))
 
@@ -15,4 +12,4 @@ returns : tie.Need-returns
 returns c = c .gain .ensures ∙ held-gain (c .before .exchange-saving .ok) (c .before .exchange-saving .ensures)
 
 pub exchange-gain-spec : {M : Type 1} → statement M
-exchange-gain-spec = tie.close (tie.spec exchange-saving-requires gain-requires returns)
+exchange-gain-spec = tie.close (tie.spec (λ c κs. search needs) gain-requires returns)

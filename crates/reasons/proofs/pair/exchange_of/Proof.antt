@@ -5,22 +5,10 @@ use borrow.Author.Needs.{needs}
 use Rattle.reasons.proofs.pair.exchange_of.Statement.{statement}
 use Rattle.reasons.proofs.pair.exchange_of.Tie as tie
 
-lower-requires : tie.Need-lower-requires
-lower-requires c κs = search needs
-
-higher-requires : tie.Need-higher-requires
-higher-requires c κs = search needs
-
-lower-requires-2 : tie.Need-lower-requires-2
-lower-requires-2 c κs = search needs
-
-higher-requires-2 : tie.Need-higher-requires-2
-higher-requires-2 c κs = search needs
-
 returns : tie.Need-returns
 unfolding outcomeOf reasonOf
 returns c = cc
 
 pub exchange-of-spec : {M : Type 1} → statement M
 exchange-of-spec =
-    tie.close (tie.spec lower-requires higher-requires lower-requires-2 higher-requires-2 returns)
+    tie.close (tie.spec (λ c κs. search needs) (λ c κs. search needs) (λ c κs. search needs) (λ c κs. search needs) returns)

@@ -5,15 +5,9 @@ use borrow.Author.Needs.{needs}
 use Rattle.reasons.proofs.pair.has_third.Statement.{statement}
 use Rattle.reasons.proofs.pair.has_third.Tie as tie
 
-is-end-requires : tie.Need-is-end-requires
-is-end-requires c κs = search needs
-
 returns : tie.Need-returns
 unfolding third?
 returns c = rw (third?, ← c .before .is-end .ensures, not-true (c .before .is-end .result) (c .if1 .taken))
-
-is-end-requires-2 : tie.Need-is-end-requires-2
-is-end-requires-2 c κs = search needs
 
 returns-2 : tie.Need-returns-2
 unfolding third?
@@ -21,9 +15,6 @@ returns-2 c =
     let f = c .before .before .before in
     rw
     (third?, ← f .is-end .ensures, not-false (f .is-end .result) (c .before .before .if1 .left), ← c .before .is-end2 .ensures, c .if2 .taken)
-
-is-end-requires-3 : tie.Need-is-end-requires-3
-is-end-requires-3 c κs = search needs
 
 returns-3 : tie.Need-returns-3
 unfolding third?
@@ -36,4 +27,4 @@ returns-3 c =
 pub has-third-spec : {M : Type 1} → statement M
 has-third-spec =
     tie.close
-    (tie.spec is-end-requires returns is-end-requires-2 returns-2 is-end-requires-3 returns-3)
+    (tie.spec (λ c κs. search needs) returns (λ c κs. search needs) returns-2 (λ c κs. search needs) returns-3)

@@ -6,9 +6,6 @@ use borrow.Author.Needs.{needs}
 use Rattle.reasons.proofs.pair.is_low_end.Statement.{statement}
 use Rattle.reasons.proofs.pair.is_low_end.Tie as tie
 
-is-end-requires : tie.Need-is-end-requires
-is-end-requires c κs = search needs
-
 returns : tie.Need-returns
 returns c = and-stop _ (sym (c .before .is-end .ensures) ∙ not-true _ (c .if1 .taken))
 
@@ -16,4 +13,4 @@ returns-2 : tie.Need-returns-2
 returns-2 c = and-go (sym (c .before .is-end .ensures) ∙ not-false _ (c .if1 .left)) refl
 
 pub is-low-end-spec : {M : Type 1} → statement M
-is-low-end-spec = tie.close (tie.spec is-end-requires returns returns-2)
+is-low-end-spec = tie.close (tie.spec (λ c κs. search needs) returns returns-2)

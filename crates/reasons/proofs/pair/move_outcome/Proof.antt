@@ -5,14 +5,8 @@ use borrow.Author.Needs.{needs}
 use Rattle.reasons.proofs.pair.move_outcome.Statement.{statement}
 use Rattle.reasons.proofs.pair.move_outcome.Tie as tie
 
-is-end-requires : tie.Need-is-end-requires
-is-end-requires c κs = search needs
-
 returns : tie.Need-returns
 returns c = move-end _ _ _ _ _ _ (sym (c .before .is-end .ensures) ∙ c .if1 .taken)
-
-move-saving-requires : tie.Need-move-saving-requires
-move-saving-requires c κs = search needs
 
 gain-requires : tie.Need-gain-requires
 gain-requires c κs = held-small (c .move-saving .ok) (c .move-saving .ensures) (move-small (c .before .before .before .before .pre))
@@ -22,9 +16,6 @@ returns-2 c =
     let m = c .before .before in
     move-none _ _ _ _ _ _ (sym (m .before .before .is-end .ensures) ∙ m .before .if1 .left)
     (c .before .gain .ensures ∙ held-gain (m .move-saving .ok) (m .move-saving .ensures)) (c .if2 .taken)
-
-move-of-requires : tie.Need-move-of-requires
-move-of-requires c κs = search needs
 
 returns-3 : tie.Need-returns-3
 returns-3 c =
@@ -36,11 +27,5 @@ returns-3 c =
 pub move-outcome-spec : {M : Type 1} → statement M
 move-outcome-spec =
     tie.close
-    (tie.spec
-    is-end-requires
-    returns
-    move-saving-requires
-    gain-requires
-    returns-2
-    move-of-requires
+    (tie.spec (λ c κs. search needs) returns (λ c κs. search needs) gain-requires returns-2 (λ c κs. search needs)
     returns-3)

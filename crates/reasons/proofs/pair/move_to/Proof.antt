@@ -5,15 +5,9 @@ use borrow.Author.Needs.{needs}
 use Rattle.reasons.proofs.pair.move_to.Statement.{statement}
 use Rattle.reasons.proofs.pair.move_to.Tie as tie
 
-lower-requires : tie.Need-lower-requires
-lower-requires c κs = search needs
-
-higher-requires : tie.Need-higher-requires
-higher-requires c κs = search needs
-
 returns : tie.Need-returns
 unfolding outcomeOf reasonOf
 returns c = cc
 
 pub move-to-spec : {M : Type 1} → statement M
-move-to-spec = tie.close (tie.spec lower-requires higher-requires returns)
+move-to-spec = tie.close (tie.spec (λ c κs. search needs) (λ c κs. search needs) returns)

@@ -6,21 +6,9 @@ use borrow.Author.Needs.{needs}
 use Rattle.reasons.proofs.pair.pair_outcome.Statement.{statement}
 use Rattle.reasons.proofs.pair.pair_outcome.Tie as tie
 
-is-open-requires : tie.Need-is-open-requires
-is-open-requires c κs = search needs
-
-struck-leg-requires : tie.Need-struck-leg-requires
-struck-leg-requires c κs = search needs
-
 returns : tie.Need-returns
 returns c =
     struck-first _ _ _ _ _ _ _ (sym (c .before .before .is-open .ensures) ∙ not-true _ (c .before .if1 .taken)) (c .struck-leg .ensures)
-
-is-open-requires-2 : tie.Need-is-open-requires-2
-is-open-requires-2 c κs = search needs
-
-struck-leg-requires-2 : tie.Need-struck-leg-requires-2
-struck-leg-requires-2 c κs = search needs
 
 returns-2 : tie.Need-returns-2
 returns-2 c =
@@ -28,21 +16,12 @@ returns-2 c =
     struck-second _ _ _ _ _ _ _ (sym (f .before .is-open .ensures) ∙ not-false _ (f .if1 .left))
     (sym (c .before .before .is-open2 .ensures) ∙ not-true _ (c .before .if2 .taken)) (c .struck-leg2 .ensures)
 
-has-third-requires : tie.Need-has-third-requires
-has-third-requires c κs = search needs
-
 returns-3 : tie.Need-returns-3
 returns-3 c =
     let g = c .before .before in
     let f = g .before .before in
     third-told _ _ _ _ _ _ _ (sym (f .before .is-open .ensures) ∙ not-false _ (f .if1 .left))
     (sym (g .before .is-open2 .ensures) ∙ not-false _ (g .if2 .left)) (sym (c .before .has-third .ensures) ∙ c .if3 .taken)
-
-are-ends-requires : tie.Need-are-ends-requires
-are-ends-requires c κs = search needs
-
-loop-of-requires : tie.Need-loop-of-requires
-loop-of-requires c κs = search needs
 
 returns-4 : tie.Need-returns-4
 returns-4 c =
@@ -52,9 +31,6 @@ returns-4 c =
     loop-told _ _ _ _ _ _ _ (sym (f .before .is-open .ensures) ∙ not-false _ (f .if1 .left))
     (sym (g .before .is-open2 .ensures) ∙ not-false _ (g .if2 .left)) (sym (d .before .has-third .ensures) ∙ d .if3 .left)
     (sym (c .before .before .are-ends .ensures) ∙ c .before .if4 .taken) (c .loop-of .ensures)
-
-saving-outcome-requires : tie.Need-saving-outcome-requires
-saving-outcome-requires c κs = search needs
 
 returns-5 : tie.Need-returns-5
 returns-5 c =
@@ -68,17 +44,6 @@ returns-5 c =
 pub pair-outcome-spec : {M : Type 1} → statement M
 pair-outcome-spec =
     tie.close
-    (tie.spec
-    is-open-requires
-    struck-leg-requires
-    returns
-    is-open-requires-2
-    struck-leg-requires-2
-    returns-2
-    has-third-requires
-    returns-3
-    are-ends-requires
-    loop-of-requires
-    returns-4
-    saving-outcome-requires
-    returns-5)
+    (tie.spec (λ c κs. search needs) (λ c κs. search needs) returns (λ c κs. search needs) (λ c κs. search needs)
+    returns-2 (λ c κs. search needs) returns-3 (λ c κs. search needs) (λ c κs. search needs) returns-4
+    (λ c κs. search needs) returns-5)

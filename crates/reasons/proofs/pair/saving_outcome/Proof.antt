@@ -4,29 +4,14 @@ use borrow.Author.Needs.{needs}
 use Rattle.reasons.proofs.pair.saving_outcome.Statement.{statement}
 use Rattle.reasons.proofs.pair.saving_outcome.Tie as tie
 
-exchange-gain-requires : tie.Need-exchange-gain-requires
-exchange-gain-requires c κs = search needs
-
-exchange-of-requires : tie.Need-exchange-of-requires
-exchange-of-requires c κs = search needs
-
 returns : tie.Need-returns
 returns c = exchange-first _ _ _ _ _ _ (c .before .before .exchange-gain .ensures) (c .before .if1 .taken) (c .exchange-of .ensures)
-
-exchange-gain-requires-2 : tie.Need-exchange-gain-requires-2
-exchange-gain-requires-2 c κs = search needs
-
-exchange-of-requires-2 : tie.Need-exchange-of-requires-2
-exchange-of-requires-2 c κs = search needs
 
 returns-2 : tie.Need-returns-2
 returns-2 c =
     let f = c .before .before .before in
     exchange-second _ _ _ _ _ _ (f .before .exchange-gain .ensures) (f .if1 .left) (c .before .before .exchange-gain2 .ensures)
     (c .before .if2 .taken) (c .exchange-of2 .ensures)
-
-move-outcome-requires : tie.Need-move-outcome-requires
-move-outcome-requires c κs = search needs
 
 returns-3 : tie.Need-returns-3
 returns-3 c =
@@ -37,12 +22,5 @@ returns-3 c =
 pub saving-outcome-spec : {M : Type 1} → statement M
 saving-outcome-spec =
     tie.close
-    (tie.spec
-    exchange-gain-requires
-    exchange-of-requires
-    returns
-    exchange-gain-requires-2
-    exchange-of-requires-2
-    returns-2
-    move-outcome-requires
-    returns-3)
+    (tie.spec (λ c κs. search needs) (λ c κs. search needs) returns (λ c κs. search needs) (λ c κs. search needs)
+    returns-2 (λ c κs. search needs) returns-3)

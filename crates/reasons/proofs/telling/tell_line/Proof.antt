@@ -6,37 +6,10 @@ use borrow.Author.Needs.{needs}
 use Rattle.reasons.proofs.telling.tell_line.Statement.{statement}
 use Rattle.reasons.proofs.telling.tell_line.Tie as tie
 
-test-instance-requires : tie.Need-test-instance-requires
-test-instance-requires c κs = search needs
-
-enum-known-points : tie.Need-enum-known-points
-enum-known-points c = search needs
-
-enum-known-number : tie.Need-enum-known-number
-enum-known-number c = search needs
-
-turned-down-requires : tie.Need-turned-down-requires
-turned-down-requires c κs = search needs
-
 returns : tie.Need-returns
 returns c =
     line-untested _ _ _ _ (c .before .before .before .before .test-instance .ensures) _ (c .before .before .number .given .1)
     (c .turned-down .ensures)
-
-count16-requires : tie.Need-count16-requires
-count16-requires c κs = search needs
-
-admit-requires : tie.Need-admit-requires
-admit-requires c κs = search needs
-
-enum-told : tie.Need-enum-told
-enum-told c = search needs
-
-turned-down-requires-2 : tie.Need-turned-down-requires-2
-turned-down-requires-2 c κs = search needs
-
-enum-known-admitted : tie.Need-enum-known-admitted
-enum-known-admitted c = search needs
 
 tell-record-requires : tie.Need-tell-record-requires
 tell-record-requires c κs =
@@ -52,9 +25,6 @@ returns-2 c =
     line-not-whole _ _ _ _ (p .before .before .test-instance .ensures) (p .points .given .1)
     (a .admit .ensures ∙ ap sheetAdmission (a .before .count16 .ensures)) _ (c .before .enum-told .given .1) (c .turned-down2 .ensures)
 
-same-length : tie.Need-same-length
-same-length c = search needs
-
 returns-3 : tie.Need-returns-3
 returns-3 c =
     let a = c .before .before .before .before .before .before .before in
@@ -65,18 +35,6 @@ returns-3 c =
 pub tell-line-spec : {M : Type 1} → statement M
 tell-line-spec =
     tie.close
-    (tie.spec
-    test-instance-requires
-    enum-known-points
-    enum-known-number
-    turned-down-requires
-    returns
-    count16-requires
-    admit-requires
-    enum-told
-    turned-down-requires-2
-    enum-known-admitted
-    tell-record-requires
-    returns-2
-    same-length
-    returns-3)
+    (tie.spec (λ c κs. search needs) (λ c. search needs) (λ c. search needs) (λ c κs. search needs) returns
+    (λ c κs. search needs) (λ c κs. search needs) (λ c. search needs) (λ c κs. search needs) (λ c. search needs)
+    tell-record-requires returns-2 (λ c. search needs) returns-3)

@@ -4,37 +4,13 @@ use borrow.Author.Needs.{needs}
 use Rattle.reasons.proofs.telling.tell_record.Statement.{statement}
 use Rattle.reasons.proofs.telling.tell_record.Tie as tie
 
-turned-down-requires : tie.Need-turned-down-requires
-turned-down-requires c κs = search needs
-
 returns : tie.Need-returns
 returns c = record-none _ _ _ _ _ (c .before .if1 .taken) (c .turned-down .ensures)
-
-turned-down-requires-2 : tie.Need-turned-down-requires-2
-turned-down-requires-2 c κs = search needs
 
 returns-2 : tie.Need-returns-2
 returns-2 c =
     record-past _ _ _ _ _ (c .before .before .before .before .before .before .before .pre) (c .before .if2 .taken)
     (c .turned-down2 .ensures)
-
-cast-i : tie.Need-cast-i
-cast-i c = search needs
-
-judge-record-requires : tie.Need-judge-record-requires
-judge-record-requires c κs = search needs
-
-enum-known-number : tie.Need-enum-known-number
-enum-known-number c = search needs
-
-enum-known-a : tie.Need-enum-known-a
-enum-known-a c = search needs
-
-field-requires : tie.Need-field-requires
-field-requires c κs = search needs
-
-field-requires-2 : tie.Need-field-requires-2
-field-requires-2 c κs = search needs
 
 tell-split-requires : tie.Need-tell-split-requires
 tell-split-requires c κs =
@@ -48,9 +24,6 @@ returns-3 c =
     record-refused _ _ _ _ _ (j .before .before .before .before .before .before .before .pre) (j .before .before .if1 .left)
     (j .before .if2 .left) (j .judge-record .ensures) (c .before .number .given .1)
 
-same-length : tie.Need-same-length
-same-length c = search needs
-
 returns-4 : tie.Need-returns-4
 returns-4 c =
     let f = c .before .before .before .before in
@@ -62,18 +35,6 @@ returns-4 c =
 pub tell-record-spec : {M : Type 1} → statement M
 tell-record-spec =
     tie.close
-    (tie.spec
-    turned-down-requires
-    returns
-    turned-down-requires-2
-    returns-2
-    cast-i
-    judge-record-requires
-    enum-known-number
-    enum-known-a
-    field-requires
-    field-requires-2
-    tell-split-requires
-    returns-3
-    same-length
-    returns-4)
+    (tie.spec (λ c κs. search needs) returns (λ c κs. search needs) returns-2 (λ c. search needs) (λ c κs. search needs)
+    (λ c. search needs) (λ c. search needs) (λ c κs. search needs) (λ c κs. search needs) tell-split-requires returns-3
+    (λ c. search needs) returns-4)

@@ -31,9 +31,6 @@ put-verdict-requires c κs =
     let s = o .before .before .before in
     verdict-room _ _ (marksOf (s .args .n) (now (s .args .marks))) (o .open-edges .ensures .counted) (room-3 (all-room (s .pre) (search needs) (search needs)) (p .put-points .ensures) (t .put-strikes .ensures))
 
-same-length : tie.Need-same-length
-same-length c = search needs
-
 returns : tie.Need-returns
 unfolding allLines
 returns c =
@@ -47,10 +44,5 @@ returns c =
 pub put-all-spec : {M : Type 1} → statement M
 put-all-spec =
     tie.close
-    (tie.spec
-    open-edges-requires
-    put-points-requires
-    put-strikes-requires
-    put-verdict-requires
-    same-length
+    (tie.spec open-edges-requires put-points-requires put-strikes-requires put-verdict-requires (λ c. search needs)
     returns)

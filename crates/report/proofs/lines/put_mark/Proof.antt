@@ -15,8 +15,5 @@ returns-2 c = let s = c .before .before in open-wrote (s .args .a) (s .args .b) 
 put-struck-requires : tie.Need-put-struck-requires
 put-struck-requires c κs = let s = c .before .before .before in struck-room (s .args .a) (s .args .b) (not-true _ (c .before .if1 .taken)) (s .pre)
 
-same-length : tie.Need-same-length
-same-length c = search needs
-
 pub put-mark-spec : {M : Type 1} → statement M
-put-mark-spec = tie.close (tie.spec put-struck-requires same-length returns returns-2)
+put-mark-spec = tie.close (tie.spec put-struck-requires (λ c. search needs) returns returns-2)

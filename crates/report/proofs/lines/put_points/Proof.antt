@@ -8,21 +8,12 @@ use borrow.Author.Needs.{needs}
 use Rattle.report.proofs.lines.put_points.Statement.{statement}
 use Rattle.report.proofs.lines.put_points.Tie as tie
 
-count-requires : tie.Need-count-requires
-count-requires c κs = search needs
-
 cast-edges : tie.Need-cast-edges
 cast-edges c = record { fits = omega (arith, c .count .ensures, edges-few _ (c .before .before .pre .0)) }
-
-slice-aggregate-put-field : tie.Need-slice-aggregate-put-field
-slice-aggregate-put-field c = search needs
 
 put-field-requires : tie.Need-put-field-requires
 unfolding pointsLine
 put-field-requires c κs = room-1 _ _ (c .before .before .before .before .pre .1)
-
-slice-aggregate-put-field-2 : tie.Need-slice-aggregate-put-field-2
-slice-aggregate-put-field-2 c = search needs
 
 put-field-requires-2 : tie.Need-put-field-requires-2
 unfolding pointsLine
@@ -31,9 +22,6 @@ put-field-requires-2 c κs =
     let k = f .before .before .before in
     field-room edgesWord (k .count .ensures) (room-2 _ (k .before .before .pre .1) (f .put-field .ensures))
 
-slice-aggregate-put-word : tie.Need-slice-aggregate-put-word
-slice-aggregate-put-word c = search needs
-
 put-word-requires : tie.Need-put-word-requires
 unfolding pointsLine
 put-word-requires c κs =
@@ -41,9 +29,6 @@ put-word-requires c κs =
     let f = g .before .before .before .before .before in
     let k = f .before .before .before in
     room-3 (k .before .before .pre .1) (f .put-field .ensures) (field-wrote edgesWord (k .count .ensures) (g .put-field2 .ensures))
-
-same-length : tie.Need-same-length
-same-length c = search needs
 
 returns : tie.Need-returns
 unfolding pointsLine
@@ -56,14 +41,5 @@ returns c =
 pub put-points-spec : {M : Type 1} → statement M
 put-points-spec =
     tie.close
-    (tie.spec
-    count-requires
-    cast-edges
-    slice-aggregate-put-field
-    put-field-requires
-    slice-aggregate-put-field-2
-    put-field-requires-2
-    slice-aggregate-put-word
-    put-word-requires
-    same-length
-    returns)
+    (tie.spec (λ c κs. search needs) cast-edges (λ c. search needs) put-field-requires (λ c. search needs)
+    put-field-requires-2 (λ c. search needs) put-word-requires (λ c. search needs) returns)

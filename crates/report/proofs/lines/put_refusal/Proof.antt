@@ -8,12 +8,9 @@ use Rattle.report.proofs.lines.put_refusal.Tie as tie
 put-verdict-requires : tie.Need-put-verdict-requires
 put-verdict-requires c κs = let s = c .before .before in last-room (s .pre) (s .fits .number .fits)
 
-same-length : tie.Need-same-length
-same-length c = search needs
-
 returns : tie.Need-returns
 unfolding lastLine
 returns c = c .before .before .put-verdict .ensures
 
 pub put-refusal-spec : {M : Type 1} → statement M
-put-refusal-spec = tie.close (tie.spec put-verdict-requires same-length returns)
+put-refusal-spec = tie.close (tie.spec put-verdict-requires (λ c. search needs) returns)

@@ -25,9 +25,6 @@ at c = rw (sym (c .before .before .count .ensures)) (c .loop-test .taken)
 here : (c : tie.In-loop Inv-loop μ-loop) → IsEdgeUp (c .before .before .before .before .before .args .n) (c .before .loop .a) (c .before .loop .b)
 here c = at-edge (c .before .before .before .before .before .pre) (c .before .loop .inv) (at c) .0
 
-count-requires : tie.Need-count-requires Inv-loop μ-loop
-count-requires c κs = search needs
-
 loop-holds : tie.Need-loop-holds Inv-loop μ-loop
 loop-holds c = first-edge (c .before .before .before .pre)
 
@@ -49,12 +46,6 @@ put-mark-requires c κs =
 following-requires : tie.Need-following-requires Inv-loop μ-loop
 following-requires c κs = let k = c .before .before .before .before .before in (k .before .before .before .before .before .pre .few, here k)
 
-add-i : tie.Need-add-i Inv-loop μ-loop
-add-i c = search needs
-
-loop-less : tie.Need-loop-less Inv-loop μ-loop
-loop-less c = search needs
-
 loop-again : tie.Need-loop-again Inv-loop μ-loop
 loop-again c =
     let m = c .before .before .before in
@@ -71,18 +62,5 @@ returns c = all-struck (c .before .before .before .before .before .pre) (c .befo
 pub put-strikes-spec : {M : Type 1} → statement M
 put-strikes-spec =
     tie.close
-    (tie.spec
-    Inv-loop
-    μ-loop
-    count-requires
-    loop-holds
-    open-at-requires
-    cast-put-mark
-    cast-put-mark-2
-    put-mark-requires
-    following-requires
-    add-i
-    loop-less
-    loop-again
-    same-length
-    returns)
+    (tie.spec Inv-loop μ-loop (λ c κs. search needs) loop-holds open-at-requires cast-put-mark cast-put-mark-2
+    put-mark-requires following-requires (λ c. search needs) (λ c. search needs) loop-again same-length returns)

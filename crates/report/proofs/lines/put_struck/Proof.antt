@@ -5,15 +5,9 @@ use borrow.Author.Needs.{needs}
 use Rattle.report.proofs.lines.put_struck.Statement.{statement}
 use Rattle.report.proofs.lines.put_struck.Tie as tie
 
-slice-aggregate-put-field : tie.Need-slice-aggregate-put-field
-slice-aggregate-put-field c = search needs
-
 put-field-requires : tie.Need-put-field-requires
 unfolding struckLine
 put-field-requires c κs = room-1 _ _ (c .before .before .before .pre)
-
-slice-aggregate-put-field-2 : tie.Need-slice-aggregate-put-field-2
-slice-aggregate-put-field-2 c = search needs
 
 put-field-requires-2 : tie.Need-put-field-requires-2
 unfolding struckLine
@@ -21,18 +15,12 @@ put-field-requires-2 c κs =
     let f = c .before .before .before .before in
     room-2 _ (f .before .before .before .before .pre) (f .put-field .ensures)
 
-slice-aggregate-put-word : tie.Need-slice-aggregate-put-word
-slice-aggregate-put-word c = search needs
-
 put-word-requires : tie.Need-put-word-requires
 unfolding struckLine
 put-word-requires c κs =
     let g = c .before .before .before .before in
     let f = g .before .before .before .before .before in
     room-3 (f .before .before .before .before .pre) (f .put-field .ensures) (g .put-field2 .ensures)
-
-same-length : tie.Need-same-length
-same-length c = search needs
 
 returns : tie.Need-returns
 unfolding struckLine
@@ -45,12 +33,5 @@ returns c =
 pub put-struck-spec : {M : Type 1} → statement M
 put-struck-spec =
     tie.close
-    (tie.spec
-    slice-aggregate-put-field
-    put-field-requires
-    slice-aggregate-put-field-2
-    put-field-requires-2
-    slice-aggregate-put-word
-    put-word-requires
-    same-length
-    returns)
+    (tie.spec (λ c. search needs) put-field-requires (λ c. search needs) put-field-requires-2 (λ c. search needs)
+    put-word-requires (λ c. search needs) returns)

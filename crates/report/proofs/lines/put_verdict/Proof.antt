@@ -5,24 +5,15 @@ use borrow.Author.Needs.{needs}
 use Rattle.report.proofs.lines.put_verdict.Statement.{statement}
 use Rattle.report.proofs.lines.put_verdict.Tie as tie
 
-slice-aggregate-put-field : tie.Need-slice-aggregate-put-field
-slice-aggregate-put-field c = search needs
-
 put-field-requires : tie.Need-put-field-requires
 unfolding verdictLine
 put-field-requires c κs = room-1 _ _ (room-first _ (c .before .before .before .pre))
-
-slice-aggregate-put-field-2 : tie.Need-slice-aggregate-put-field-2
-slice-aggregate-put-field-2 c = search needs
 
 put-field-requires-2 : tie.Need-put-field-requires-2
 unfolding verdictLine
 put-field-requires-2 c κs =
     let f = c .before .before .before .before in
     room-2 _ (room-first _ (f .before .before .before .before .pre)) (f .put-field .ensures)
-
-slice-aggregate-put-field-3 : tie.Need-slice-aggregate-put-field-3
-slice-aggregate-put-field-3 c = search needs
 
 put-field-requires-3 : tie.Need-put-field-requires-3
 unfolding verdictLine
@@ -31,9 +22,6 @@ put-field-requires-3 c κs =
     let f = g .before .before .before .before .before in
     room-3 (room-first _ (f .before .before .before .before .pre)) (f .put-field .ensures) (g .put-field2 .ensures)
 
-slice-aggregate-put-word : tie.Need-slice-aggregate-put-word
-slice-aggregate-put-word c = search needs
-
 put-word-requires : tie.Need-put-word-requires
 unfolding verdictLine
 put-word-requires c κs =
@@ -41,9 +29,6 @@ put-word-requires c κs =
     let g = h .before .before .before .before .before in
     let f = g .before .before .before .before .before in
     room-second (f .before .before .before .before .pre) (wrote-three (f .put-field .ensures) (g .put-field2 .ensures) (h .put-field3 .ensures))
-
-same-length : tie.Need-same-length
-same-length c = search needs
 
 returns : tie.Need-returns
 unfolding verdictLine
@@ -57,14 +42,5 @@ returns c =
 pub put-verdict-spec : {M : Type 1} → statement M
 put-verdict-spec =
     tie.close
-    (tie.spec
-    slice-aggregate-put-field
-    put-field-requires
-    slice-aggregate-put-field-2
-    put-field-requires-2
-    slice-aggregate-put-field-3
-    put-field-requires-3
-    slice-aggregate-put-word
-    put-word-requires
-    same-length
-    returns)
+    (tie.spec (λ c. search needs) put-field-requires (λ c. search needs) put-field-requires-2 (λ c. search needs)
+    put-field-requires-3 (λ c. search needs) put-word-requires (λ c. search needs) returns)

@@ -11,17 +11,11 @@ use borrow.Author.Needs.{needs}
 use Rattle.report.proofs.report.mark_records.Statement.{statement}
 use Rattle.report.proofs.report.mark_records.Tie as tie
 
-fresh-marks-requires : tie.Need-fresh-marks-requires
-fresh-marks-requires c κs = search needs
-
 -- the set that the sheet begins with
 fresh : (c : tie.After-fresh-marks) → c .fresh-marks .last .1 .0 ≡ packed (freshMarks (c .before .before .before .before .before .before .args .n))
 fresh c =
     let s = c .before .before .before .before .before .before in
     c .fresh-marks .ensures .set-left ∙ fresh-set-left (s .args .n) (now (s .args .marks)) (s .pre .range) (s .pre .marked)
-
-mark-sheet-requires : tie.Need-mark-sheet-requires
-mark-sheet-requires c κs = search needs
 
 put-marked-requires : tie.Need-put-marked-requires
 put-marked-requires c κs =
@@ -30,12 +24,6 @@ put-marked-requires c κs =
     let s = f .before .before .before .before .before .before in
     lines-asked (s .pre)
     (marked-size (s .args .n) (whole32 (now (s .args .table))) (whole16 (now (s .args .records))) (m .mark-sheet .result) (m .mark-sheet .last .1 .1 .0) (m .mark-sheet .ensures) (fresh f))
-
-same-length : tie.Need-same-length
-same-length c = search needs
-
-same-length-2 : tie.Need-same-length-2
-same-length-2 c = search needs
 
 returns : tie.Need-returns
 returns c =
@@ -49,10 +37,5 @@ returns c =
 pub mark-records-spec : {M : Type 1} → statement M
 mark-records-spec =
     tie.close
-    (tie.spec
-    fresh-marks-requires
-    mark-sheet-requires
-    put-marked-requires
-    same-length
-    same-length-2
+    (tie.spec (λ c κs. search needs) (λ c κs. search needs) put-marked-requires (λ c. search needs) (λ c. search needs)
     returns)

@@ -6,26 +6,8 @@ use borrow.Author.Needs.{needs}
 use Rattle.report.proofs.report.put_marked.Statement.{statement}
 use Rattle.report.proofs.report.put_marked.Tie as tie
 
-enum-told : tie.Need-enum-told
-enum-told c = search needs
-
-put-all-requires : tie.Need-put-all-requires
-put-all-requires c κs = search needs
-
-enum-known-verdict : tie.Need-enum-known-verdict
-enum-known-verdict c = search needs
-
-put-all-requires-2 : tie.Need-put-all-requires-2
-put-all-requires-2 c κs = search needs
-
-same-length : tie.Need-same-length
-same-length c = search needs
-
 returns : tie.Need-returns
 returns c = let s = c .before .before .before .before .before .before .before .before in wrote-accepted (s .args .n) (marksOf (s .args .n) (now (s .args .marks))) (c .before .before .before .before .enum-told .given .1) (c .before .before .put-all .ensures)
-
-same-length-2 : tie.Need-same-length-2
-same-length-2 c = search needs
 
 returns-2 : tie.Need-returns-2
 returns-2 c = let s = c .before .before .before .before .before .before .before .before .before in wrote-refusal (s .args .n) (marksOf (s .args .n) (now (s .args .marks))) (c .before .before .before .before .before .verdict .given .1) (c .before .before .put-all2 .ensures)
@@ -33,12 +15,5 @@ returns-2 c = let s = c .before .before .before .before .before .before .before 
 pub put-marked-spec : {M : Type 1} → statement M
 put-marked-spec =
     tie.close
-    (tie.spec
-    enum-told
-    put-all-requires
-    enum-known-verdict
-    put-all-requires-2
-    same-length
-    returns
-    same-length-2
-    returns-2)
+    (tie.spec (λ c. search needs) (λ c κs. search needs) (λ c. search needs) (λ c κs. search needs) (λ c. search needs)
+    returns (λ c. search needs) returns-2)

@@ -7,18 +7,6 @@ use borrow.Author.Needs.{needs}
 use Rattle.report.proofs.report.report.Statement.{statement}
 use Rattle.report.proofs.report.report.Tie as tie
 
-read-requires : tie.Need-read-requires
-read-requires c κs = search needs
-
-enum-known-number : tie.Need-enum-known-number
-enum-known-number c = search needs
-
-put-refusal-requires : tie.Need-put-refusal-requires
-put-refusal-requires c κs = search needs
-
-enum-known-rule : tie.Need-enum-known-rule
-enum-known-rule c = search needs
-
 report-instance-requires : tie.Need-report-instance-requires
 report-instance-requires c κs = header-asked (sym (c .before .before .before .before .read .ensures) ∙ c .before .before .rule .given .1) (search needs)
 
@@ -31,11 +19,5 @@ returns-2 c = reported (now (c .before .before .before .before .before .before .
 pub report-spec : {M : Type 1} → statement M
 report-spec =
     tie.close
-    (tie.spec
-    read-requires
-    enum-known-number
-    put-refusal-requires
-    enum-known-rule
-    report-instance-requires
-    returns
-    returns-2)
+    (tie.spec (λ c κs. search needs) (λ c. search needs) (λ c κs. search needs) (λ c. search needs)
+    report-instance-requires returns returns-2)

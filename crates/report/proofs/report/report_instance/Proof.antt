@@ -9,14 +9,8 @@ use borrow.Author.Needs.{needs}
 use Rattle.report.proofs.report.report_instance.Statement.{statement}
 use Rattle.report.proofs.report.report_instance.Tie as tie
 
-count-requires : tie.Need-count-requires
-count-requires c κs = search needs
-
 mul-bytes : tie.Need-mul-bytes
 mul-bytes c = omega (arith, count-few (c .before .before .before .pre) (c .count .ensures))
-
-size-requires : tie.Need-size-requires
-size-requires c κs = search needs
 
 array-borrow-prefix-table : tie.Need-array-borrow-prefix-table
 array-borrow-prefix-table c = table-few (c .before .before .before .before .pre) (c .before .count .ensures)
@@ -37,23 +31,9 @@ measure-file-requires c κs =
     let s = k .before .before .before in
     (s .pre, places (replicate (4 * mostEdges) 0) (replicate mostSet 0) (s .pre) (k .count .ensures) (z .size .ensures) refl refl)
 
-same-length : tie.Need-same-length
-same-length c = search needs
-
-returns : tie.Need-returns
-returns c = search needs
-
 pub report-instance-spec : {M : Type 1} → statement M
 report-instance-spec =
     tie.close
-    (tie.spec
-    count-requires
-    mul-bytes
-    size-requires
-    array-borrow-prefix-table
-    slice-aggregate-measure-file
-    array-borrow-prefix-marks
-    slice-aggregate-measure-file-2
-    measure-file-requires
-    same-length
-    returns)
+    (tie.spec (λ c κs. search needs) mul-bytes (λ c κs. search needs) array-borrow-prefix-table
+    slice-aggregate-measure-file array-borrow-prefix-marks slice-aggregate-measure-file-2 measure-file-requires
+    (λ c. search needs) (λ c. search needs))

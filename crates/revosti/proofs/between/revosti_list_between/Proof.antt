@@ -4,18 +4,9 @@ use borrow.Author.Needs.{needs}
 use Rattle.revosti.proofs.between.revosti_list_between.Statement.{statement}
 use Rattle.revosti.proofs.between.revosti_list_between.Tie as tie
 
-list-between-requires : tie.Need-list-between-requires
-list-between-requires c κs = search needs
-
-listed-number-requires : tie.Need-listed-number-requires
-listed-number-requires c κs = search needs
-
-same-length : tie.Need-same-length
-same-length c = search needs
-
 returns : tie.Need-returns
 returns c = listed-between-in-c (c .before .before .before .list-between .ensures) (c .listed-number .ensures)
 
 pub revosti-list-between-spec : {M : Type 1} → statement M
 revosti-list-between-spec =
-    tie.close (tie.spec list-between-requires listed-number-requires same-length returns)
+    tie.close (tie.spec (λ c κs. search needs) (λ c κs. search needs) (λ c. search needs) returns)

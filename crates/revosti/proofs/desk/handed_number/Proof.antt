@@ -4,15 +4,6 @@ use borrow.Author.Needs.{needs}
 use Rattle.revosti.proofs.desk.handed_number.Statement.{statement}
 use Rattle.revosti.proofs.desk.handed_number.Tie as tie
 
-enum-told : tie.Need-enum-told
-enum-told c = search needs
-
-enum-known-handed : tie.Need-enum-known-handed
-enum-known-handed c = search needs
-
-cast-result : tie.Need-cast-result
-cast-result c = search needs
-
 returns : tie.Need-returns
 unfolding handedNumber
 returns c = rw (c .enum-told .given .1)
@@ -22,4 +13,4 @@ unfolding handedNumber
 returns-2 c = rw (c .before .handed .given .1)
 
 pub handed-number-spec : {M : Type 1} → statement M
-handed-number-spec = tie.close (tie.spec enum-told enum-known-handed cast-result returns returns-2)
+handed-number-spec = tie.close (tie.spec (λ c. search needs) (λ c. search needs) (λ c. search needs) returns returns-2)

@@ -5,18 +5,9 @@ use borrow.Author.Needs.{needs}
 use Rattle.revosti.proofs.desk.revosti_hand_in.Statement.{statement}
 use Rattle.revosti.proofs.desk.revosti_hand_in.Tie as tie
 
-hand-in-requires : tie.Need-hand-in-requires
-hand-in-requires c κs = search needs
-
-handed-number-requires : tie.Need-handed-number-requires
-handed-number-requires c κs = search needs
-
-same-length : tie.Need-same-length
-same-length c = search needs
-
 returns : tie.Need-returns
 returns c = handed-in-c _ _ _ _ _ _ (c .before .before .before .hand-in .ensures) (c .handed-number .ensures)
 
 pub revosti-hand-in-spec : {M : Type 1} → statement M
 revosti-hand-in-spec =
-    tie.close (tie.spec hand-in-requires handed-number-requires same-length returns)
+    tie.close (tie.spec (λ c κs. search needs) (λ c κs. search needs) (λ c. search needs) returns)

@@ -4,14 +4,8 @@ use borrow.Author.Needs.{needs}
 use Rattle.revosti.proofs.desk.revosti_next_desk.Statement.{statement}
 use Rattle.revosti.proofs.desk.revosti_next_desk.Tie as tie
 
-next-desk-requires : tie.Need-next-desk-requires
-next-desk-requires c κs = search needs
-
-next-number-requires : tie.Need-next-number-requires
-next-number-requires c κs = search needs
-
 returns : tie.Need-returns
 returns c = next-in-c _ (c .before .next-desk .ensures) (c .next-number .ensures)
 
 pub revosti-next-desk-spec : {M : Type 1} → statement M
-revosti-next-desk-spec = tie.close (tie.spec next-desk-requires next-number-requires returns)
+revosti-next-desk-spec = tie.close (tie.spec (λ c κs. search needs) (λ c κs. search needs) returns)

@@ -5,18 +5,9 @@ use borrow.Author.Needs.{needs}
 use Rattle.revosti.proofs.desk.revosti_open_desks.Statement.{statement}
 use Rattle.revosti.proofs.desk.revosti_open_desks.Tie as tie
 
-open-desks-requires : tie.Need-open-desks-requires
-open-desks-requires c κs = search needs
-
-handed-number-requires : tie.Need-handed-number-requires
-handed-number-requires c κs = search needs
-
-same-length : tie.Need-same-length
-same-length c = search needs
-
 returns : tie.Need-returns
 returns c = opened-in-c (c .before .before .before .open-desks .ensures) (c .handed-number .ensures)
 
 pub revosti-open-desks-spec : {M : Type 1} → statement M
 revosti-open-desks-spec =
-    tie.close (tie.spec open-desks-requires handed-number-requires same-length returns)
+    tie.close (tie.spec (λ c κs. search needs) (λ c κs. search needs) (λ c. search needs) returns)

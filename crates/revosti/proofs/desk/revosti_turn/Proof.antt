@@ -5,21 +5,12 @@ use borrow.Author.Needs.{needs}
 use Rattle.revosti.proofs.desk.revosti_turn.Statement.{statement}
 use Rattle.revosti.proofs.desk.revosti_turn.Tie as tie
 
-turn-requires : tie.Need-turn-requires
-turn-requires c κs = search needs
-
 turned-number-requires : tie.Need-turned-number-requires
 turned-number-requires c κs = turn-few _ _ _ _ _ (c .before .before .before .before .turn .ensures)
-
-same-length : tie.Need-same-length
-same-length c = search needs
-
-same-length-2 : tie.Need-same-length-2
-same-length-2 c = search needs
 
 returns : tie.Need-returns
 returns c = turned-in-c _ _ _ _ _ (c .before .before .before .before .before .turn .ensures) (c .turned-number .ensures)
 
 pub revosti-turn-spec : {M : Type 1} → statement M
 revosti-turn-spec =
-    tie.close (tie.spec turn-requires turned-number-requires same-length same-length-2 returns)
+    tie.close (tie.spec (λ c κs. search needs) turned-number-requires (λ c. search needs) (λ c. search needs) returns)

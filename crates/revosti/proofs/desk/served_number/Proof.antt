@@ -5,24 +5,6 @@ use borrow.Author.Needs.{needs}
 use Rattle.revosti.proofs.desk.served_number.Statement.{statement}
 use Rattle.revosti.proofs.desk.served_number.Tie as tie
 
-enum-known-served : tie.Need-enum-known-served
-enum-known-served c = search needs
-
-cast-result : tie.Need-cast-result
-cast-result c = search needs
-
-mul-result : tie.Need-mul-result
-mul-result c = search needs
-
-add-result : tie.Need-add-result
-add-result c = search needs
-
-enum-known-served-2 : tie.Need-enum-known-served-2
-enum-known-served-2 c = search needs
-
-marked-number-requires : tie.Need-marked-number-requires
-marked-number-requires c κs = search needs
-
 returns : tie.Need-returns
 returns c = waits-number (c .before .served .given .1) (omega arith)
 
@@ -32,12 +14,5 @@ returns-2 c = ended-number (c .before .before .served2 .given .1) (c .marked-num
 pub served-number-spec : {M : Type 1} → statement M
 served-number-spec =
     tie.close
-    (tie.spec
-    enum-known-served
-    cast-result
-    mul-result
-    add-result
-    enum-known-served-2
-    marked-number-requires
-    returns
-    returns-2)
+    (tie.spec (λ c. search needs) (λ c. search needs) (λ c. search needs) (λ c. search needs) (λ c. search needs)
+    (λ c κs. search needs) returns returns-2)

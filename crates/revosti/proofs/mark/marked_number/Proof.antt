@@ -5,18 +5,6 @@ use borrow.Author.Needs.{needs}
 use Rattle.revosti.proofs.mark.marked_number.Statement.{statement}
 use Rattle.revosti.proofs.mark.marked_number.Tie as tie
 
-enum-known-verdict : tie.Need-enum-known-verdict
-enum-known-verdict c = search needs
-
-number-of-requires : tie.Need-number-of-requires
-number-of-requires c κs = search needs
-
-enum-known-verdict-2 : tie.Need-enum-known-verdict-2
-enum-known-verdict-2 c = search needs
-
-number-of-requires-2 : tie.Need-number-of-requires-2
-number-of-requires-2 c κs = search needs
-
 returns : tie.Need-returns
 returns c = accepted-number (c .before .before .verdict .given .1) (c .number-of .ensures) (omega (arith, c .number-of .ensures))
 
@@ -26,10 +14,4 @@ returns-2 c = refused-number (c .before .before .verdict2 .given .1) (c .number-
 pub marked-number-spec : {M : Type 1} → statement M
 marked-number-spec =
     tie.close
-    (tie.spec
-    enum-known-verdict
-    number-of-requires
-    enum-known-verdict-2
-    number-of-requires-2
-    returns
-    returns-2)
+    (tie.spec (λ c. search needs) (λ c κs. search needs) (λ c. search needs) (λ c κs. search needs) returns returns-2)

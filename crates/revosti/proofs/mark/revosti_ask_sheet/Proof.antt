@@ -4,18 +4,9 @@ use borrow.Author.Needs.{needs}
 use Rattle.revosti.proofs.mark.revosti_ask_sheet.Statement.{statement}
 use Rattle.revosti.proofs.mark.revosti_ask_sheet.Tie as tie
 
-ask-sheet-requires : tie.Need-ask-sheet-requires
-ask-sheet-requires c κs = search needs
-
-marked-number-requires : tie.Need-marked-number-requires
-marked-number-requires c κs = search needs
-
-same-length : tie.Need-same-length
-same-length c = search needs
-
 returns : tie.Need-returns
 returns c = marked-in-c _ _ _ _ _ (c .before .before .before .ask-sheet .ensures) (c .marked-number .ensures)
 
 pub revosti-ask-sheet-spec : {M : Type 1} → statement M
 revosti-ask-sheet-spec =
-    tie.close (tie.spec ask-sheet-requires marked-number-requires same-length returns)
+    tie.close (tie.spec (λ c κs. search needs) (λ c κs. search needs) (λ c. search needs) returns)

@@ -4,15 +4,6 @@ use borrow.Author.Needs.{needs}
 use Rattle.revosti.proofs.pending.settled_number.Statement.{statement}
 use Rattle.revosti.proofs.pending.settled_number.Tie as tie
 
-enum-told : tie.Need-enum-told
-enum-told c = search needs
-
-enum-known-settled : tie.Need-enum-known-settled
-enum-known-settled c = search needs
-
-cast-result : tie.Need-cast-result
-cast-result c = search needs
-
 returns : tie.Need-returns
 unfolding settledNumber
 returns c = rw (c .enum-told .given .1)
@@ -23,4 +14,4 @@ returns-2 c = rw (c .before .settled .given .1)
 
 pub settled-number-spec : {M : Type 1} → statement M
 settled-number-spec =
-    tie.close (tie.spec enum-told enum-known-settled cast-result returns returns-2)
+    tie.close (tie.spec (λ c. search needs) (λ c. search needs) (λ c. search needs) returns returns-2)

@@ -5,16 +5,10 @@ use borrow.Author.Needs.{needs}
 use Rattle.revosti.proofs.reading.revosti_tsplib_points.Statement.{statement}
 use Rattle.revosti.proofs.reading.revosti_tsplib_points.Tie as tie
 
-tsplib-points-requires : tie.Need-tsplib-points-requires
-tsplib-points-requires c κs = search needs
-
-read-number-requires : tie.Need-read-number-requires
-read-number-requires c κs = search needs
-
 returns : tie.Need-returns
 unfolding pointsInC
 returns c = c .read-number .ensures ∙ ap readNumber (c .before .tsplib-points .ensures)
 
 pub revosti-tsplib-points-spec : {M : Type 1} → statement M
 revosti-tsplib-points-spec =
-    tie.close (tie.spec tsplib-points-requires read-number-requires returns)
+    tie.close (tie.spec (λ c κs. search needs) (λ c κs. search needs) returns)

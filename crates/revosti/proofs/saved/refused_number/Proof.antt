@@ -6,11 +6,8 @@ use borrow.Author.Needs.{needs}
 use Rattle.revosti.proofs.saved.refused_number.Statement.{statement}
 use Rattle.revosti.proofs.saved.refused_number.Tie as tie
 
-cast-result : tie.Need-cast-result
-cast-result c = search needs
-
 returns : tie.Need-returns
 returns c = toZ-pos w64 (omega (arith, c .fits .refusal .fits))
 
 pub refused-number-spec : {M : Type 1} → statement M
-refused-number-spec = tie.close (tie.spec cast-result returns)
+refused-number-spec = tie.close (tie.spec (λ c. search needs) returns)

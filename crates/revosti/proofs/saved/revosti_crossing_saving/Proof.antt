@@ -6,15 +6,9 @@ use borrow.Author.Needs.{needs}
 use Rattle.revosti.proofs.saved.revosti_crossing_saving.Statement.{statement}
 use Rattle.revosti.proofs.saved.revosti_crossing_saving.Tie as tie
 
-saved-by-crossing-requires : tie.Need-saved-by-crossing-requires
-saved-by-crossing-requires c κs = search needs
-
-saved-number-requires : tie.Need-saved-number-requires
-saved-number-requires c κs = search needs
-
 returns : tie.Need-returns
 returns c = kept (c .saved-number .ok) ∙ c .saved-number .ensures ∙ ap savedNumber (c .before .saved-by-crossing .ensures .answered)
 
 pub revosti-crossing-saving-spec : {M : Type 1} → statement M
 revosti-crossing-saving-spec =
-    tie.close (tie.spec saved-by-crossing-requires saved-number-requires returns)
+    tie.close (tie.spec (λ c κs. search needs) (λ c κs. search needs) returns)

@@ -6,15 +6,9 @@ use borrow.Author.Needs.{needs}
 use Rattle.revosti.proofs.saved.revosti_exchange_saving.Statement.{statement}
 use Rattle.revosti.proofs.saved.revosti_exchange_saving.Tie as tie
 
-saved-by-exchange-requires : tie.Need-saved-by-exchange-requires
-saved-by-exchange-requires c κs = search needs
-
-saved-number-requires : tie.Need-saved-number-requires
-saved-number-requires c κs = search needs
-
 returns : tie.Need-returns
 returns c = kept (c .saved-number .ok) ∙ c .saved-number .ensures ∙ ap savedNumber (c .before .saved-by-exchange .ensures .answered)
 
 pub revosti-exchange-saving-spec : {M : Type 1} → statement M
 revosti-exchange-saving-spec =
-    tie.close (tie.spec saved-by-exchange-requires saved-number-requires returns)
+    tie.close (tie.spec (λ c κs. search needs) (λ c κs. search needs) returns)

@@ -6,15 +6,9 @@ use borrow.Author.Needs.{needs}
 use Rattle.revosti.proofs.saved.revosti_move_saving.Statement.{statement}
 use Rattle.revosti.proofs.saved.revosti_move_saving.Tie as tie
 
-saved-by-move-requires : tie.Need-saved-by-move-requires
-saved-by-move-requires c κs = search needs
-
-saved-number-requires : tie.Need-saved-number-requires
-saved-number-requires c κs = search needs
-
 returns : tie.Need-returns
 returns c = kept (c .saved-number .ok) ∙ c .saved-number .ensures ∙ ap savedNumber (c .before .saved-by-move .ensures .answered)
 
 pub revosti-move-saving-spec : {M : Type 1} → statement M
 revosti-move-saving-spec =
-    tie.close (tie.spec saved-by-move-requires saved-number-requires returns)
+    tie.close (tie.spec (λ c κs. search needs) (λ c κs. search needs) returns)

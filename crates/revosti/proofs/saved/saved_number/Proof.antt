@@ -7,15 +7,6 @@ use borrow.Author.Needs.{needs}
 use Rattle.revosti.proofs.saved.saved_number.Statement.{statement}
 use Rattle.revosti.proofs.saved.saved_number.Tie as tie
 
-enum-known-saved : tie.Need-enum-known-saved
-enum-known-saved c = search needs
-
-refused-number-requires : tie.Need-refused-number-requires
-refused-number-requires c κs = search needs
-
-enum-known-saved-2 : tie.Need-enum-known-saved-2
-enum-known-saved-2 c = search needs
-
 mul-result : tie.Need-mul-result
 mul-result c = product-fits (c .before .saved2 .given .1) (c .before .before .before .pre) _ (omega arith)
 
@@ -28,10 +19,4 @@ returns-2 c = saved-saving (c .before .saved2 .given .1) (c .before .before .bef
 pub saved-number-spec : {M : Type 1} → statement M
 saved-number-spec =
     tie.close
-    (tie.spec
-    enum-known-saved
-    refused-number-requires
-    enum-known-saved-2
-    mul-result
-    returns
-    returns-2)
+    (tie.spec (λ c. search needs) (λ c κs. search needs) (λ c. search needs) mul-result returns returns-2)

@@ -5,22 +5,10 @@ use borrow.Author.Needs.{needs}
 use Rattle.revosti.proofs.slip.revosti_candidate_view.Statement.{statement}
 use Rattle.revosti.proofs.slip.revosti_candidate_view.Tie as tie
 
-slip-in-requires : tie.Need-slip-in-requires
-slip-in-requires c κs = search needs
-
-candidate-view-requires : tie.Need-candidate-view-requires
-candidate-view-requires c κs = search needs
-
-viewed-number-requires : tie.Need-viewed-number-requires
-viewed-number-requires c κs = search needs
-
-same-length : tie.Need-same-length
-same-length c = search needs
-
 returns : tie.Need-returns
 returns c = viewed-in-c _ (c .before .before .before .before .before .slip-in .ensures) candidateView (c .before .before .before .candidate-view .ensures) (c .viewed-number .ensures)
 
 pub revosti-candidate-view-spec : {M : Type 1} → statement M
 revosti-candidate-view-spec =
     tie.close
-    (tie.spec slip-in-requires candidate-view-requires viewed-number-requires same-length returns)
+    (tie.spec (λ c κs. search needs) (λ c κs. search needs) (λ c κs. search needs) (λ c. search needs) returns)

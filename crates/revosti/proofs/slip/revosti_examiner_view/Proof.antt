@@ -5,22 +5,10 @@ use borrow.Author.Needs.{needs}
 use Rattle.revosti.proofs.slip.revosti_examiner_view.Statement.{statement}
 use Rattle.revosti.proofs.slip.revosti_examiner_view.Tie as tie
 
-slip-in-requires : tie.Need-slip-in-requires
-slip-in-requires c κs = search needs
-
-examiner-view-requires : tie.Need-examiner-view-requires
-examiner-view-requires c κs = search needs
-
-viewed-number-requires : tie.Need-viewed-number-requires
-viewed-number-requires c κs = search needs
-
-same-length : tie.Need-same-length
-same-length c = search needs
-
 returns : tie.Need-returns
 returns c = viewed-in-c _ (c .before .before .before .before .before .slip-in .ensures) examinerView (c .before .before .before .examiner-view .ensures) (c .viewed-number .ensures)
 
 pub revosti-examiner-view-spec : {M : Type 1} → statement M
 revosti-examiner-view-spec =
     tie.close
-    (tie.spec slip-in-requires examiner-view-requires viewed-number-requires same-length returns)
+    (tie.spec (λ c κs. search needs) (λ c κs. search needs) (λ c κs. search needs) (λ c. search needs) returns)

@@ -5,12 +5,6 @@ use borrow.Author.Needs.{needs}
 use Rattle.revosti.proofs.slip.slip_number.Statement.{statement}
 use Rattle.revosti.proofs.slip.slip_number.Tie as tie
 
-number-of-requires : tie.Need-number-of-requires
-number-of-requires c κs = search needs
-
-add-result : tie.Need-add-result
-add-result c = search needs
-
 returns : tie.Need-returns
 returns c = number-released _ (c .before .number-of .ensures) (omega arith) (c .if1 .taken)
 
@@ -18,4 +12,4 @@ returns-2 : tie.Need-returns-2
 returns-2 c = number-unreleased _ (c .before .number-of .ensures) (omega arith) (c .if1 .left)
 
 pub slip-number-spec : {M : Type 1} → statement M
-slip-number-spec = tie.close (tie.spec number-of-requires add-result returns returns-2)
+slip-number-spec = tie.close (tie.spec (λ c κs. search needs) (λ c. search needs) returns returns-2)

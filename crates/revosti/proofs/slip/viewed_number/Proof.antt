@@ -4,15 +4,6 @@ use borrow.Author.Needs.{needs}
 use Rattle.revosti.proofs.slip.viewed_number.Statement.{statement}
 use Rattle.revosti.proofs.slip.viewed_number.Tie as tie
 
-enum-told : tie.Need-enum-told
-enum-told c = search needs
-
-enum-known-viewed : tie.Need-enum-known-viewed
-enum-known-viewed c = search needs
-
-cast-result : tie.Need-cast-result
-cast-result c = search needs
-
 returns : tie.Need-returns
 unfolding viewedNumber
 returns c = rw (c .enum-told .given .1)
@@ -22,4 +13,4 @@ unfolding viewedNumber
 returns-2 c = rw (c .before .viewed .given .1)
 
 pub viewed-number-spec : {M : Type 1} → statement M
-viewed-number-spec = tie.close (tie.spec enum-told enum-known-viewed cast-result returns returns-2)
+viewed-number-spec = tie.close (tie.spec (λ c. search needs) (λ c. search needs) (λ c. search needs) returns returns-2)

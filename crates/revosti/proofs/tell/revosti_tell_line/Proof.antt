@@ -5,18 +5,9 @@ use borrow.Author.Needs.{needs}
 use Rattle.revosti.proofs.tell.revosti_tell_line.Statement.{statement}
 use Rattle.revosti.proofs.tell.revosti_tell_line.Tie as tie
 
-tell-line-requires : tie.Need-tell-line-requires
-tell-line-requires c κs = search needs
-
-telling-number-requires : tie.Need-telling-number-requires
-telling-number-requires c κs = search needs
-
-same-length : tie.Need-same-length
-same-length c = search needs
-
 returns : tie.Need-returns
 returns c = told-in-c (c .before .before .before .tell-line .ensures) (c .telling-number .ensures)
 
 pub revosti-tell-line-spec : {M : Type 1} → statement M
 revosti-tell-line-spec =
-    tie.close (tie.spec tell-line-requires telling-number-requires same-length returns)
+    tie.close (tie.spec (λ c κs. search needs) (λ c κs. search needs) (λ c. search needs) returns)

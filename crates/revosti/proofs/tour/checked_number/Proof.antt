@@ -5,15 +5,6 @@ use borrow.Author.Needs.{needs}
 use Rattle.revosti.proofs.tour.checked_number.Statement.{statement}
 use Rattle.revosti.proofs.tour.checked_number.Tie as tie
 
-enum-known-checked : tie.Need-enum-known-checked
-enum-known-checked c = search needs
-
-cast-result : tie.Need-cast-result
-cast-result c = search needs
-
-enum-known-checked-2 : tie.Need-enum-known-checked-2
-enum-known-checked-2 c = search needs
-
 mul-result : tie.Need-mul-result
 mul-result c = record { fits = omega (arith, countable-sum (c .before .before .checked2 .given .1) (c .before .before .before .before .pre)) }
 
@@ -35,13 +26,5 @@ returns-3 c = checked-shut (c .before .before .checked2 .given .1) (c .if1 .left
 pub checked-number-spec : {M : Type 1} → statement M
 checked-number-spec =
     tie.close
-    (tie.spec
-    enum-known-checked
-    cast-result
-    enum-known-checked-2
-    mul-result
-    add-result
-    returns
-    mul-result-2
-    returns-2
-    returns-3)
+    (tie.spec (λ c. search needs) (λ c. search needs) (λ c. search needs) mul-result add-result returns mul-result-2
+    returns-2 returns-3)

@@ -5,15 +5,9 @@ use borrow.Author.Needs.{needs}
 use Rattle.revosti.proofs.tour.revosti_check_tour.Statement.{statement}
 use Rattle.revosti.proofs.tour.revosti_check_tour.Tie as tie
 
-check-tour-requires : tie.Need-check-tour-requires
-check-tour-requires c κs = search needs
-
-checked-number-requires : tie.Need-checked-number-requires
-checked-number-requires c κs = search needs
-
 returns : tie.Need-returns
 unfolding tourInC
 returns c = c .checked-number .ensures ∙ ap checkedNumber (c .before .check-tour .ensures .answered)
 
 pub revosti-check-tour-spec : {M : Type 1} → statement M
-revosti-check-tour-spec = tie.close (tie.spec check-tour-requires checked-number-requires returns)
+revosti-check-tour-spec = tie.close (tie.spec (λ c κs. search needs) (λ c κs. search needs) returns)

@@ -10,15 +10,6 @@ returns c = tightened-first _ _ _ _ _ _ _ (c .if1 .taken)
 returns-2 : tie.Need-returns-2
 returns-2 c = tightened-second _ _ _ _ _ _ _ (c .before .if1 .left) (c .if2 .taken)
 
-add-room : tie.Need-add-room
-add-room c = search needs
-
-add-room-2 : tie.Need-add-room-2
-add-room-2 c = search needs
-
-sub-room : tie.Need-sub-room
-sub-room c = search needs
-
 returns-3 : tie.Need-returns-3
 returns-3 c = tightened-room _ _ _ _ _ _ _ (c .before .before .if1 .left) (c .before .if2 .left) (c .if3 .taken)
 
@@ -27,4 +18,4 @@ returns-4 c = tightened-over _ _ _ _ _ _ _ (c .before .before .if1 .left) (c .be
 
 pub tighten-spec : {M : Type 1} → statement M
 tighten-spec =
-    tie.close (tie.spec returns returns-2 add-room add-room-2 sub-room returns-3 returns-4)
+    tie.close (tie.spec returns returns-2 (λ c. search needs) (λ c. search needs) (λ c. search needs) returns-3 returns-4)

@@ -20,12 +20,6 @@ abbrev μ-loop : tie.MeasureT-loop
 place : (c : tie.In-loop Inv-loop μ-loop) → c .before .loop .next - 1 < edgeCount (c .before .before .before .before .args .n)
 place c = rw (sym (c .before .loop .inv .asked .marked)) (below-inside (c .before .loop .inv) (c .loop-test .taken))
 
-sub-next : tie.Need-sub-next Inv-loop μ-loop
-sub-next c = search needs
-
-sub-step : tie.Need-sub-step Inv-loop μ-loop
-sub-step c = search needs
-
 loop-holds : tie.Need-loop-holds Inv-loop μ-loop
 loop-holds c = below-start (c .before .before .pre)
 
@@ -35,35 +29,8 @@ sub-open-at c = omega (arith, below-some (c .before .loop .inv) (c .loop-test .t
 open-at-requires : tie.Need-open-at-requires Inv-loop μ-loop
 open-at-requires c κs = held-inside _ _ (c .before .loop .inv .asked .marked) (place c)
 
-add-open-leg : tie.Need-add-open-leg Inv-loop μ-loop
-add-open-leg c = search needs
-
-mul-open-leg : tie.Need-mul-open-leg Inv-loop μ-loop
-mul-open-leg c = search needs
-
-shared-slice-read-open-leg : tie.Need-shared-slice-read-open-leg Inv-loop μ-loop
-shared-slice-read-open-leg c = search needs
-
-open-leg-requires : tie.Need-open-leg-requires Inv-loop μ-loop
-open-leg-requires c κs = search needs
-
-mul-legs : tie.Need-mul-legs Inv-loop μ-loop
-mul-legs c = search needs
-
-element-write-legs : tie.Need-element-write-legs Inv-loop μ-loop
-element-write-legs c = search needs
-
-sub-step-2 : tie.Need-sub-step-2 Inv-loop μ-loop
-sub-step-2 c = search needs
-
 add-next : tie.Need-add-next Inv-loop μ-loop
 add-next c = omega (arith, below-small (c .before .before .before .before .loop .inv) (c .before .before .before .loop-test .taken))
-
-add-x : tie.Need-add-x Inv-loop μ-loop
-add-x c = search needs
-
-loop-less : tie.Need-loop-less Inv-loop μ-loop
-loop-less c = search needs
 
 loop-again : tie.Need-loop-again Inv-loop μ-loop
 loop-again c = below-on (c .before .before .before .before .loop .inv) (c .before .before .before .loop-test .taken) (c .before .before .open-at .ensures ∙ held-open _ _ (c .before .before .before .before .loop .inv .asked .marked) (place (c .before .before .before)) _) (c .open-leg .ensures)
@@ -74,23 +41,6 @@ returns c = below-end (c .before .loop .inv) (c .loop-test .left)
 pub open-below-spec : {M : Type 1} → statement M
 open-below-spec =
     tie.close
-    (tie.spec
-    Inv-loop
-    μ-loop
-    sub-next
-    sub-step
-    loop-holds
-    sub-open-at
-    open-at-requires
-    add-open-leg
-    mul-open-leg
-    shared-slice-read-open-leg
-    open-leg-requires
-    mul-legs
-    element-write-legs
-    sub-step-2
-    add-next
-    add-x
-    loop-less
-    loop-again
-    returns)
+    (tie.spec Inv-loop μ-loop (λ c. search needs) (λ c. search needs) loop-holds sub-open-at open-at-requires
+    (λ c. search needs) (λ c. search needs) (λ c. search needs) (λ c κs. search needs) (λ c. search needs)
+    (λ c. search needs) (λ c. search needs) add-next (λ c. search needs) (λ c. search needs) loop-again returns)

@@ -24,38 +24,14 @@ room c = omega (arith, c .before .before .before .before .pre .room, c .loop-tes
 place : (c : tie.In-loop Inv-loop μ-loop) → let a = c .before .before .before .before .args in a .first + (a .from + 4 * c .before .loop .k) + 3 < edgeCount (a .n)
 place c = four-inside (c .before .loop .inv .0) (room c)
 
-add-start : tie.Need-add-start Inv-loop μ-loop
-add-start c = search needs
-
 loop-holds : tie.Need-loop-holds Inv-loop μ-loop
 loop-holds c = (singly-end _ (c .before .before .pre .above) (omega arith), omega arith)
-
-mul-i : tie.Need-mul-i Inv-loop μ-loop
-mul-i c = search needs
-
-add-i : tie.Need-add-i Inv-loop μ-loop
-add-i c = search needs
-
-add-x : tie.Need-add-x Inv-loop μ-loop
-add-x c = search needs
 
 add-sheet-legs : tie.Need-add-sheet-legs Inv-loop μ-loop
 add-sheet-legs c = record { fits = omega (arith, place c, edges-fit (c .before .before .before .before .fits .n .fits), edgeCount-tri (c .before .before .before .before .args .n)) }
 
 shared-slice-read-sheet-legs : tie.Need-shared-slice-read-sheet-legs Inv-loop μ-loop
 shared-slice-read-sheet-legs c = let k = c .before in omega (arith, held-inside _ _ (k .before .loop .inv .0 .asked .marked) (place k))
-
-add-sheet-legs-2 : tie.Need-add-sheet-legs-2 Inv-loop μ-loop
-add-sheet-legs-2 c = search needs
-
-sheet-legs-requires : tie.Need-sheet-legs-requires Inv-loop μ-loop
-sheet-legs-requires c κs = search needs
-
-add-k : tie.Need-add-k Inv-loop μ-loop
-add-k c = search needs
-
-loop-less : tie.Need-loop-less Inv-loop μ-loop
-loop-less c = search needs
 
 loop-again : tie.Need-loop-again Inv-loop μ-loop
 loop-again c = let k = c .before .before .before in let p = k .before .before .before .before .pre in (bytes-on (k .before .before .before .before .args .marks .now) _ (k .before .loop .inv .0) (room k) (omega (arith, p .begins (omega (arith, k .loop-test .taken)))) (c .sheet-legs .ensures) (omega arith), omega (arith, k .loop-test .taken))
@@ -66,19 +42,6 @@ returns c = singly-end _ (c .before .loop .inv .0) (omega (arith, c .before .loo
 pub open-bytes-spec : {M : Type 1} → statement M
 open-bytes-spec =
     tie.close
-    (tie.spec
-    Inv-loop
-    μ-loop
-    add-start
-    loop-holds
-    mul-i
-    add-i
-    add-x
-    add-sheet-legs
-    shared-slice-read-sheet-legs
-    add-sheet-legs-2
-    sheet-legs-requires
-    add-k
-    loop-less
-    loop-again
-    returns)
+    (tie.spec Inv-loop μ-loop (λ c. search needs) loop-holds (λ c. search needs) (λ c. search needs) (λ c. search needs)
+    add-sheet-legs shared-slice-read-sheet-legs (λ c. search needs) (λ c κs. search needs) (λ c. search needs)
+    (λ c. search needs) loop-again returns)

@@ -25,44 +25,14 @@ room c = omega (arith, c .before .before .before .before .pre .room, c .loop-tes
 place : (c : tie.In-loop Inv-loop μ-loop) → c .before .before .before .before .args .first + c .before .loop .i < edgeCount (c .before .before .before .before .args .n)
 place c = rw (sym (c .before .loop .inv .0 .asked .marked)) (above-inside (c .before .loop .inv .0) (room c))
 
-add-start : tie.Need-add-start Inv-loop μ-loop
-add-start c = search needs
-
 loop-holds : tie.Need-loop-holds Inv-loop μ-loop
 loop-holds c = (c .before .before .pre .above, c .before .before .pre .order)
-
-add-x : tie.Need-add-x Inv-loop μ-loop
-add-x c = search needs
 
 add-open-at : tie.Need-add-open-at Inv-loop μ-loop
 add-open-at c = record { fits = omega (arith, place c, edges-fit (c .before .before .before .before .fits .n .fits), edgeCount-tri (c .before .before .before .before .args .n)) }
 
 open-at-requires : tie.Need-open-at-requires Inv-loop μ-loop
 open-at-requires c κs = held-inside _ _ (c .before .loop .inv .0 .asked .marked) (place c)
-
-add-open-leg : tie.Need-add-open-leg Inv-loop μ-loop
-add-open-leg c = search needs
-
-mul-open-leg : tie.Need-mul-open-leg Inv-loop μ-loop
-mul-open-leg c = search needs
-
-shared-slice-read-open-leg : tie.Need-shared-slice-read-open-leg Inv-loop μ-loop
-shared-slice-read-open-leg c = search needs
-
-open-leg-requires : tie.Need-open-leg-requires Inv-loop μ-loop
-open-leg-requires c κs = search needs
-
-mul-legs : tie.Need-mul-legs Inv-loop μ-loop
-mul-legs c = search needs
-
-element-write-legs : tie.Need-element-write-legs Inv-loop μ-loop
-element-write-legs c = search needs
-
-add-i : tie.Need-add-i Inv-loop μ-loop
-add-i c = search needs
-
-loop-less : tie.Need-loop-less Inv-loop μ-loop
-loop-less c = search needs
 
 loop-again : tie.Need-loop-again Inv-loop μ-loop
 loop-again c = let k = c .before .before .before in (above-on (k .before .loop .inv .0) (room k) (c .before .before .open-at .ensures ∙ held-open _ _ (k .before .loop .inv .0 .asked .marked) (place k) _) (c .open-leg .ensures), omega (arith, k .loop-test .taken))
@@ -73,21 +43,6 @@ returns c = singly-end _ (c .before .loop .inv .0) (omega (arith, c .before .loo
 pub open-singly-spec : {M : Type 1} → statement M
 open-singly-spec =
     tie.close
-    (tie.spec
-    Inv-loop
-    μ-loop
-    add-start
-    loop-holds
-    add-x
-    add-open-at
-    open-at-requires
-    add-open-leg
-    mul-open-leg
-    shared-slice-read-open-leg
-    open-leg-requires
-    mul-legs
-    element-write-legs
-    add-i
-    loop-less
-    loop-again
-    returns)
+    (tie.spec Inv-loop μ-loop (λ c. search needs) loop-holds (λ c. search needs) add-open-at open-at-requires
+    (λ c. search needs) (λ c. search needs) (λ c. search needs) (λ c κs. search needs) (λ c. search needs)
+    (λ c. search needs) (λ c. search needs) (λ c. search needs) loop-again returns)

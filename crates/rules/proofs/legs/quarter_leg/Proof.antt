@@ -7,17 +7,8 @@ use borrow.Author.Needs.{needs}
 use Rattle.rules.proofs.legs.quarter_leg.Statement.{statement}
 use Rattle.rules.proofs.legs.quarter_leg.Tie as tie
 
-quarter-requires : tie.Need-quarter-requires
-quarter-requires c κs = search needs
-
-opens-requires : tie.Need-opens-requires
-opens-requires c κs = search needs
-
-open-leg-requires : tie.Need-open-leg-requires
-open-leg-requires c κs = search needs
-
 returns : tie.Need-returns
 returns c = c .open-leg .ensures ∙ ap (λ (t : Bool). cond t (c .before .before .before .args .length) far) (c .before .opens .ensures ∙ ap (opens _) (c .before .before .quarter .ensures))
 
 pub quarter-leg-spec : {M : Type 1} → statement M
-quarter-leg-spec = tie.close (tie.spec quarter-requires opens-requires open-leg-requires returns)
+quarter-leg-spec = tie.close (tie.spec (λ c κs. search needs) (λ c κs. search needs) (λ c κs. search needs) returns)

@@ -6,21 +6,6 @@ use borrow.Author.Needs.{needs}
 use Rattle.rules.proofs.saving.exchange_saving.Statement.{statement}
 use Rattle.rules.proofs.saving.exchange_saving.Tie as tie
 
-length-of-two-requires : tie.Need-length-of-two-requires
-length-of-two-requires c κs = search needs
-
-length-of-two-requires-2 : tie.Need-length-of-two-requires-2
-length-of-two-requires-2 c κs = search needs
-
-length-of-two-requires-3 : tie.Need-length-of-two-requires-3
-length-of-two-requires-3 c κs = search needs
-
-longer-requires : tie.Need-longer-requires
-longer-requires c κs = search needs
-
-saving-requires : tie.Need-saving-requires
-saving-requires c κs = search needs
-
 returns : tie.Need-returns
 returns c =
     kept (c .saving .ok) ∙ exchange-made _ _ _ _ _ _ (c .before .before .before .before .length-of-two .ensures .at) (c .before .before .before .length-of-two2 .ensures .at)
@@ -29,10 +14,5 @@ returns c =
 pub exchange-saving-spec : {M : Type 1} → statement M
 exchange-saving-spec =
     tie.close
-    (tie.spec
-    length-of-two-requires
-    length-of-two-requires-2
-    length-of-two-requires-3
-    longer-requires
-    saving-requires
-    returns)
+    (tie.spec (λ c κs. search needs) (λ c κs. search needs) (λ c κs. search needs) (λ c κs. search needs)
+    (λ c κs. search needs) returns)

@@ -6,15 +6,6 @@ use borrow.Author.Needs.{needs}
 use Rattle.rules.proofs.saving.move_saving.Statement.{statement}
 use Rattle.rules.proofs.saving.move_saving.Tie as tie
 
-length-of-three-requires : tie.Need-length-of-three-requires
-length-of-three-requires c κs = search needs
-
-length-of-three-requires-2 : tie.Need-length-of-three-requires-2
-length-of-three-requires-2 c κs = search needs
-
-saving-requires : tie.Need-saving-requires
-saving-requires c κs = search needs
-
 returns : tie.Need-returns
 returns c =
     kept (c .saving .ok) ∙ move-made _ _ _ _ _ _ _ (c .before .before .length-of-three .ensures .at) (c .before .length-of-three2 .ensures .at) (c .saving .ensures)
@@ -22,4 +13,4 @@ returns c =
 pub move-saving-spec : {M : Type 1} → statement M
 move-saving-spec =
     tie.close
-    (tie.spec length-of-three-requires length-of-three-requires-2 saving-requires returns)
+    (tie.spec (λ c κs. search needs) (λ c κs. search needs) (λ c κs. search needs) returns)

@@ -7,15 +7,9 @@ use borrow.Author.Needs.{needs}
 use Rattle.savings.proofs.edges.is_edge.Statement.{statement}
 use Rattle.savings.proofs.edges.is_edge.Tie as tie
 
-is-point-requires : tie.Need-is-point-requires
-is-point-requires c κs = search needs
-
 returns : tie.Need-returns
 unfolding isEdge
 returns c = and-stop _ (sym (c .before .is-point .ensures) ∙ not-true _ (c .if1 .taken))
-
-is-point-requires-2 : tie.Need-is-point-requires-2
-is-point-requires-2 c κs = search needs
 
 returns-2 : tie.Need-returns-2
 unfolding isEdge
@@ -27,4 +21,4 @@ returns-3 c = and-go (sym (c .before .before .before .is-point .ensures) ∙ not
 
 pub is-edge-spec : {M : Type 1} → statement M
 is-edge-spec =
-    tie.close (tie.spec is-point-requires returns is-point-requires-2 returns-2 returns-3)
+    tie.close (tie.spec (λ c κs. search needs) returns (λ c κs. search needs) returns-2 returns-3)

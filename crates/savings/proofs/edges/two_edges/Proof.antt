@@ -7,19 +7,13 @@ use borrow.Author.Needs.{needs}
 use Rattle.savings.proofs.edges.two_edges.Statement.{statement}
 use Rattle.savings.proofs.edges.two_edges.Tie as tie
 
-is-edge-requires : tie.Need-is-edge-requires
-is-edge-requires c κs = search needs
-
 returns : tie.Need-returns
 unfolding every
 returns c = and-stop _ (sym (c .before .is-edge .ensures) ∙ not-true _ (c .if1 .taken))
-
-is-edge-requires-2 : tie.Need-is-edge-requires-2
-is-edge-requires-2 c κs = search needs
 
 returns-2 : tie.Need-returns-2
 unfolding every
 returns-2 c = and-go (sym (c .before .before .is-edge .ensures) ∙ not-false _ (c .before .if1 .left)) (c .is-edge2 .ensures ∙ sym (and-yes _))
 
 pub two-edges-spec : {M : Type 1} → statement M
-two-edges-spec = tie.close (tie.spec is-edge-requires returns is-edge-requires-2 returns-2)
+two-edges-spec = tie.close (tie.spec (λ c κs. search needs) returns (λ c κs. search needs) returns-2)

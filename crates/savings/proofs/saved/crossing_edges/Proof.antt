@@ -7,18 +7,12 @@ use borrow.Author.Needs.{needs}
 use Rattle.savings.proofs.saved.crossing_edges.Statement.{statement}
 use Rattle.savings.proofs.saved.crossing_edges.Tie as tie
 
-two-edges-requires : tie.Need-two-edges-requires
-two-edges-requires c κs = search needs
-
 returns : tie.Need-returns
 returns c = and-stop _ (sym (c .before .two-edges .ensures) ∙ not-true _ (c .if1 .taken)) ∙ sym (two-and-more _ _ _ _ _ _)
-
-three-edges-requires : tie.Need-three-edges-requires
-three-edges-requires c κs = search needs
 
 returns-2 : tie.Need-returns-2
 returns-2 c = and-go (sym (c .before .before .two-edges .ensures) ∙ not-false _ (c .before .if1 .left)) (c .three-edges .ensures) ∙ sym (two-and-more _ _ _ _ _ _)
 
 pub crossing-edges-spec : {M : Type 1} → statement M
 crossing-edges-spec =
-    tie.close (tie.spec two-edges-requires returns three-edges-requires returns-2)
+    tie.close (tie.spec (λ c κs. search needs) returns (λ c κs. search needs) returns-2)

@@ -12,11 +12,8 @@ byte-of-not : (t : Bool) → boolByte (not t) ≡ cond t 0 1
 byte-of-not true = refl
 byte-of-not false = refl
 
-cast-result : tie.Need-cast-result
-cast-result c = search needs
-
 returns : tie.Need-returns
 returns c = byte-of-not (eqb (c .args .leg) far)
 
 pub one-if-candidate-spec : {M : Type 1} → statement M
-one-if-candidate-spec = tie.close (tie.spec cast-result returns)
+one-if-candidate-spec = tie.close (tie.spec (λ c. search needs) returns)

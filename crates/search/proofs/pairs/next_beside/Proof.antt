@@ -5,41 +5,11 @@ use borrow.Author.Needs.{needs}
 use Rattle.search.proofs.pairs.next_beside.Statement.{statement}
 use Rattle.search.proofs.pairs.next_beside.Tie as tie
 
-enum-told : tie.Need-enum-told
-enum-told c = search needs
-
-next-in-row-requires : tie.Need-next-in-row-requires
-next-in-row-requires c κs = search needs
-
-enum-known-centre : tie.Need-enum-known-centre
-enum-known-centre c = search needs
-
-next-with-requires : tie.Need-next-with-requires
-next-with-requires c κs = search needs
-
-enum-known-centre-2 : tie.Need-enum-known-centre-2
-enum-known-centre-2 c = search needs
-
-next-with-requires-2 : tie.Need-next-with-requires-2
-next-with-requires-2 c κs = search needs
-
 returns : tie.Need-returns
 returns c = rw (c .before .before .before .centre2 .given .1) (beside-first (c .before .before .before .before .before .before .pre .row) _ _ (c .before .if1 .taken) (c .next-with2 .ensures))
 
-next-with-requires-3 : tie.Need-next-with-requires-3
-next-with-requires-3 c κs = search needs
-
 returns-2 : tie.Need-returns-2
 returns-2 c = rw (c .before .before .before .before .centre2 .given .1) (beside-second (c .before .before .before .before .before .before .before .pre .row) _ _ (c .before .if2 .taken) (c .next-with3 .ensures))
-
-add-result : tie.Need-add-result
-add-result c = search needs
-
-enum-told-2 : tie.Need-enum-told-2
-enum-told-2 c = search needs
-
-add-result-2 : tie.Need-add-result-2
-add-result-2 c = search needs
 
 returns-3 : tie.Need-returns-3
 returns-3 c = rw (c .before .enum-told .given .1) (beside-none (c .before .before .before .before .pre .row) (c .next-in-row .ensures))
@@ -56,20 +26,6 @@ returns-6 c = rw (c .enum-told2 .given .1) (beside-more (c .before .before .befo
 pub next-beside-spec : {M : Type 1} → statement M
 next-beside-spec =
     tie.close
-    (tie.spec
-    enum-told
-    next-in-row-requires
-    enum-known-centre
-    next-with-requires
-    enum-known-centre-2
-    next-with-requires-2
-    returns
-    next-with-requires-3
-    returns-2
-    add-result
-    enum-told-2
-    add-result-2
-    returns-3
-    returns-4
-    returns-5
-    returns-6)
+    (tie.spec (λ c. search needs) (λ c κs. search needs) (λ c. search needs) (λ c κs. search needs) (λ c. search needs)
+    (λ c κs. search needs) returns (λ c κs. search needs) returns-2 (λ c. search needs) (λ c. search needs)
+    (λ c. search needs) returns-3 returns-4 returns-5 returns-6)

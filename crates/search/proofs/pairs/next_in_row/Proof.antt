@@ -13,41 +13,14 @@ Inv-loop n table legs candidates rank bound x y leg cost after first at₀ z₀ 
 abbrev μ-loop : tie.MeasureT-loop
 μ-loop n table legs candidates rank bound x y leg cost after first at₀ z₀ at z = n + 1 - z
 
-mul-leg : tie.Need-mul-leg Inv-loop μ-loop
-mul-leg c = search needs
-
-element-copy-out-leg : tie.Need-element-copy-out-leg Inv-loop μ-loop
-element-copy-out-leg c = search needs
-
-add-result : tie.Need-add-result Inv-loop μ-loop
-add-result c = search needs
-
 returns : tie.Need-returns Inv-loop μ-loop
 returns c = row-far (c .before .before .before .pre) (c .if1 .taken)
-
-add-result-2 : tie.Need-add-result-2 Inv-loop μ-loop
-add-result-2 c = search needs
 
 returns-2 : tie.Need-returns-2 Inv-loop μ-loop
 returns-2 c = row-over (c .before .before .before .before .pre) (c .if2 .taken)
 
 add-cost : tie.Need-add-cost Inv-loop μ-loop
 add-cost c = omega (arith, c .before .before .before .before .pre .bounded .list .at-most-far (c .before .before .before .before .args .x))
-
-add-after : tie.Need-add-after Inv-loop μ-loop
-add-after c = search needs
-
-place-requires : tie.Need-place-requires Inv-loop μ-loop
-place-requires c κs = search needs
-
-add-at : tie.Need-add-at Inv-loop μ-loop
-add-at c = search needs
-
-mul-at : tie.Need-mul-at Inv-loop μ-loop
-mul-at c = search needs
-
-element-copy-out-at : tie.Need-element-copy-out-at Inv-loop μ-loop
-element-copy-out-at c = search needs
 
 cast-at : tie.Need-cast-at Inv-loop μ-loop
 cast-at c = omega (arith, row-rank (c .before .before .before .before .before .before .pre))
@@ -61,26 +34,11 @@ element-copy-out-z c = omega (arith, row-rank (c .before .before .before .before
 loop-holds : tie.Need-loop-holds Inv-loop μ-loop
 loop-holds c = scan-start (c .before .before .before .before .before .before .before .pre) (c .before .before .place .ensures .at)
 
-cast-if3 : tie.Need-cast-if3 Inv-loop μ-loop
-cast-if3 c = search needs
-
-mul-if3 : tie.Need-mul-if3 Inv-loop μ-loop
-mul-if3 c = search needs
-
-element-copy-out-if3 : tie.Need-element-copy-out-if3 Inv-loop μ-loop
-element-copy-out-if3 c = search needs
-
 add-if3 : tie.Need-add-if3 Inv-loop μ-loop
 add-if3 c =
     let start = c .before .before .before .before .before .before .before .before .before .before in
     let at-most-far = start .pre .bounded .list .at-most-far in
     omega (arith, at-most-far (start .args .x), at-most-far (c .before .before .loop .z))
-
-sub-number32 : tie.Need-sub-number32 Inv-loop μ-loop
-sub-number32 c = search needs
-
-cast-number32 : tie.Need-cast-number32 Inv-loop μ-loop
-cast-number32 c = search needs
 
 add-number32 : tie.Need-add-number32 Inv-loop μ-loop
 add-number32 c = omega (arith, scan-small (c .before .before .loop .inv) (c .before .loop-test .taken))
@@ -117,38 +75,8 @@ returns-4 c = scan-end (c .before .loop .inv) (c .loop-test .left)
 pub next-in-row-spec : {M : Type 1} → statement M
 next-in-row-spec =
     tie.close
-    (tie.spec
-    Inv-loop
-    μ-loop
-    mul-leg
-    element-copy-out-leg
-    add-result
-    returns
-    add-result-2
-    returns-2
-    add-cost
-    add-after
-    place-requires
-    add-at
-    mul-at
-    element-copy-out-at
-    cast-at
-    mul-z
-    element-copy-out-z
-    loop-holds
-    cast-if3
-    mul-if3
-    element-copy-out-if3
-    add-if3
-    sub-number32
-    cast-number32
-    add-number32
-    number32-requires
-    add-if3-2
-    returns-3
-    add-at-2
-    mul-z-2
-    element-copy-out-z-2
-    loop-less
-    loop-again
-    returns-4)
+    (tie.spec Inv-loop μ-loop (λ c. search needs) (λ c. search needs) (λ c. search needs) returns (λ c. search needs)
+    returns-2 add-cost (λ c. search needs) (λ c κs. search needs) (λ c. search needs) (λ c. search needs)
+    (λ c. search needs) cast-at mul-z element-copy-out-z loop-holds (λ c. search needs) (λ c. search needs)
+    (λ c. search needs) add-if3 (λ c. search needs) (λ c. search needs) add-number32 number32-requires add-if3-2
+    returns-3 add-at-2 mul-z-2 element-copy-out-z-2 loop-less loop-again returns-4)

@@ -25,9 +25,6 @@ returns c = try-none (c .before .before .before .pre) _ (c .before .next-beside 
 look-beyond-requires : tie.Need-look-beyond-requires Inv-loop μ-loop
 look-beyond-requires c κs = let s = c .before .before .before .pre in beyond-asked (s .beside .row .lengths .few) (s .held)
 
-add-result : tie.Need-add-result Inv-loop μ-loop
-add-result c = search needs
-
 returns-2 : tie.Need-returns-2 Inv-loop μ-loop
 returns-2 c = try-fork (c .before .before .before .before .before .pre) _ (c .before .look-beyond .ensures) (c .if2 .taken)
 
@@ -55,18 +52,5 @@ returns-4 c = try-end (c .before .loop .inv) (c .loop-test .left)
 pub next-in-shape-spec : {M : Type 1} → statement M
 next-in-shape-spec =
     tie.close
-    (tie.spec
-    Inv-loop
-    μ-loop
-    next-beside-requires
-    returns
-    look-beyond-requires
-    add-result
-    returns-2
-    loop-holds
-    shuts-requires
-    returns-3
-    next-beside-requires-2
-    loop-less
-    loop-again
-    returns-4)
+    (tie.spec Inv-loop μ-loop next-beside-requires returns look-beyond-requires (λ c. search needs) returns-2 loop-holds
+    shuts-requires returns-3 next-beside-requires-2 loop-less loop-again returns-4)

@@ -22,18 +22,6 @@ next-in-shape-requires c κs = walk-asked (c .before .loop .inv) (c .loop-test .
 returns : tie.Need-returns Inv-loop μ-loop
 returns c = walk-found (c .before .before .before .loop .inv) (c .before .before .loop-test .taken) _ (c .before .next-in-shape .ensures) (c .if1 .taken)
 
-cast-a : tie.Need-cast-a Inv-loop μ-loop
-cast-a c = search needs
-
-add-a : tie.Need-add-a Inv-loop μ-loop
-add-a c = search needs
-
-mul-a : tie.Need-mul-a Inv-loop μ-loop
-mul-a c = search needs
-
-element-copy-out-a : tie.Need-element-copy-out-a Inv-loop μ-loop
-element-copy-out-a c = search needs
-
 cast-a-2 : tie.Need-cast-a-2 Inv-loop μ-loop
 cast-a-2 c = omega (arith, walk-rank (c .before .before .before .before .loop .inv) (c .before .before .before .loop-test .taken))
 
@@ -55,19 +43,5 @@ returns-2 c = walk-end (c .before .loop .inv) (c .loop-test .left)
 pub next-pair-spec : {M : Type 1} → statement M
 next-pair-spec =
     tie.close
-    (tie.spec
-    Inv-loop
-    μ-loop
-    loop-holds
-    next-in-shape-requires
-    returns
-    cast-a
-    add-a
-    mul-a
-    element-copy-out-a
-    cast-a-2
-    mul-a-2
-    element-copy-out-a-2
-    loop-less
-    loop-again
-    returns-2)
+    (tie.spec Inv-loop μ-loop loop-holds next-in-shape-requires returns (λ c. search needs) (λ c. search needs)
+    (λ c. search needs) (λ c. search needs) cast-a-2 mul-a-2 element-copy-out-a-2 loop-less loop-again returns-2)

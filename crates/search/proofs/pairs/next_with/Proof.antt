@@ -5,38 +5,17 @@ use borrow.Author.Needs.{needs}
 use Rattle.search.proofs.pairs.next_with.Statement.{statement}
 use Rattle.search.proofs.pairs.next_with.Tie as tie
 
-next-in-row-requires : tie.Need-next-in-row-requires
-next-in-row-requires c κs = search needs
-
 returns : tie.Need-returns
 returns c = with-own (c .before .before .before .pre) _ (c .before .if1 .taken) (c .next-in-row .ensures)
-
-add-result : tie.Need-add-result
-add-result c = search needs
 
 returns-2 : tie.Need-returns-2
 returns-2 c = with-past (c .before .before .before .pre) _ (c .before .if1 .left) (c .if2 .taken)
 
-add-result-2 : tie.Need-add-result-2
-add-result-2 c = search needs
-
 returns-3 : tie.Need-returns-3
 returns-3 c = with-over (c .before .before .before .before .pre) _ (c .before .before .if1 .left) (c .if3 .taken)
 
-mul-cost : tie.Need-mul-cost
-mul-cost c = search needs
-
-element-copy-out-cost : tie.Need-element-copy-out-cost
-element-copy-out-cost c = search needs
-
 add-cost : tie.Need-add-cost
 add-cost c = omega (arith, c .before .before .before .before .before .pre .bounded .list .at-most-far (c .before .before .before .before .before .args .x))
-
-mul-cost-2 : tie.Need-mul-cost-2
-mul-cost-2 c = search needs
-
-element-copy-out-cost-2 : tie.Need-element-copy-out-cost-2
-element-copy-out-cost-2 c = search needs
 
 add-cost-2 : tie.Need-add-cost-2
 add-cost-2 c = omega (arith, c .before .before .before .before .before .before .pre .bounded .list .at-most-far (c .before .before .before .before .before .before .args .x), c .before .before .before .before .before .before .pre .bounded .list .at-most-far (c .before .before .before .before .before .before .args .a))
@@ -44,17 +23,8 @@ add-cost-2 c = omega (arith, c .before .before .before .before .before .before .
 cast-if4 : tie.Need-cast-if4
 cast-if4 c = omega (arith, c .before .before .before .before .before .before .pre .bounded .list .at-most-far (c .before .before .before .before .before .before .args .x), c .before .before .before .before .before .before .pre .bounded .list .at-most-far (c .before .before .before .before .before .before .args .a))
 
-length-between-requires : tie.Need-length-between-requires
-length-between-requires c κs = search needs
-
-add-if4 : tie.Need-add-if4
-add-if4 c = search needs
-
 returns-4 : tie.Need-returns-4
 returns-4 c = with-found (c .before .before .before .before .before .before .before .before .pre) _ (c .before .before .before .before .before .before .if1 .left) (c .before .before .before .before .before .if2 .left) (c .before .before .before .before .if3 .left) (c .before .length-between .ensures .at) (c .if4 .taken)
-
-add-result-3 : tie.Need-add-result-3
-add-result-3 c = search needs
 
 returns-5 : tie.Need-returns-5
 returns-5 c = with-refused (c .before .before .before .before .before .before .before .before .pre) _ (c .before .before .before .before .before .before .if1 .left) (c .before .length-between .ensures .at) (c .if4 .left)
@@ -62,22 +32,6 @@ returns-5 c = with-refused (c .before .before .before .before .before .before .b
 pub next-with-spec : {M : Type 1} → statement M
 next-with-spec =
     tie.close
-    (tie.spec
-    next-in-row-requires
-    returns
-    add-result
-    returns-2
-    add-result-2
-    returns-3
-    mul-cost
-    element-copy-out-cost
-    add-cost
-    mul-cost-2
-    element-copy-out-cost-2
-    add-cost-2
-    cast-if4
-    length-between-requires
-    add-if4
-    returns-4
-    add-result-3
-    returns-5)
+    (tie.spec (λ c κs. search needs) returns (λ c. search needs) returns-2 (λ c. search needs) returns-3
+    (λ c. search needs) (λ c. search needs) add-cost (λ c. search needs) (λ c. search needs) add-cost-2 cast-if4
+    (λ c κs. search needs) (λ c. search needs) returns-4 (λ c. search needs) returns-5)

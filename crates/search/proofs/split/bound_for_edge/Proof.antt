@@ -4,9 +4,6 @@ use borrow.Author.Needs.{needs}
 use Rattle.search.proofs.split.bound_for_edge.Statement.{statement}
 use Rattle.search.proofs.split.bound_for_edge.Tie as tie
 
-edge-triangle-requires : tie.Need-edge-triangle-requires
-edge-triangle-requires c κs = search needs
-
 tighten-requires : tie.Need-tighten-requires
 tighten-requires c κs = edge-short (c .before .before .before .pre) (c .edge-triangle .ensures)
 
@@ -14,4 +11,4 @@ returns : tie.Need-returns
 returns c = edge-bound (c .before .before .before .before .pre) (c .before .edge-triangle .ensures) (c .tighten .ensures)
 
 pub bound-for-edge-spec : {M : Type 1} → statement M
-bound-for-edge-spec = tie.close (tie.spec edge-triangle-requires tighten-requires returns)
+bound-for-edge-spec = tie.close (tie.spec (λ c κs. search needs) tighten-requires returns)

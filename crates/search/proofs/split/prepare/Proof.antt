@@ -4,9 +4,6 @@ use borrow.Author.Needs.{needs}
 use Rattle.search.proofs.split.prepare.Statement.{statement}
 use Rattle.search.proofs.split.prepare.Tie as tie
 
-take-in-all-requires : tie.Need-take-in-all-requires
-take-in-all-requires c κs = search needs
-
 settle-all-requires : tie.Need-settle-all-requires
 settle-all-requires c κs = settle-asks (c .before .before .before .before .before .before .before .before .pre .0) (c .before .take-in-all .ensures)
 
@@ -18,4 +15,4 @@ returns c = settled-split (c .before .before .before .before .before .before .be
 
 pub prepare-spec : {M : Type 1} → statement M
 prepare-spec =
-    tie.close (tie.spec take-in-all-requires settle-all-requires settle-ends-requires returns)
+    tie.close (tie.spec (λ c κs. search needs) settle-all-requires settle-ends-requires returns)

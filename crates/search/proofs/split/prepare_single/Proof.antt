@@ -4,12 +4,6 @@ use borrow.Author.Needs.{needs}
 use Rattle.search.proofs.split.prepare_single.Statement.{statement}
 use Rattle.search.proofs.split.prepare_single.Tie as tie
 
-array-read-a : tie.Need-array-read-a
-array-read-a c = search needs
-
-array-read-b : tie.Need-array-read-b
-array-read-b c = search needs
-
 legs-for-edge-requires : tie.Need-legs-for-edge-requires
 legs-for-edge-requires c κs = single-asked (c .before .before .before .before .before .pre)
 
@@ -22,9 +16,4 @@ returns c = single-split (c .before .before .before .before .before .before .bef
 pub prepare-single-spec : {M : Type 1} → statement M
 prepare-single-spec =
     tie.close
-    (tie.spec
-    array-read-a
-    array-read-b
-    legs-for-edge-requires
-    bound-for-edge-requires
-    returns)
+    (tie.spec (λ c. search needs) (λ c. search needs) legs-for-edge-requires bound-for-edge-requires returns)

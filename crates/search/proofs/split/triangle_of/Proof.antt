@@ -3,24 +3,6 @@ use borrow.Author.Needs.{needs}
 use Rattle.search.proofs.split.triangle_of.Statement.{statement}
 use Rattle.search.proofs.split.triangle_of.Tie as tie
 
-row-start-requires : tie.Need-row-start-requires
-row-start-requires c κs = search needs
-
-row-start-requires-2 : tie.Need-row-start-requires-2
-row-start-requires-2 c κs = search needs
-
-row-start-requires-3 : tie.Need-row-start-requires-3
-row-start-requires-3 c κs = search needs
-
-length-in-requires : tie.Need-length-in-requires
-length-in-requires c κs = search needs
-
-length-in-requires-2 : tie.Need-length-in-requires-2
-length-in-requires-2 c κs = search needs
-
-length-in-requires-3 : tie.Need-length-in-requires-3
-length-in-requires-3 c κs = search needs
-
 returns : tie.Need-returns
 returns c = record {
   start-p = c .before .before .before .before .row-start2 .ensures;
@@ -33,11 +15,5 @@ returns c = record {
 pub triangle-of-spec : {M : Type 1} → statement M
 triangle-of-spec =
     tie.close
-    (tie.spec
-    row-start-requires
-    row-start-requires-2
-    row-start-requires-3
-    length-in-requires
-    length-in-requires-2
-    length-in-requires-3
-    returns)
+    (tie.spec (λ c κs. search needs) (λ c κs. search needs) (λ c κs. search needs) (λ c κs. search needs)
+    (λ c κs. search needs) (λ c κs. search needs) returns)

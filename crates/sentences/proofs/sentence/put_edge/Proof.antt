@@ -20,9 +20,4 @@ put-field-requires-2 c κs = let w = c .before .before .before .before in room-s
 pub put-edge-spec : {M : Type 1} → statement M
 put-edge-spec =
     tie.close
-    (tie.spec
-    put-field-requires
-    (λ c. search needs)
-    put-field-requires-2
-    (λ c. search needs)
-    returns)
+    (tie.spec put-field-requires (λ c. search needs) put-field-requires-2 (λ c. search needs) returns)

@@ -51,16 +51,6 @@ put-pair-requires c κs =
 pub put-exchange-spec : {M : Type 1} → statement M
 put-exchange-spec =
     tie.close
-    (tie.spec
-    (λ c. search needs)
-    put-edge-requires
-    (λ c. search needs)
-    put-field-requires
-    (λ c. search needs)
-    put-field-requires-2
-    (λ c. search needs)
-    put-field-requires-3
-    (λ c. search needs)
-    put-pair-requires
-    (λ c. search needs)
-    returns)
+    (tie.spec (λ c. search needs) put-edge-requires (λ c. search needs) put-field-requires (λ c. search needs)
+    put-field-requires-2 (λ c. search needs) put-field-requires-3 (λ c. search needs) put-pair-requires
+    (λ c. search needs) returns)

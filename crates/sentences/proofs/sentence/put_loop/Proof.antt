@@ -32,12 +32,5 @@ put-pair-requires c κs =
 pub put-loop-spec : {M : Type 1} → statement M
 put-loop-spec =
     tie.close
-    (tie.spec
-    (λ c. search needs)
-    put-edge-requires
-    (λ c. search needs)
-    put-field-requires
-    (λ c. search needs)
-    put-pair-requires
-    (λ c. search needs)
-    returns)
+    (tie.spec (λ c. search needs) put-edge-requires (λ c. search needs) put-field-requires (λ c. search needs)
+    put-pair-requires (λ c. search needs) returns)

@@ -41,13 +41,5 @@ put-word-requires c κs =
 pub put-pair-spec : {M : Type 1} → statement M
 put-pair-spec =
     tie.close
-    (tie.spec
-    put-field-requires
-    (λ c. search needs)
-    put-field-requires-2
-    (λ c. search needs)
-    put-field-requires-3
-    (λ c. search needs)
-    put-word-requires
-    (λ c. search needs)
-    returns)
+    (tie.spec put-field-requires (λ c. search needs) put-field-requires-2 (λ c. search needs) put-field-requires-3
+    (λ c. search needs) put-word-requires (λ c. search needs) returns)

@@ -20,8 +20,4 @@ put-pair-requires c κs = let w = c .before .before .before in room-second (w .b
 pub put-point-spec : {M : Type 1} → statement M
 put-point-spec =
     tie.close
-    (tie.spec
-    put-field-requires
-    put-pair-requires
-    (λ c. search needs)
-    returns)
+    (tie.spec put-field-requires put-pair-requires (λ c. search needs) returns)

@@ -99,32 +99,8 @@ returns-6 c =
 pub put-sentence-spec : {M : Type 1} → statement M
 put-sentence-spec =
     tie.close
-    (tie.spec
-    (λ c. search needs)
-    put-struck-requires
-    (λ c. search needs)
-    (λ c. search needs)
-    (λ c. search needs)
-    put-point-requires
-    (λ c. search needs)
-    put-loop-requires
-    (λ c. search needs)
-    put-exchange-requires
-    (λ c. search needs)
-    put-move-requires
-    (λ c. search needs)
-    (λ c. search needs)
-    (λ c. search needs)
-    put-point-requires-2
-    (λ c. search needs)
-    returns
-    (λ c. search needs)
-    returns-2
-    (λ c. search needs)
-    returns-3
-    (λ c. search needs)
-    returns-4
-    (λ c. search needs)
-    returns-5
-    (λ c. search needs)
-    returns-6)
+    (tie.spec (λ c. search needs) put-struck-requires (λ c. search needs) (λ c. search needs) (λ c. search needs)
+    put-point-requires (λ c. search needs) put-loop-requires (λ c. search needs) put-exchange-requires
+    (λ c. search needs) put-move-requires (λ c. search needs) (λ c. search needs) (λ c. search needs)
+    put-point-requires-2 (λ c. search needs) returns (λ c. search needs) returns-2 (λ c. search needs) returns-3
+    (λ c. search needs) returns-4 (λ c. search needs) returns-5 (λ c. search needs) returns-6)

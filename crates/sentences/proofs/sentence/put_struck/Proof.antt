@@ -24,10 +24,4 @@ put-pair-requires c κs = let w = c .before .before .before .before in room-seco
 pub put-struck-spec : {M : Type 1} → statement M
 put-struck-spec =
     tie.close
-    (tie.spec
-    (λ c. search needs)
-    put-edge-requires
-    (λ c. search needs)
-    put-pair-requires
-    (λ c. search needs)
-    returns)
+    (tie.spec (λ c. search needs) put-edge-requires (λ c. search needs) put-pair-requires (λ c. search needs) returns)

@@ -14,18 +14,6 @@ abbrev μ-loop : tie.MeasureT-loop
 loop-holds : tie.Need-loop-holds Inv-loop μ-loop
 loop-holds c = gather-start _ _ (c .pre)
 
-mul-pass : tie.Need-mul-pass Inv-loop μ-loop
-mul-pass c = search needs
-
-element-copy-out-pass : tie.Need-element-copy-out-pass Inv-loop μ-loop
-element-copy-out-pass c = search needs
-
-mul-pass-2 : tie.Need-mul-pass-2 Inv-loop μ-loop
-mul-pass-2 c = search needs
-
-element-copy-out-pass-2 : tie.Need-element-copy-out-pass-2 Inv-loop μ-loop
-element-copy-out-pass-2 c = search needs
-
 pass-requires : tie.Need-pass-requires Inv-loop μ-loop
 pass-requires c κs =
     let p = c .before .before .before .before .pre in
@@ -36,12 +24,6 @@ pass-requires c κs =
 returns : tie.Need-returns Inv-loop μ-loop
 returns c = gather-fork (gather-on (c .before .before .before .before .before .loop .inv) (c .before .before .before .before .loop-test .taken) (c .before .pass .ensures)) (c .if1 .taken)
 
-add-i : tie.Need-add-i Inv-loop μ-loop
-add-i c = search needs
-
-loop-less : tie.Need-loop-less Inv-loop μ-loop
-loop-less c = search needs
-
 loop-again : tie.Need-loop-again Inv-loop μ-loop
 loop-again c = gather-on (c .before .before .before .before .before .loop .inv) (c .before .before .before .before .loop-test .taken) (c .before .pass .ensures)
 
@@ -51,17 +33,5 @@ returns-2 c = gather-end (c .before .loop .inv) (c .loop-test .left)
 pub look-beyond-spec : {M : Type 1} → statement M
 look-beyond-spec =
     tie.close
-    (tie.spec
-    Inv-loop
-    μ-loop
-    loop-holds
-    mul-pass
-    element-copy-out-pass
-    mul-pass-2
-    element-copy-out-pass-2
-    pass-requires
-    returns
-    add-i
-    loop-less
-    loop-again
-    returns-2)
+    (tie.spec Inv-loop μ-loop loop-holds (λ c. search needs) (λ c. search needs) (λ c. search needs) (λ c. search needs)
+    pass-requires returns (λ c. search needs) (λ c. search needs) loop-again returns-2)

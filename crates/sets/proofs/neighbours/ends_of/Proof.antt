@@ -5,21 +5,6 @@ use Rattle.sets.specs.Neighbours.{endsOf, bothOf}
 use Rattle.sets.proofs.neighbours.ends_of.Statement.{statement}
 use Rattle.sets.proofs.neighbours.ends_of.Tie as tie
 
-neighbours-of-requires : tie.Need-neighbours-of-requires
-neighbours-of-requires c κs = search needs
-
-enum-told : tie.Need-enum-told
-enum-told c = search needs
-
-enum-told-2 : tie.Need-enum-told-2
-enum-told-2 c = search needs
-
-enum-known-x : tie.Need-enum-known-x
-enum-known-x c = search needs
-
-enum-told-3 : tie.Need-enum-told-3
-enum-told-3 c = search needs
-
 returns : tie.Need-returns
 unfolding endsOf bothOf
 returns c = rw (← c .before .before .neighbours-of .ensures, c .enum-told .given .1)
@@ -39,13 +24,5 @@ returns-4 c = rw (← c .before .before .neighbours-of .ensures, c .enum-told3 .
 pub ends-of-spec : {M : Type 1} → statement M
 ends-of-spec =
     tie.close
-    (tie.spec
-    neighbours-of-requires
-    enum-told
-    enum-told-2
-    enum-known-x
-    enum-told-3
-    returns
-    returns-2
-    returns-3
-    returns-4)
+    (tie.spec (λ c κs. search needs) (λ c. search needs) (λ c. search needs) (λ c. search needs) (λ c. search needs)
+    returns returns-2 returns-3 returns-4)

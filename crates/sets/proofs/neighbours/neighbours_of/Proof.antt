@@ -21,27 +21,6 @@ loop-holds : tie.Need-loop-holds Inv-loop μ-loop
 unfolding neighboursOf edgesOf
 loop-holds c = (search needs, c .before .before .pre .few, refl)
 
-mul-seeing : tie.Need-mul-seeing Inv-loop μ-loop
-mul-seeing c = search needs
-
-array-read-seeing : tie.Need-array-read-seeing Inv-loop μ-loop
-array-read-seeing c = search needs
-
-mul-seeing-2 : tie.Need-mul-seeing-2 Inv-loop μ-loop
-mul-seeing-2 c = search needs
-
-array-read-seeing-2 : tie.Need-array-read-seeing-2 Inv-loop μ-loop
-array-read-seeing-2 c = search needs
-
-seeing-requires : tie.Need-seeing-requires Inv-loop μ-loop
-seeing-requires c κs = search needs
-
-add-i : tie.Need-add-i Inv-loop μ-loop
-add-i c = search needs
-
-loop-less : tie.Need-loop-less Inv-loop μ-loop
-loop-less c = search needs
-
 loop-again : tie.Need-loop-again Inv-loop μ-loop
 loop-again c =
     let l = c .before .before .loop in
@@ -58,16 +37,5 @@ returns c =
 pub neighbours-of-spec : {M : Type 1} → statement M
 neighbours-of-spec =
     tie.close
-    (tie.spec
-    Inv-loop
-    μ-loop
-    loop-holds
-    mul-seeing
-    array-read-seeing
-    mul-seeing-2
-    array-read-seeing-2
-    seeing-requires
-    add-i
-    loop-less
-    loop-again
-    returns)
+    (tie.spec Inv-loop μ-loop loop-holds (λ c. search needs) (λ c. search needs) (λ c. search needs) (λ c. search needs)
+    (λ c κs. search needs) (λ c. search needs) (λ c. search needs) loop-again returns)

@@ -5,14 +5,8 @@ use borrow.Author.Needs.{needs}
 use Rattle.sets.proofs.neighbours.onward.Statement.{statement}
 use Rattle.sets.proofs.neighbours.onward.Tie as tie
 
-neighbours-of-requires : tie.Need-neighbours-of-requires
-neighbours-of-requires c κs = search needs
-
-beyond-requires : tie.Need-beyond-requires
-beyond-requires c κs = search needs
-
 returns : tie.Need-returns
 returns c = c .beyond .ensures ∙ rw (c .before .neighbours-of .ensures)
 
 pub onward-spec : {M : Type 1} → statement M
-onward-spec = tie.close (tie.spec neighbours-of-requires beyond-requires returns)
+onward-spec = tie.close (tie.spec (λ c κs. search needs) (λ c κs. search needs) returns)

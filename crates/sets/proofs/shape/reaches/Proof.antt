@@ -22,12 +22,6 @@ loop-holds c = refl
 returns : tie.Need-returns Inv-loop μ-loop
 returns c = sym (reaches-here _ _ _ _ _ _ (c .before .loop-test .taken) (c .if1 .taken)) ∙ c .before .before .loop .inv
 
-onward-requires : tie.Need-onward-requires Inv-loop μ-loop
-onward-requires c κs = search needs
-
-enum-told : tie.Need-enum-told Inv-loop μ-loop
-enum-told c = search needs
-
 returns-2 : tie.Need-returns-2 Inv-loop μ-loop
 unfolding goesOn
 returns-2 c =
@@ -35,24 +29,12 @@ returns-2 c =
     (sym (c .before .before .onward .ensures) ∙ c .enum-told .given .1))
     ∙ c .before .before .before .before .before .loop .inv
 
-enum-told-2 : tie.Need-enum-told-2 Inv-loop μ-loop
-enum-told-2 c = search needs
-
 returns-3 : tie.Need-returns-3 Inv-loop μ-loop
 unfolding goesOn
 returns-3 c =
     sym (reaches-step _ _ _ _ _ _ (c .before .before .before .before .loop-test .taken) (c .before .before .before .if1 .left)
     (sym (c .before .before .onward .ensures) ∙ c .enum-told2 .given .1))
     ∙ c .before .before .before .before .before .loop .inv
-
-enum-known-v : tie.Need-enum-known-v Inv-loop μ-loop
-enum-known-v c = search needs
-
-add-points : tie.Need-add-points Inv-loop μ-loop
-add-points c = search needs
-
-loop-less : tie.Need-loop-less Inv-loop μ-loop
-loop-less c = search needs
 
 loop-again : tie.Need-loop-again Inv-loop μ-loop
 unfolding goesOn
@@ -67,18 +49,5 @@ returns-4 c = sym (reaches-end _ _ _ _ _ _ (c .loop-test .left)) ∙ c .before .
 pub reaches-spec : {M : Type 1} → statement M
 reaches-spec =
     tie.close
-    (tie.spec
-    Inv-loop
-    μ-loop
-    loop-holds
-    returns
-    onward-requires
-    enum-told
-    returns-2
-    enum-told-2
-    returns-3
-    enum-known-v
-    add-points
-    loop-less
-    loop-again
-    returns-4)
+    (tie.spec Inv-loop μ-loop loop-holds returns (λ c κs. search needs) (λ c. search needs) returns-2
+    (λ c. search needs) returns-3 (λ c. search needs) (λ c. search needs) (λ c. search needs) loop-again returns-4)

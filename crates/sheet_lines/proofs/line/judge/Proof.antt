@@ -4,24 +4,6 @@ use borrow.Author.Needs.{needs}
 use Rattle.sheet_lines.proofs.line.judge.Statement.{statement}
 use Rattle.sheet_lines.proofs.line.judge.Tie as tie
 
-record-requires : tie.Need-record-requires
-record-requires c κs = search needs
-
-enum-known-line : tie.Need-enum-known-line
-enum-known-line c = search needs
-
-judge-line-requires : tie.Need-judge-line-requires
-judge-line-requires c κs = search needs
-
-enum-told : tie.Need-enum-told
-enum-told c = search needs
-
-enum-told-2 : tie.Need-enum-told-2
-enum-told-2 c = search needs
-
-enum-told-3 : tie.Need-enum-told-3
-enum-told-3 c = search needs
-
 returns : tie.Need-returns
 returns c = judge-line _ _ _ _ (c .before .before .before .before .«record» .ensures) (c .before .before .line .given .1) (c .judge-line .ensures)
 
@@ -37,14 +19,5 @@ returns-4 c = judge-other _ _ _ _ (c .before .before .«record» .ensures) (c .e
 pub judge-spec : {M : Type 1} → statement M
 judge-spec =
     tie.close
-    (tie.spec
-    record-requires
-    enum-known-line
-    judge-line-requires
-    enum-told
-    enum-told-2
-    enum-told-3
-    returns
-    returns-2
-    returns-3
-    returns-4)
+    (tie.spec (λ c κs. search needs) (λ c. search needs) (λ c κs. search needs) (λ c. search needs) (λ c. search needs)
+    (λ c. search needs) returns returns-2 returns-3 returns-4)

@@ -6,9 +6,6 @@ use borrow.Author.Needs.{needs}
 use Rattle.sheet_lines.proofs.line.judge_line.Statement.{statement}
 use Rattle.sheet_lines.proofs.line.judge_line.Tie as tie
 
-points-fit-requires : tie.Need-points-fit-requires
-points-fit-requires c κs = search needs
-
 returns : tie.Need-returns
 returns c = line-misfit _ _ _ _ _ _ _ _ _ (sym (c .before .points-fit .ensures) ∙ not-true _ (c .if1 .taken))
 
@@ -17,12 +14,6 @@ is-open-requires c κs = line-marked (c .before .before .before .before .before 
 
 returns-2 : tie.Need-returns-2
 returns-2 c = let f = c .before .before in line-struck _ _ _ _ _ _ _ _ _ (sym (f .before .points-fit .ensures) ∙ not-false _ (f .if1 .left)) (sym (c .before .is-open .ensures) ∙ not-true _ (c .if2 .taken))
-
-single-requires : tie.Need-single-requires
-single-requires c κs = search needs
-
-sub-chain : tie.Need-sub-chain
-sub-chain c = search needs
 
 returns-3 : tie.Need-returns-3
 returns-3 c = let o = c .before .before .before .before .before in let f = o .before .before in line-strikes _ _ _ _ _ _ _ _ _ (sym (f .before .points-fit .ensures) ∙ not-false _ (f .if1 .left)) (sym (o .before .is-open .ensures) ∙ not-false _ (o .if2 .left)) (c .before .before .before .before .single .ensures) (c .before .before .before .chain .ensures) (c .before .high .given .1)
@@ -33,24 +24,8 @@ returns-4 c = let o = c .before .before .before .before .before in let f = o .be
 chain-requires : tie.Need-chain-requires
 chain-requires c κs = let f = c .before .before .before in line-chain (c .before .before .before .before .before .before .before .before .before .before .before .pre) _ _ _ _ (sym (f .before .points-fit .ensures) ∙ not-false _ (f .if1 .left)) (c .single .ensures)
 
-enum-known-high : tie.Need-enum-known-high
-enum-known-high c = search needs
-
-enum-known-number : tie.Need-enum-known-number
-enum-known-number c = search needs
-
 pub judge-line-spec : {M : Type 1} → statement M
 judge-line-spec =
     tie.close
-    (tie.spec
-    points-fit-requires
-    returns
-    is-open-requires
-    returns-2
-    single-requires
-    sub-chain
-    chain-requires
-    enum-known-high
-    enum-known-number
-    returns-3
-    returns-4)
+    (tie.spec (λ c κs. search needs) returns is-open-requires returns-2 (λ c κs. search needs) (λ c. search needs)
+    chain-requires (λ c. search needs) (λ c. search needs) returns-3 returns-4)

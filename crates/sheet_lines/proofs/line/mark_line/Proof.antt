@@ -15,26 +15,11 @@ returns-2 c = mark-above _ _ _ _ _ _ _ _ _ (above-all (c .before .before .before
 returns-3 : tie.Need-returns-3
 returns-3 c = mark-low _ _ _ _ _ _ _ _ _ (c .before .before .if1 .left) (not-above (c .before .before .before .before .before .before .before .before .before .pre .tried .admitted .whole) (c .before .if2 .left)) (c .if3 .taken)
 
-judge-requires : tie.Need-judge-requires
-judge-requires c κs = search needs
-
-enum-known-a : tie.Need-enum-known-a
-enum-known-a c = search needs
-
 set-mark-requires : tie.Need-set-mark-requires
 set-mark-requires c κs = mark-marked (c .before .before .before .before .before .before .before .before .before .before .before .before .before .before .before .pre) _ (c .before .before .before .before .judge .ensures) (c .before .before .a .given .1)
 
-enum-known-number : tie.Need-enum-known-number
-enum-known-number c = search needs
-
-same-length : tie.Need-same-length
-same-length c = search needs
-
 returns-4 : tie.Need-returns-4
 returns-4 c = let i = c .before .before .before .before .before .before .before .before .before in mark-strikes _ _ _ _ _ _ _ _ _ (entered (i .before .before .before .before .before .before .before .before .before .pre .tried .admitted .whole) (i .before .if2 .left) (i .if3 .left)) (c .before .before .before .before .before .before .before .judge .ensures) (c .before .before .before .before .before .a .given .1) (c .before .before .set-mark .ensures)
-
-same-length-2 : tie.Need-same-length-2
-same-length-2 c = search needs
 
 returns-5 : tie.Need-returns-5
 returns-5 c = let i = c .before .before .before .before .before in mark-stops _ _ _ _ _ _ _ _ _ (entered (i .before .before .before .before .before .before .before .before .before .pre .tried .admitted .whole) (i .before .if2 .left) (i .if3 .left)) (c .before .before .before .judge .ensures) (c .before .number .given .1)
@@ -42,15 +27,5 @@ returns-5 c = let i = c .before .before .before .before .before in mark-stops _ 
 pub mark-line-spec : {M : Type 1} → statement M
 mark-line-spec =
     tie.close
-    (tie.spec
-    returns
-    returns-2
-    returns-3
-    judge-requires
-    enum-known-a
-    set-mark-requires
-    enum-known-number
-    same-length
-    returns-4
-    same-length-2
-    returns-5)
+    (tie.spec returns returns-2 returns-3 (λ c κs. search needs) (λ c. search needs) set-mark-requires
+    (λ c. search needs) (λ c. search needs) returns-4 (λ c. search needs) returns-5)

@@ -25,26 +25,17 @@ loop-holds c = (lines-start (c .before .before .before .before .before .before .
 mark-line-requires : tie.Need-mark-line-requires Inv-loop μ-loop
 mark-line-requires c κs = record { tried = c .before .loop .inv .0 .tried; is-mark = c .before .before .before .before .before .before .before .before .pre .is-mark }
 
-enum-told : tie.Need-enum-told Inv-loop μ-loop
-enum-told c = search needs
-
 same-length : tie.Need-same-length Inv-loop μ-loop
 same-length c = c .before .before .before .before .mark-line .kept .1 .1 .1 .1 .1 .1 .0 ∙ c .before .before .before .before .before .before .loop .inv .1
 
 returns : tie.Need-returns Inv-loop μ-loop
 returns c = lines-accepted (c .before .before .before .before .before .before .loop .inv .0) (c .before .before .before .before .mark-line .ensures) (c .enum-told .given .1)
 
-enum-known-number : tie.Need-enum-known-number Inv-loop μ-loop
-enum-known-number c = search needs
-
 same-length-2 : tie.Need-same-length-2 Inv-loop μ-loop
 same-length-2 c = c .before .before .before .before .before .mark-line .kept .1 .1 .1 .1 .1 .1 .0 ∙ c .before .before .before .before .before .before .before .loop .inv .1
 
 returns-2 : tie.Need-returns-2 Inv-loop μ-loop
 returns-2 c = lines-refused (c .before .before .before .before .before .before .before .loop .inv .0) (c .before .before .before .before .before .mark-line .ensures) (c .before .number .given .1)
-
-enum-known-next : tie.Need-enum-known-next Inv-loop μ-loop
-enum-known-next c = search needs
 
 add-lines : tie.Need-add-lines Inv-loop μ-loop
 add-lines c = omega (arith, lines-few (c .before .before .before .before .before .before .before .loop .inv .0) (c .before .before .before .before .before .mark-line .ensures) (c .before .next .given .1))
@@ -60,18 +51,5 @@ loop-again c =
 pub mark-lines-spec : {M : Type 1} → statement M
 mark-lines-spec =
     tie.close
-    (tie.spec
-    Inv-loop
-    μ-loop
-    loop-holds
-    mark-line-requires
-    enum-told
-    same-length
-    returns
-    enum-known-number
-    same-length-2
-    returns-2
-    enum-known-next
-    add-lines
-    loop-less
-    loop-again)
+    (tie.spec Inv-loop μ-loop loop-holds mark-line-requires (λ c. search needs) same-length returns (λ c. search needs)
+    same-length-2 returns-2 (λ c. search needs) add-lines loop-less loop-again)

@@ -40,17 +40,6 @@ returns-5 c =
 pub close-by-order-spec : {M : Type 1} → statement M
 close-by-order-spec =
     tie.close
-    (tie.spec
-    (λ c κs. search needs)
-    returns
-    (λ c κs. search needs)
-    (λ c. search needs)
-    (λ c. search needs)
-    reorder-requires
-    (λ c. search needs)
-    (λ c. search needs)
-    (λ c. search needs)
-    returns-2
-    returns-3
-    returns-4
+    (tie.spec (λ c κs. search needs) returns (λ c κs. search needs) (λ c. search needs) (λ c. search needs)
+    reorder-requires (λ c. search needs) (λ c. search needs) (λ c. search needs) returns-2 returns-3 returns-4
     returns-5)

@@ -42,18 +42,5 @@ returns-8 c = let i = c .before .before .before in visit-other _ _ _ _ (entered 
 pub next-visit-spec : {M : Type 1} → statement M
 next-visit-spec =
     tie.close
-    (tie.spec
-    returns
-    returns-2
-    returns-3
-    (λ c κs. search needs)
-    (λ c. search needs)
-    (λ c κs. search needs)
-    returns-4
-    (λ c. search needs)
-    (λ c. search needs)
-    (λ c. search needs)
-    returns-5
-    returns-6
-    returns-7
-    returns-8)
+    (tie.spec returns returns-2 returns-3 (λ c κs. search needs) (λ c. search needs) (λ c κs. search needs) returns-4
+    (λ c. search needs) (λ c. search needs) (λ c. search needs) returns-5 returns-6 returns-7 returns-8)

@@ -6,47 +6,17 @@ use borrow.Author.Needs.{needs}
 use Rattle.sheets.proofs.walk.closing_fits.Statement.{statement}
 use Rattle.sheets.proofs.walk.closing_fits.Tie as tie
 
-enum-known-closing : tie.Need-enum-known-closing
-enum-known-closing c = search needs
-
-is-point-requires : tie.Need-is-point-requires
-is-point-requires c κs = search needs
-
-enum-known-closing-2 : tie.Need-enum-known-closing-2
-enum-known-closing-2 c = search needs
-
-is-point-requires-2 : tie.Need-is-point-requires-2
-is-point-requires-2 c κs = search needs
-
 returns : tie.Need-returns
 returns c = three-opt-p _ (c .before .before .before .closing2 .given .1) (sym (c .before .is-point2 .ensures) ∙ not-true _ (c .if1 .taken))
-
-is-point-requires-3 : tie.Need-is-point-requires-3
-is-point-requires-3 c κs = search needs
 
 returns-2 : tie.Need-returns-2
 returns-2 c = let p = c .before .before in three-opt-q _ (p .before .before .before .closing2 .given .1) (sym (p .before .is-point2 .ensures) ∙ not-false _ (p .if1 .left)) (sym (c .before .is-point3 .ensures) ∙ not-true _ (c .if2 .taken))
 
-is-point-requires-4 : tie.Need-is-point-requires-4
-is-point-requires-4 c κs = search needs
-
 returns-3 : tie.Need-returns-3
 returns-3 c = let q = c .before .before in let p = q .before .before in three-opt-r _ (p .before .before .before .closing2 .given .1) (sym (p .before .is-point2 .ensures) ∙ not-false _ (p .if1 .left)) (sym (q .before .is-point3 .ensures) ∙ not-false _ (q .if2 .left)) (sym (c .before .is-point4 .ensures) ∙ not-true _ (c .if3 .taken))
 
-is-point-requires-5 : tie.Need-is-point-requires-5
-is-point-requires-5 c κs = search needs
-
-enum-known-closing-3 : tie.Need-enum-known-closing-3
-enum-known-closing-3 c = search needs
-
-is-point-requires-6 : tie.Need-is-point-requires-6
-is-point-requires-6 c κs = search needs
-
 returns-4 : tie.Need-returns-4
 returns-4 c = order-u _ (c .before .before .before .closing3 .given .1) (sym (c .before .is-point6 .ensures) ∙ not-true _ (c .if4 .taken))
-
-is-point-requires-7 : tie.Need-is-point-requires-7
-is-point-requires-7 c κs = search needs
 
 returns-5 : tie.Need-returns-5
 returns-5 c = c .is-point .ensures ∙ split-fits _ (c .before .before .closing .given .1)
@@ -60,21 +30,6 @@ returns-7 c = let u = c .before in c .is-point7 .ensures ∙ order-v _ (u .befor
 pub closing-fits-spec : {M : Type 1} → statement M
 closing-fits-spec =
     tie.close
-    (tie.spec
-    enum-known-closing
-    is-point-requires
-    enum-known-closing-2
-    is-point-requires-2
-    returns
-    is-point-requires-3
-    returns-2
-    is-point-requires-4
-    returns-3
-    is-point-requires-5
-    enum-known-closing-3
-    is-point-requires-6
-    returns-4
-    is-point-requires-7
-    returns-5
-    returns-6
-    returns-7)
+    (tie.spec (λ c. search needs) (λ c κs. search needs) (λ c. search needs) (λ c κs. search needs) returns
+    (λ c κs. search needs) returns-2 (λ c κs. search needs) returns-3 (λ c κs. search needs) (λ c. search needs)
+    (λ c κs. search needs) returns-4 (λ c κs. search needs) returns-5 returns-6 returns-7)

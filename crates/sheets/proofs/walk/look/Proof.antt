@@ -8,12 +8,6 @@ use borrow.Author.Needs.{needs}
 use Rattle.sheets.proofs.walk.look.Statement.{statement}
 use Rattle.sheets.proofs.walk.look.Tie as tie
 
-enum-told : tie.Need-enum-told
-enum-told c = search needs
-
-enum-told-2 : tie.Need-enum-told-2
-enum-told-2 c = search needs
-
 returns : tie.Need-returns
 returns c = sym (looks-end _ _ _ (c .before .before .if1 .taken, none-left _ (none-at-end (c .enum-told .given .1))))
 
@@ -25,24 +19,6 @@ returns-3 c = sym (refuse-above _ _ _ (above-all (c .before .before .before .pre
 
 returns-4 : tie.Need-returns-4
 returns-4 c = sym (refuse-low _ _ _ (c .before .before .if1 .left) (not-above (c .before .before .before .before .pre) (c .before .if2 .left)) (omega (arith, c .if3 .taken)))
-
-record-requires : tie.Need-record-requires
-record-requires c κs = search needs
-
-enum-known-case : tie.Need-enum-known-case
-enum-known-case c = search needs
-
-look-at-case-requires : tie.Need-look-at-case-requires
-look-at-case-requires c κs = search needs
-
-enum-told-3 : tie.Need-enum-told-3
-enum-told-3 c = search needs
-
-enum-told-4 : tie.Need-enum-told-4
-enum-told-4 c = search needs
-
-enum-told-5 : tie.Need-enum-told-5
-enum-told-5 c = search needs
 
 returns-5 : tie.Need-returns-5
 returns-5 c = let i = c .before .before .before .before .before in look-case _ _ _ (entered (i .before .before .before .before .pre) (i .before .if2 .left) (i .if3 .left)) (c .before .before .before .before .«record» .ensures) (c .before .before .case .given .1) (c .look-at-case .ensures)
@@ -59,20 +35,6 @@ returns-8 c = let i = c .before .before .before in look-other _ _ _ (entered (i 
 pub look-spec : {M : Type 1} → statement M
 look-spec =
     tie.close
-    (tie.spec
-    enum-told
-    enum-told-2
-    returns
-    returns-2
-    returns-3
-    returns-4
-    record-requires
-    enum-known-case
-    look-at-case-requires
-    enum-told-3
-    enum-told-4
-    enum-told-5
-    returns-5
-    returns-6
-    returns-7
-    returns-8)
+    (tie.spec (λ c. search needs) (λ c. search needs) returns returns-2 returns-3 returns-4 (λ c κs. search needs)
+    (λ c. search needs) (λ c κs. search needs) (λ c. search needs) (λ c. search needs) (λ c. search needs) returns-5
+    returns-6 returns-7 returns-8)

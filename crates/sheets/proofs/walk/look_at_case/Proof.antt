@@ -6,17 +6,8 @@ use borrow.Author.Needs.{needs}
 use Rattle.sheets.proofs.walk.look_at_case.Statement.{statement}
 use Rattle.sheets.proofs.walk.look_at_case.Tie as tie
 
-points-fit-requires : tie.Need-points-fit-requires
-points-fit-requires c κs = search needs
-
 returns : tie.Need-returns
 returns c = read-misfit _ _ _ _ _ _ (sym (c .before .points-fit .ensures) ∙ not-true _ (c .if1 .taken))
-
-enum-known-next : tie.Need-enum-known-next
-enum-known-next c = search needs
-
-enum-told : tie.Need-enum-told
-enum-told c = search needs
 
 returns-2 : tie.Need-returns-2
 returns-2 c = let f = c .before .before in read-other _ _ _ _ _ _ (sym (f .before .points-fit .ensures) ∙ not-false _ (f .if1 .left)) (no-pair _ _ (c .enum-told .given .1))
@@ -33,12 +24,5 @@ returns-5 c = let x = c .before .before .before .before .before in let f = x .be
 pub look-at-case-spec : {M : Type 1} → statement M
 look-at-case-spec =
     tie.close
-    (tie.spec
-    points-fit-requires
-    returns
-    enum-known-next
-    enum-told
-    returns-2
-    returns-3
-    returns-4
+    (tie.spec (λ c κs. search needs) returns (λ c. search needs) (λ c. search needs) returns-2 returns-3 returns-4
     returns-5)

@@ -6,14 +6,8 @@ use borrow.Author.Needs.{needs}
 use Rattle.sheets.proofs.walk.points_fit.Statement.{statement}
 use Rattle.sheets.proofs.walk.points_fit.Tie as tie
 
-is-point-requires : tie.Need-is-point-requires
-is-point-requires c κs = search needs
-
 returns : tie.Need-returns
 returns c = fits-not-a _ _ _ _ (sym (c .before .is-point .ensures) ∙ not-true _ (c .if1 .taken))
-
-is-point-requires-2 : tie.Need-is-point-requires-2
-is-point-requires-2 c κs = search needs
 
 returns-2 : tie.Need-returns-2
 returns-2 c = let a = c .before .before in fits-not-b _ _ _ _ (sym (a .before .is-point .ensures) ∙ not-false _ (a .if1 .left)) (sym (c .before .is-point2 .ensures) ∙ not-true _ (c .if2 .taken))
@@ -21,20 +15,11 @@ returns-2 c = let a = c .before .before in fits-not-b _ _ _ _ (sym (a .before .i
 returns-3 : tie.Need-returns-3
 returns-3 c = let b = c .before in let a = b .before .before in fits-not-apart _ _ _ _ (sym (a .before .is-point .ensures) ∙ not-false _ (a .if1 .left)) (sym (b .before .is-point2 .ensures) ∙ not-false _ (b .if2 .left)) (c .if3 .taken)
 
-closing-fits-requires : tie.Need-closing-fits-requires
-closing-fits-requires c κs = search needs
-
 returns-4 : tie.Need-returns-4
 returns-4 c = let b = c .before .before in let a = b .before .before in c .closing-fits .ensures ∙ fits-how _ _ _ _ (sym (a .before .is-point .ensures) ∙ not-false _ (a .if1 .left)) (sym (b .before .is-point2 .ensures) ∙ not-false _ (b .if2 .left)) (c .before .if3 .left)
 
 pub points-fit-spec : {M : Type 1} → statement M
 points-fit-spec =
     tie.close
-    (tie.spec
-    is-point-requires
-    returns
-    is-point-requires-2
-    returns-2
-    returns-3
-    closing-fits-requires
+    (tie.spec (λ c κs. search needs) returns (λ c κs. search needs) returns-2 returns-3 (λ c κs. search needs)
     returns-4)

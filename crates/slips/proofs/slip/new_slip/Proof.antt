@@ -4,12 +4,6 @@ use borrow.Author.Needs.{needs}
 use Rattle.slips.proofs.slip.new_slip.Statement.{statement}
 use Rattle.slips.proofs.slip.new_slip.Tie as tie
 
-enum-known-verdict : tie.Need-enum-known-verdict
-enum-known-verdict c = search needs
-
-enum-known-verdict-2 : tie.Need-enum-known-verdict-2
-enum-known-verdict-2 c = search needs
-
 returns : tie.Need-returns
 returns c = accepted-slip (c .before .verdict .given .1)
 
@@ -17,4 +11,4 @@ returns-2 : tie.Need-returns-2
 returns-2 c = refused-slip (c .before .verdict2 .given .1)
 
 pub new-slip-spec : {M : Type 1} → statement M
-new-slip-spec = tie.close (tie.spec enum-known-verdict enum-known-verdict-2 returns returns-2)
+new-slip-spec = tie.close (tie.spec (λ c. search needs) (λ c. search needs) returns returns-2)

@@ -4,18 +4,9 @@ use borrow.Author.Needs.{needs}
 use Rattle.slips.proofs.view.candidate_view.Statement.{statement}
 use Rattle.slips.proofs.view.candidate_view.Tie as tie
 
-shown-requires : tie.Need-shown-requires
-shown-requires c κs = search needs
-
-examiner-view-requires : tie.Need-examiner-view-requires
-examiner-view-requires c κs = search needs
-
-same-length : tie.Need-same-length
-same-length c = search needs
-
 returns : tie.Need-returns
 returns c = view-shown _ (c .before .before .before .before .shown .ensures) (c .before .before .examiner-view .ensures)
 
 pub candidate-view-spec : {M : Type 1} → statement M
 candidate-view-spec =
-    tie.close (tie.spec shown-requires examiner-view-requires same-length returns)
+    tie.close (tie.spec (λ c κs. search needs) (λ c κs. search needs) (λ c. search needs) returns)

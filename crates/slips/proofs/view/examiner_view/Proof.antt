@@ -7,18 +7,6 @@ use Rattle.slips.proofs.view.examiner_view.Tie as tie
 returns : tie.Need-returns
 returns c = view-refused (c .if1 .taken)
 
-first-two-requires : tie.Need-first-two-requires
-first-two-requires c κs = search needs
-
-slice-aggregate-encode16 : tie.Need-slice-aggregate-encode16
-slice-aggregate-encode16 c = search needs
-
-encode16-requires : tie.Need-encode16-requires
-encode16-requires c κs = search needs
-
-same-length : tie.Need-same-length
-same-length c = search needs
-
 returns-2 : tie.Need-returns-2
 returns-2 c =
     let w = c .before .before in
@@ -27,10 +15,4 @@ returns-2 c =
 pub examiner-view-spec : {M : Type 1} → statement M
 examiner-view-spec =
     tie.close
-    (tie.spec
-    returns
-    first-two-requires
-    slice-aggregate-encode16
-    encode16-requires
-    same-length
-    returns-2)
+    (tie.spec returns (λ c κs. search needs) (λ c. search needs) (λ c κs. search needs) (λ c. search needs) returns-2)

@@ -5,9 +5,6 @@ use borrow.Author.Needs.{needs}
 use Rattle.slips.proofs.view.first_two.Statement.{statement}
 use Rattle.slips.proofs.view.first_two.Tie as tie
 
-add-result : tie.Need-add-result
-add-result c = search needs
-
 returns : tie.Need-returns
 returns c = two-released _ _ (omega arith) (c .if1 .taken)
 
@@ -15,4 +12,4 @@ returns-2 : tie.Need-returns-2
 returns-2 c = two-unreleased _ _ (omega arith) (c .if1 .left)
 
 pub first-two-spec : {M : Type 1} → statement M
-first-two-spec = tie.close (tie.spec add-result returns returns-2)
+first-two-spec = tie.close (tie.spec (λ c. search needs) returns returns-2)

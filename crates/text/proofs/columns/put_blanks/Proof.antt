@@ -21,12 +21,6 @@ add-out c = omega (arith, blank-inside (c .before .before .pre) (c .before .loop
 slice-write-out : tie.Need-slice-write-out Inv-loop μ-loop
 slice-write-out c = blank-inside (c .before .before .pre) (c .before .loop .inv) (c .loop-test .taken)
 
-add-i : tie.Need-add-i Inv-loop μ-loop
-add-i c = search needs
-
-loop-less : tie.Need-loop-less Inv-loop μ-loop
-loop-less c = search needs
-
 loop-again : tie.Need-loop-again Inv-loop μ-loop
 loop-again c = blank-more (c .before .before .pre) (c .before .loop .inv) (c .loop-test .taken)
 
@@ -42,15 +36,5 @@ returns c = blank-done (c .before .before .pre) (c .before .loop .inv) (c .loop-
 pub put-blanks-spec : {M : Type 1} → statement M
 put-blanks-spec =
     tie.close
-    (tie.spec
-    Inv-loop
-    μ-loop
-    loop-holds
-    add-out
-    slice-write-out
-    add-i
-    loop-less
-    loop-again
-    add-result
-    same-length
-    returns)
+    (tie.spec Inv-loop μ-loop loop-holds add-out slice-write-out (λ c. search needs) (λ c. search needs) loop-again
+    add-result same-length returns)

@@ -4,12 +4,6 @@ use borrow.Author.Needs.{needs}
 use Rattle.text.proofs.columns.put_padded.Statement.{statement}
 use Rattle.text.proofs.columns.put_padded.Tie as tie
 
-digit-count-requires : tie.Need-digit-count-requires
-digit-count-requires c κs = search needs
-
-sub-put-blanks : tie.Need-sub-put-blanks
-sub-put-blanks c = search needs
-
 put-blanks-requires : tie.Need-put-blanks-requires
 put-blanks-requires c κs = blanks-first (c .before .before .before .pre) (c .before .digit-count .ensures)
 
@@ -18,9 +12,6 @@ put-number-requires c κs =
     let b = c .before .before .before in
     let d = b .before .before in
     digits-second (d .before .before .pre) (d .digit-count .ensures) (b .put-blanks .ensures)
-
-same-length : tie.Need-same-length
-same-length c = search needs
 
 returns : tie.Need-returns
 returns c =
@@ -32,10 +23,5 @@ returns c =
 pub put-padded-spec : {M : Type 1} → statement M
 put-padded-spec =
     tie.close
-    (tie.spec
-    digit-count-requires
-    sub-put-blanks
-    put-blanks-requires
-    put-number-requires
-    same-length
+    (tie.spec (λ c κs. search needs) (λ c. search needs) put-blanks-requires put-number-requires (λ c. search needs)
     returns)

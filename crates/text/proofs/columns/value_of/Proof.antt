@@ -19,22 +19,10 @@ loop-holds c = value-start _
 mul-value : tie.Need-mul-value Inv-loop μ-loop
 mul-value c = omega (arith, value-few (c .before .loop .inv) (c .before .before .before .pre) (c .loop-test .taken))
 
-shared-slice-read-digit-value : tie.Need-shared-slice-read-digit-value Inv-loop μ-loop
-shared-slice-read-digit-value c = search needs
-
-digit-value-requires : tie.Need-digit-value-requires Inv-loop μ-loop
-digit-value-requires c κs = search needs
-
 add-value : tie.Need-add-value Inv-loop μ-loop
 add-value c =
     let l = c .before .before .before in
     omega (arith, value-few (l .loop .inv) (l .before .before .pre) (c .before .before .loop-test .taken), c .digit-value .ensures .small)
-
-add-i : tie.Need-add-i Inv-loop μ-loop
-add-i c = search needs
-
-loop-less : tie.Need-loop-less Inv-loop μ-loop
-loop-less c = search needs
 
 loop-again : tie.Need-loop-again Inv-loop μ-loop
 loop-again c = value-on (c .before .before .before .loop .inv) (c .before .before .loop-test .taken) (c .digit-value .ensures)
@@ -45,15 +33,5 @@ returns c = value-done (c .before .loop .inv) (c .loop-test .left)
 pub value-of-spec : {M : Type 1} → statement M
 value-of-spec =
     tie.close
-    (tie.spec
-    Inv-loop
-    μ-loop
-    loop-holds
-    mul-value
-    shared-slice-read-digit-value
-    digit-value-requires
-    add-value
-    add-i
-    loop-less
-    loop-again
-    returns)
+    (tie.spec Inv-loop μ-loop loop-holds mul-value (λ c. search needs) (λ c κs. search needs) add-value
+    (λ c. search needs) (λ c. search needs) loop-again returns)

@@ -13,12 +13,9 @@ put-number-requires : tie.Need-put-number-requires
 unfolding fieldText
 put-number-requires c κs = room-second (c .before .before .before .before .before .before .before .pre) (c .before .before .before .put-word .ensures)
 
-same-length : tie.Need-same-length
-same-length c = search needs
-
 returns : tie.Need-returns
 unfolding fieldText
 returns c = wrote-both (c .before .before .before .before .before .before .put-word .ensures) (c .before .before .put-number .ensures)
 
 pub put-field-spec : {M : Type 1} → statement M
-put-field-spec = tie.close (tie.spec put-word-requires put-number-requires same-length returns)
+put-field-spec = tie.close (tie.spec put-word-requires put-number-requires (λ c. search needs) returns)

@@ -21,20 +21,11 @@ returns c = same-not _ _ (λ e. c .if1 .taken (ap length e))
 loop-holds : tie.Need-loop-holds Inv-loop μ-loop
 loop-holds c = record { sizes = search needs; inside = omega arith; each = λ k h. absurd (omega arith) }
 
-shared-slice-read-if2 : tie.Need-shared-slice-read-if2 Inv-loop μ-loop
-shared-slice-read-if2 c = search needs
-
 shared-slice-read-if2-2 : tie.Need-shared-slice-read-if2-2 Inv-loop μ-loop
 shared-slice-read-if2-2 c = omega (arith, c .before .before .before .loop .inv .sizes, c .before .before .loop-test .taken)
 
 returns-2 : tie.Need-returns-2 Inv-loop μ-loop
 returns-2 c = one-apart _ _ (c .before .before .before .before .loop .i) (λ e. omega (arith, c .if2 .taken, e))
-
-add-i : tie.Need-add-i Inv-loop μ-loop
-add-i c = search needs
-
-loop-less : tie.Need-loop-less Inv-loop μ-loop
-loop-less c = search needs
 
 loop-again : tie.Need-loop-again Inv-loop μ-loop
 loop-again c =
@@ -47,15 +38,5 @@ returns-3 c = all-same (c .before .loop .inv) (c .loop-test .left)
 pub same-spec : {M : Type 1} → statement M
 same-spec =
     tie.close
-    (tie.spec
-    Inv-loop
-    μ-loop
-    returns
-    loop-holds
-    shared-slice-read-if2
-    shared-slice-read-if2-2
-    returns-2
-    add-i
-    loop-less
-    loop-again
-    returns-3)
+    (tie.spec Inv-loop μ-loop returns loop-holds (λ c. search needs) shared-slice-read-if2-2 returns-2
+    (λ c. search needs) (λ c. search needs) loop-again returns-3)

@@ -54,19 +54,5 @@ returns-2 c = gathering-ends (c .before .loop .inv) (c .loop-test .left)
 pub gather-spec : {M : Type 1} → statement M
 gather-spec =
     tie.close
-    (tie.spec
-    Inv-loop
-    μ-loop
-    loop-holds
-    find-requires
-    same-length
-    returns
-    sub-write-line
-    part-write-line-start
-    part-write-line-end
-    write-line-requires
-    add-from
-    loop-less
-    loop-again
-    same-length-2
-    returns-2)
+    (tie.spec Inv-loop μ-loop loop-holds find-requires same-length returns sub-write-line part-write-line-start
+    part-write-line-end write-line-requires add-from loop-less loop-again same-length-2 returns-2)

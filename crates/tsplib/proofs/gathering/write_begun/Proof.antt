@@ -6,20 +6,11 @@ use borrow.Author.Needs.{needs}
 use Rattle.tsplib.proofs.gathering.write_begun.Statement.{statement}
 use Rattle.tsplib.proofs.gathering.write_begun.Tie as tie
 
-enum-told : tie.Need-enum-told
-enum-told c = search needs
-
-enum-known-place : tie.Need-enum-known-place
-enum-known-place c = search needs
-
 write-number-requires : tie.Need-write-number-requires
 write-number-requires c κs = room-same (c .before .before .before .before .before .args .spot .skip) (ap begun (c .before .before .place .given .1)) (c .before .before .before .before .before .pre)
 
 returns : tie.Need-returns
 returns c = none-in _ _ (ap begun (c .enum-told .given .1))
-
-same-length : tie.Need-same-length
-same-length c = search needs
 
 returns-2 : tie.Need-returns-2
 returns-2 c = same-in (ap begun (c .before .before .before .before .before .place .given .1)) (c .before .before .write-number .ensures)
@@ -27,4 +18,4 @@ returns-2 c = same-in (ap begun (c .before .before .before .before .before .plac
 pub write-begun-spec : {M : Type 1} → statement M
 write-begun-spec =
     tie.close
-    (tie.spec enum-told enum-known-place write-number-requires returns same-length returns-2)
+    (tie.spec (λ c. search needs) (λ c. search needs) write-number-requires returns (λ c. search needs) returns-2)

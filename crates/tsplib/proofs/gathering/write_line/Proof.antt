@@ -7,20 +7,8 @@ use borrow.Author.Needs.{needs}
 use Rattle.tsplib.proofs.gathering.write_line.Statement.{statement}
 use Rattle.tsplib.proofs.gathering.write_line.Tie as tie
 
-numbers-of-requires : tie.Need-numbers-of-requires
-numbers-of-requires c κs = search needs
-
-enum-told : tie.Need-enum-told
-enum-told c = search needs
-
 write-numbers-requires : tie.Need-write-numbers-requires
 write-numbers-requires c κs = room-same (c .before .before .before .before .before .before .args .skip) (sym (line-numbers-some (now (c .before .before .before .before .before .before .args .line)) (sym (c .before .before .before .numbers-of .ensures) ∙ c .before .enum-told .given .1))) (c .before .before .before .before .before .before .pre)
-
-enum-told-2 : tie.Need-enum-told-2
-enum-told-2 c = search needs
-
-same-length : tie.Need-same-length
-same-length c = search needs
 
 returns : tie.Need-returns
 returns c = wrote-same (c .before .before .before .before .before .before .before .before .before .args .skip) (line-numbers-some (now (c .before .before .before .before .before .before .before .before .before .args .line)) (sym (c .before .before .before .before .before .before .numbers-of .ensures) ∙ c .before .before .before .before .enum-told .given .1)) (c .before .before .write-numbers .ensures)
@@ -31,11 +19,5 @@ returns-2 c = wrote-nothing-of _ _ (c .before .before .before .before .before .a
 pub write-line-spec : {M : Type 1} → statement M
 write-line-spec =
     tie.close
-    (tie.spec
-    numbers-of-requires
-    enum-told
-    write-numbers-requires
-    enum-told-2
-    same-length
-    returns
-    returns-2)
+    (tie.spec (λ c κs. search needs) (λ c. search needs) write-numbers-requires (λ c. search needs) (λ c. search needs)
+    returns returns-2)

@@ -4,23 +4,14 @@ use borrow.Author.Needs.{needs}
 use Rattle.tsplib.proofs.gathering.write_number.Statement.{statement}
 use Rattle.tsplib.proofs.gathering.write_number.Tie as tie
 
-sub-t5 : tie.Need-sub-t5
-sub-t5 c = search needs
-
 returns : tie.Need-returns
 returns c = left-out _ _ _ (c .before .if1 .taken)
 
 put32-requires : tie.Need-put32-requires
 put32-requires c κs = entry-room _ _ _ (c .before .if1 .left) (c .before .before .before .before .pre)
 
-add-t9 : tie.Need-add-t9
-add-t9 c = search needs
-
-same-length : tie.Need-same-length
-same-length c = search needs
-
 returns-2 : tie.Need-returns-2
 returns-2 c = put-in _ _ _ (c .before .before .before .before .before .if1 .left) (c .before .before .before .before .before .before .before .before .pre) (c .before .before .before .put32 .ensures)
 
 pub write-number-spec : {M : Type 1} → statement M
-write-number-spec = tie.close (tie.spec sub-t5 returns put32-requires add-t9 same-length returns-2)
+write-number-spec = tie.close (tie.spec (λ c. search needs) returns put32-requires (λ c. search needs) (λ c. search needs) returns-2)

@@ -37,29 +37,11 @@ part-read-line-start c = omega (arith, c .before .find .ensures .low, c .before 
 part-read-line-end : tie.Need-part-read-line-end Inv-loop μ-loop
 part-read-line-end c = omega (arith, c .before .find .ensures .low, c .before .find .ensures .high)
 
-read-line-requires : tie.Need-read-line-requires Inv-loop μ-loop
-read-line-requires c κs = search needs
-
-step-requires : tie.Need-step-requires Inv-loop μ-loop
-step-requires c κs = search needs
-
-enum-known-next : tie.Need-enum-known-next Inv-loop μ-loop
-enum-known-next c = search needs
-
-enum-told : tie.Need-enum-told Inv-loop μ-loop
-enum-told c = search needs
-
 add-t18 : tie.Need-add-t18 Inv-loop μ-loop
 add-t18 c = omega (arith, c .before .before .before .before .before .before .before .before .loop .inv .few, c .before .before .before .before .before .before .before .before .loop .inv .inside)
 
 returns-2 : tie.Need-returns-2 Inv-loop μ-loop
 returns-2 c = judging-fault (c .before .before .before .before .before .before .before .before .loop .inv) (c .before .before .before .before .before .before .find .ensures) (c .before .before .before .before .before .if1 .left) (ap (stepOf _) (sym (c .before .before .before .read-line .ensures)) ∙ sym (c .before .before .step .ensures) ∙ c .enum-told .given .1)
-
-most-of-requires : tie.Need-most-of-requires Inv-loop μ-loop
-most-of-requires c κs = search needs
-
-larger-requires : tie.Need-larger-requires Inv-loop μ-loop
-larger-requires c κs = search needs
 
 add-at : tie.Need-add-at Inv-loop μ-loop
 add-at c = omega (arith, c .before .before .before .before .before .before .before .before .before .find .ensures .high)
@@ -82,27 +64,7 @@ returns-3 c = judging-ends (c .before .before .loop .inv) (c .before .loop-test 
 pub judge-spec : {M : Type 1} → statement M
 judge-spec =
     tie.close
-    (tie.spec
-    Inv-loop
-    μ-loop
-    loop-holds
-    find-requires
-    add-t13
-    returns
-    sub-read-line
-    part-read-line-start
-    part-read-line-end
-    read-line-requires
-    step-requires
-    enum-known-next
-    enum-told
-    add-t18
-    returns-2
-    most-of-requires
-    larger-requires
-    add-at
-    add-passed
-    loop-less
-    loop-again
-    judge-end-requires
+    (tie.spec Inv-loop μ-loop loop-holds find-requires add-t13 returns sub-read-line part-read-line-start
+    part-read-line-end (λ c κs. search needs) (λ c κs. search needs) (λ c. search needs) (λ c. search needs) add-t18
+    returns-2 (λ c κs. search needs) (λ c κs. search needs) add-at add-passed loop-less loop-again judge-end-requires
     returns-3)

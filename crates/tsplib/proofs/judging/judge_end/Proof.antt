@@ -8,27 +8,6 @@ use borrow.Author.Needs.{needs}
 use Rattle.tsplib.proofs.judging.judge_end.Statement.{statement}
 use Rattle.tsplib.proofs.judging.judge_end.Tie as tie
 
-enum-told : tie.Need-enum-told
-enum-told c = search needs
-
-add-t7 : tie.Need-add-t7
-add-t7 c = search needs
-
-enum-told-2 : tie.Need-enum-told-2
-enum-told-2 c = search needs
-
-add-t8 : tie.Need-add-t8
-add-t8 c = search needs
-
-enum-told-3 : tie.Need-enum-told-3
-enum-told-3 c = search needs
-
-add-t9 : tie.Need-add-t9
-add-t9 c = search needs
-
-enum-known-state : tie.Need-enum-known-state
-enum-known-state c = search needs
-
 returns : tie.Need-returns
 unfolding judgedEnd
 returns c = at (λ (s : State). judgedEnd s (c .before .before .args .passed) (c .before .before .args .most) []) (c .enum-told .given .1) refl
@@ -48,15 +27,5 @@ returns-4 c = at (λ (s : State). judgedEnd s (c .before .before .before .args .
 pub judge-end-spec : {M : Type 1} → statement M
 judge-end-spec =
     tie.close
-    (tie.spec
-    enum-told
-    add-t7
-    enum-told-2
-    add-t8
-    enum-told-3
-    add-t9
-    enum-known-state
-    returns
-    returns-2
-    returns-3
-    returns-4)
+    (tie.spec (λ c. search needs) (λ c. search needs) (λ c. search needs) (λ c. search needs) (λ c. search needs)
+    (λ c. search needs) (λ c. search needs) returns returns-2 returns-3 returns-4)

@@ -5,18 +5,6 @@ use borrow.Author.Needs.{needs}
 use Rattle.tsplib.proofs.judging.most_of.Statement.{statement}
 use Rattle.tsplib.proofs.judging.most_of.Tie as tie
 
-body-line-requires : tie.Need-body-line-requires
-body-line-requires c κs = search needs
-
-enum-known-tally : tie.Need-enum-known-tally
-enum-known-tally c = search needs
-
-enum-told : tie.Need-enum-told
-enum-told c = search needs
-
-enum-told-2 : tie.Need-enum-told-2
-enum-told-2 c = search needs
-
 returns : tie.Need-returns
 unfolding mostOf
 returns c = sym (ap mostIn (sym (c .before .before .before .body-line .ensures) ∙ c .before .tally .given .1))
@@ -32,11 +20,5 @@ returns-3 c = sym (ap mostIn (sym (c .before .before .body-line .ensures) ∙ c 
 pub most-of-spec : {M : Type 1} → statement M
 most-of-spec =
     tie.close
-    (tie.spec
-    body-line-requires
-    enum-known-tally
-    enum-told
-    enum-told-2
-    returns
-    returns-2
+    (tie.spec (λ c κs. search needs) (λ c. search needs) (λ c. search needs) (λ c. search needs) returns returns-2
     returns-3)

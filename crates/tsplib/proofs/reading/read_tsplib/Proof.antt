@@ -7,23 +7,8 @@ use borrow.Author.Needs.{needs}
 use Rattle.tsplib.proofs.reading.read_tsplib.Statement.{statement}
 use Rattle.tsplib.proofs.reading.read_tsplib.Tie as tie
 
-judge-requires : tie.Need-judge-requires
-judge-requires c κs = search needs
-
-enum-known-line : tie.Need-enum-known-line
-enum-known-line c = search needs
-
-enum-known-n : tie.Need-enum-known-n
-enum-known-n c = search needs
-
-enum-known-weighing : tie.Need-enum-known-weighing
-enum-known-weighing c = search needs
-
 read-coordinates-requires : tie.Need-read-coordinates-requires
 read-coordinates-requires c κs = coordinates-asked (sym (c .before .before .before .before .before .before .before .judge .ensures) ∙ c .before .before .before .before .before .n .given .1 ∙ ap (λ (x : Weighing). verdict.Instance (c .before .before .before .before .before .n .given .0 .0) x (c .before .before .before .before .before .n .given .0 .1 .1 .0)) (c .before .before .weighing .given .1))
-
-enum-told : tie.Need-enum-told
-enum-told c = search needs
 
 read-weights-requires : tie.Need-read-weights-requires
 read-weights-requires c κs = weights-asked (sym (c .before .before .before .before .before .before .judge .ensures) ∙ c .before .before .before .before .n .given .1 ∙ ap (λ (x : Weighing). verdict.Instance (c .before .before .before .before .n .given .0 .0) x (c .before .before .before .before .n .given .0 .1 .1 .0)) (c .before .enum-told .given .1))
@@ -31,14 +16,8 @@ read-weights-requires c κs = weights-asked (sym (c .before .before .before .bef
 returns : tie.Need-returns
 returns c = read-fault _ (sym (c .before .before .before .judge .ensures) ∙ c .before .line .given .1)
 
-same-length : tie.Need-same-length
-same-length c = search needs
-
 returns-2 : tie.Need-returns-2
 returns-2 c = read-coordinates-as _ (sym (c .before .before .before .before .before .before .before .before .before .before .judge .ensures) ∙ c .before .before .before .before .before .before .before .before .n .given .1 ∙ ap (λ (x : Weighing). verdict.Instance (c .before .before .before .before .before .before .before .before .n .given .0 .0) x (c .before .before .before .before .before .before .before .before .n .given .0 .1 .1 .0)) (c .before .before .before .before .before .weighing .given .1)) (c .before .before .read-coordinates .ensures)
-
-same-length-2 : tie.Need-same-length-2
-same-length-2 c = search needs
 
 returns-3 : tie.Need-returns-3
 returns-3 c = read-weights-as _ (sym (c .before .before .before .before .before .before .before .before .before .judge .ensures) ∙ c .before .before .before .before .before .before .before .n .given .1 ∙ ap (λ (x : Weighing). verdict.Instance (c .before .before .before .before .before .before .before .n .given .0 .0) x (c .before .before .before .before .before .before .before .n .given .0 .1 .1 .0)) (c .before .before .before .before .enum-told .given .1)) (c .before .before .read-weights .ensures)
@@ -46,16 +25,6 @@ returns-3 c = read-weights-as _ (sym (c .before .before .before .before .before 
 pub read-tsplib-spec : {M : Type 1} → statement M
 read-tsplib-spec =
     tie.close
-    (tie.spec
-    judge-requires
-    enum-known-line
-    enum-known-n
-    enum-known-weighing
-    read-coordinates-requires
-    enum-told
-    read-weights-requires
-    returns
-    same-length
-    returns-2
-    same-length-2
-    returns-3)
+    (tie.spec (λ c κs. search needs) (λ c. search needs) (λ c. search needs) (λ c. search needs)
+    read-coordinates-requires (λ c. search needs) read-weights-requires returns (λ c. search needs) returns-2
+    (λ c. search needs) returns-3)

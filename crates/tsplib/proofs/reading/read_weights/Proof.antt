@@ -6,32 +6,11 @@ use borrow.Author.Needs.{needs}
 use Rattle.tsplib.proofs.reading.read_weights.Statement.{statement}
 use Rattle.tsplib.proofs.reading.read_weights.Tie as tie
 
-admit-requires : tie.Need-admit-requires
-admit-requires c κs = search needs
-
-enum-known-instance : tie.Need-enum-known-instance
-enum-known-instance c = search needs
-
-enum-told : tie.Need-enum-told
-enum-told c = search needs
-
 returns : tie.Need-returns
 returns c = weights-points _ (c .before .before .before .before .before .pre) (sym (c .before .before .admit .ensures) ∙ c .enum-told .given .1)
 
-count32-requires : tie.Need-count32-requires
-count32-requires c κs = search needs
-
-count-requires : tie.Need-count-requires
-count-requires c κs = search needs
-
-same-length : tie.Need-same-length
-same-length c = search needs
-
 returns-2 : tie.Need-returns-2
 returns-2 c = weights-size _ (c .before .before .before .before .before .before .before .before .before .before .pre) (admitted (sym (c .before .before .before .before .before .before .before .admit .ensures) ∙ c .before .before .before .before .before .instance .given .1)) (λ e. c .if1 .taken (c .before .before .count32 .ensures ∙ e ∙ sym (c .before .count .ensures)))
-
-same-length-2 : tie.Need-same-length-2
-same-length-2 c = search needs
 
 returns-3 : tie.Need-returns-3
 returns-3 c = weights-limit _ (c .before .before .before .before .before .before .before .before .before .before .before .pre) (admitted (sym (c .before .before .before .before .before .before .before .before .admit .ensures) ∙ c .before .before .before .before .before .before .instance .given .1)) (sym (c .before .before .before .count32 .ensures) ∙ c .before .if1 .left ∙ c .before .before .count .ensures) (c .if2 .taken)
@@ -39,26 +18,12 @@ returns-3 c = weights-limit _ (c .before .before .before .before .before .before
 gather-requires : tie.Need-gather-requires
 gather-requires c κs = weights-room _ (c .before .before .before .before .before .before .before .before .before .before .before .before .pre) (admitted (sym (c .before .before .before .before .before .before .before .before .before .admit .ensures) ∙ c .before .before .before .before .before .before .before .instance .given .1)) (sym (c .before .before .before .before .count32 .ensures) ∙ c .before .before .if1 .left ∙ c .before .before .before .count .ensures)
 
-same-length-3 : tie.Need-same-length-3
-same-length-3 c = search needs
-
 returns-4 : tie.Need-returns-4
 returns-4 c = weights-done _ (c .before .before .before .before .before .before .before .before .before .before .before .before .before .before .before .pre) (admitted (sym (c .before .before .before .before .before .before .before .before .before .before .before .before .admit .ensures) ∙ c .before .before .before .before .before .before .before .before .before .before .instance .given .1)) (sym (c .before .before .before .before .before .before .before .count32 .ensures) ∙ c .before .before .before .before .before .if1 .left ∙ c .before .before .before .before .before .before .count .ensures) (c .before .before .before .before .if2 .left) (c .before .before .gather .ensures)
 
 pub read-weights-spec : {M : Type 1} → statement M
 read-weights-spec =
     tie.close
-    (tie.spec
-    admit-requires
-    enum-known-instance
-    enum-told
-    returns
-    count32-requires
-    count-requires
-    same-length
-    returns-2
-    same-length-2
-    returns-3
-    gather-requires
-    same-length-3
-    returns-4)
+    (tie.spec (λ c κs. search needs) (λ c. search needs) (λ c. search needs) returns (λ c κs. search needs)
+    (λ c κs. search needs) (λ c. search needs) returns-2 (λ c. search needs) returns-3 gather-requires
+    (λ c. search needs) returns-4)

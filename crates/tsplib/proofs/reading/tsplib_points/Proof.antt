@@ -5,15 +5,6 @@ use borrow.Author.Needs.{needs}
 use Rattle.tsplib.proofs.reading.tsplib_points.Statement.{statement}
 use Rattle.tsplib.proofs.reading.tsplib_points.Tie as tie
 
-judge-requires : tie.Need-judge-requires
-judge-requires c κs = search needs
-
-enum-known-line : tie.Need-enum-known-line
-enum-known-line c = search needs
-
-enum-known-n : tie.Need-enum-known-n
-enum-known-n c = search needs
-
 returns : tie.Need-returns
 unfolding pointsOf
 returns c = sym (ap pointsOf (sym (c .before .before .before .judge .ensures) ∙ c .before .line .given .1))
@@ -24,4 +15,4 @@ returns-2 c = sym (ap pointsOf (sym (c .before .before .before .judge .ensures) 
 
 pub tsplib-points-spec : {M : Type 1} → statement M
 tsplib-points-spec =
-    tie.close (tie.spec judge-requires enum-known-line enum-known-n returns returns-2)
+    tie.close (tie.spec (λ c κs. search needs) (λ c. search needs) (λ c. search needs) returns returns-2)

@@ -7,12 +7,6 @@ use borrow.Author.Needs.{needs}
 use Rattle.tsplib.proofs.state.on_dimension.Statement.{statement}
 use Rattle.tsplib.proofs.state.on_dimension.Tie as tie
 
-enum-told : tie.Need-enum-told
-enum-told c = search needs
-
-enum-told-2 : tie.Need-enum-told-2
-enum-told-2 c = search needs
-
 returns : tie.Need-returns
 unfolding onDimension
 returns c = at (λ (p : Points). onDimension (c .before .before .args .name) (c .before .before .args .typed) p (c .before .before .args .weigh) (c .before .before .args .n)) (c .enum-told .given .1) refl
@@ -22,4 +16,4 @@ unfolding onDimension
 returns-2 c = at (λ (p : Points). onDimension (c .before .before .args .name) (c .before .before .args .typed) p (c .before .before .args .weigh) (c .before .before .args .n)) (c .enum-told2 .given .1) refl
 
 pub on-dimension-spec : {M : Type 1} → statement M
-on-dimension-spec = tie.close (tie.spec enum-told enum-told-2 returns returns-2)
+on-dimension-spec = tie.close (tie.spec (λ c. search needs) (λ c. search needs) returns returns-2)

@@ -6,66 +6,6 @@ use borrow.Author.Needs.{needs}
 use Rattle.tsplib.proofs.state.on_header.Statement.{statement}
 use Rattle.tsplib.proofs.state.on_header.Tie as tie
 
-enum-told : tie.Need-enum-told
-enum-told c = search needs
-
-on-name-requires : tie.Need-on-name-requires
-on-name-requires c κs = search needs
-
-enum-told-2 : tie.Need-enum-told-2
-enum-told-2 c = search needs
-
-enum-told-3 : tie.Need-enum-told-3
-enum-told-3 c = search needs
-
-on-type-requires : tie.Need-on-type-requires
-on-type-requires c κs = search needs
-
-enum-known-line : tie.Need-enum-known-line
-enum-known-line c = search needs
-
-on-dimension-requires : tie.Need-on-dimension-requires
-on-dimension-requires c κs = search needs
-
-enum-known-line-2 : tie.Need-enum-known-line-2
-enum-known-line-2 c = search needs
-
-weigh-next-requires : tie.Need-weigh-next-requires
-weigh-next-requires c κs = search needs
-
-weighed-requires : tie.Need-weighed-requires
-weighed-requires c κs = search needs
-
-enum-told-4 : tie.Need-enum-told-4
-enum-told-4 c = search needs
-
-row-next-requires : tie.Need-row-next-requires
-row-next-requires c κs = search needs
-
-weighed-requires-2 : tie.Need-weighed-requires-2
-weighed-requires-2 c κs = search needs
-
-enum-told-5 : tie.Need-enum-told-5
-enum-told-5 c = search needs
-
-open-nodes-requires : tie.Need-open-nodes-requires
-open-nodes-requires c κs = search needs
-
-enum-told-6 : tie.Need-enum-told-6
-enum-told-6 c = search needs
-
-open-weights-requires : tie.Need-open-weights-requires
-open-weights-requires c κs = search needs
-
-enum-told-7 : tie.Need-enum-told-7
-enum-told-7 c = search needs
-
-enum-told-8 : tie.Need-enum-told-8
-enum-told-8 c = search needs
-
-enum-told-9 : tie.Need-enum-told-9
-enum-told-9 c = search needs
-
 returns : tie.Need-returns
 unfolding onHeader
 returns c = at (onHeader _ _ _ _) (c .before .enum-told .given .1) (c .on-name .ensures)
@@ -113,35 +53,8 @@ returns-11 c = at (onHeader _ _ _ _) (c .enum-told9 .given .1) refl
 pub on-header-spec : {M : Type 1} → statement M
 on-header-spec =
     tie.close
-    (tie.spec
-    enum-told
-    on-name-requires
-    enum-told-2
-    enum-told-3
-    on-type-requires
-    enum-known-line
-    on-dimension-requires
-    enum-known-line-2
-    weigh-next-requires
-    weighed-requires
-    enum-told-4
-    row-next-requires
-    weighed-requires-2
-    enum-told-5
-    open-nodes-requires
-    enum-told-6
-    open-weights-requires
-    enum-told-7
-    enum-told-8
-    enum-told-9
-    returns
-    returns-2
-    returns-3
-    returns-4
-    returns-5
-    returns-6
-    returns-7
-    returns-8
-    returns-9
-    returns-10
-    returns-11)
+    (tie.spec (λ c. search needs) (λ c κs. search needs) (λ c. search needs) (λ c. search needs) (λ c κs. search needs)
+    (λ c. search needs) (λ c κs. search needs) (λ c. search needs) (λ c κs. search needs) (λ c κs. search needs)
+    (λ c. search needs) (λ c κs. search needs) (λ c κs. search needs) (λ c. search needs) (λ c κs. search needs)
+    (λ c. search needs) (λ c κs. search needs) (λ c. search needs) (λ c. search needs) (λ c. search needs) returns
+    returns-2 returns-3 returns-4 returns-5 returns-6 returns-7 returns-8 returns-9 returns-10 returns-11)

@@ -7,21 +7,9 @@ use borrow.Author.Needs.{needs}
 use Rattle.tsplib.proofs.state.on_nodes.Statement.{statement}
 use Rattle.tsplib.proofs.state.on_nodes.Tie as tie
 
-enum-known-line : tie.Need-enum-known-line
-enum-known-line c = search needs
-
-on-node-requires : tie.Need-on-node-requires
-on-node-requires c κs = search needs
-
-enum-told : tie.Need-enum-told
-enum-told c = search needs
-
 returns : tie.Need-returns
 unfolding onNodes
 returns c = at (onNodes _ _ _) (c .before .enum-told .given .1) (end-yes _ (eq-eqb _ _ (c .if1 .taken)))
-
-enum-told-2 : tie.Need-enum-told-2
-enum-told-2 c = search needs
 
 returns-2 : tie.Need-returns-2
 unfolding onNodes
@@ -38,12 +26,5 @@ returns-4 c = at (onNodes _ _ _) (c .enum-told2 .given .1) refl
 pub on-nodes-spec : {M : Type 1} → statement M
 on-nodes-spec =
     tie.close
-    (tie.spec
-    enum-known-line
-    on-node-requires
-    enum-told
-    returns
-    enum-told-2
-    returns-2
-    returns-3
-    returns-4)
+    (tie.spec (λ c. search needs) (λ c κs. search needs) (λ c. search needs) returns (λ c. search needs) returns-2
+    returns-3 returns-4)

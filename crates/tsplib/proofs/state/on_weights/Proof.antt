@@ -7,22 +7,13 @@ use borrow.Author.Needs.{needs}
 use Rattle.tsplib.proofs.state.on_weights.Statement.{statement}
 use Rattle.tsplib.proofs.state.on_weights.Tie as tie
 
-enum-known-line : tie.Need-enum-known-line
-enum-known-line c = search needs
-
 returns : tie.Need-returns
 unfolding onWeights
 returns c = at (onWeights _ _) (c .before .before .before .line .given .1) (end-no _ (lt-leb _ _ (c .if1 .taken)))
 
-enum-told : tie.Need-enum-told
-enum-told c = search needs
-
 returns-2 : tie.Need-returns-2
 unfolding onWeights
 returns-2 c = at (onWeights _ _) (c .before .enum-told .given .1) (end-yes _ (eq-eqb _ _ (c .if2 .taken)))
-
-enum-told-2 : tie.Need-enum-told-2
-enum-told-2 c = search needs
 
 returns-3 : tie.Need-returns-3
 unfolding onWeights
@@ -39,12 +30,5 @@ returns-5 c = at (onWeights _ _) (c .enum-told2 .given .1) refl
 pub on-weights-spec : {M : Type 1} → statement M
 on-weights-spec =
     tie.close
-    (tie.spec
-    enum-known-line
-    returns
-    enum-told
-    returns-2
-    enum-told-2
-    returns-3
-    returns-4
+    (tie.spec (λ c. search needs) returns (λ c. search needs) returns-2 (λ c. search needs) returns-3 returns-4
     returns-5)

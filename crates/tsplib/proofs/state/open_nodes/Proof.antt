@@ -7,30 +7,9 @@ use borrow.Author.Needs.{needs}
 use Rattle.tsplib.proofs.state.open_nodes.Statement.{statement}
 use Rattle.tsplib.proofs.state.open_nodes.Tie as tie
 
-enum-known-points : tie.Need-enum-known-points
-enum-known-points c = search needs
-
-enum-told : tie.Need-enum-told
-enum-told c = search needs
-
 returns : tie.Need-returns
 unfolding openNodes
 returns c = at (λ (p : Points). openNodes p (c .before .before .args .weigh)) (c .enum-told .given .1) refl
-
-enum-told-2 : tie.Need-enum-told-2
-enum-told-2 c = search needs
-
-enum-told-3 : tie.Need-enum-told-3
-enum-told-3 c = search needs
-
-enum-told-4 : tie.Need-enum-told-4
-enum-told-4 c = search needs
-
-enum-told-5 : tie.Need-enum-told-5
-enum-told-5 c = search needs
-
-enum-known-weigh : tie.Need-enum-known-weigh
-enum-known-weigh c = search needs
 
 returns-2 : tie.Need-returns-2
 unfolding openNodes
@@ -55,17 +34,5 @@ returns-6 c = at₂ openNodes (c .before .before .before .before .points .given 
 pub open-nodes-spec : {M : Type 1} → statement M
 open-nodes-spec =
     tie.close
-    (tie.spec
-    enum-known-points
-    enum-told
-    returns
-    enum-told-2
-    enum-told-3
-    enum-told-4
-    enum-told-5
-    enum-known-weigh
-    returns-2
-    returns-3
-    returns-4
-    returns-5
-    returns-6)
+    (tie.spec (λ c. search needs) (λ c. search needs) returns (λ c. search needs) (λ c. search needs)
+    (λ c. search needs) (λ c. search needs) (λ c. search needs) returns-2 returns-3 returns-4 returns-5 returns-6)

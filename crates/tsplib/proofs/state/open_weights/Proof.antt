@@ -10,33 +10,9 @@ use borrow.Author.Needs.{needs}
 use Rattle.tsplib.proofs.state.open_weights.Statement.{statement}
 use Rattle.tsplib.proofs.state.open_weights.Tie as tie
 
-enum-known-points : tie.Need-enum-known-points
-enum-known-points c = search needs
-
-enum-told : tie.Need-enum-told
-enum-told c = search needs
-
 returns : tie.Need-returns
 unfolding openWeights
 returns c = at (λ (p : Points). openWeights p (c .before .before .args .weigh)) (c .enum-told .given .1) refl
-
-enum-told-2 : tie.Need-enum-told-2
-enum-told-2 c = search needs
-
-enum-told-3 : tie.Need-enum-told-3
-enum-told-3 c = search needs
-
-enum-told-4 : tie.Need-enum-told-4
-enum-told-4 c = search needs
-
-enum-told-5 : tie.Need-enum-told-5
-enum-told-5 c = search needs
-
-weight-count-requires : tie.Need-weight-count-requires
-weight-count-requires c κs = search needs
-
-enum-told-6 : tie.Need-enum-told-6
-enum-told-6 c = search needs
 
 returns-2 : tie.Need-returns-2
 unfolding openWeights
@@ -61,18 +37,6 @@ returns-6 c = at₂ openWeights (c .before .before .before .points .given .1) (c
 pub open-weights-spec : {M : Type 1} → statement M
 open-weights-spec =
     tie.close
-    (tie.spec
-    enum-known-points
-    enum-told
-    returns
-    enum-told-2
-    enum-told-3
-    enum-told-4
-    enum-told-5
-    weight-count-requires
-    enum-told-6
-    returns-2
-    returns-3
-    returns-4
-    returns-5
-    returns-6)
+    (tie.spec (λ c. search needs) (λ c. search needs) returns (λ c. search needs) (λ c. search needs)
+    (λ c. search needs) (λ c. search needs) (λ c κs. search needs) (λ c. search needs) returns-2 returns-3 returns-4
+    returns-5 returns-6)

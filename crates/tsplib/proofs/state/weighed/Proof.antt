@@ -6,12 +6,6 @@ use borrow.Author.Needs.{needs}
 use Rattle.tsplib.proofs.state.weighed.Statement.{statement}
 use Rattle.tsplib.proofs.state.weighed.Tie as tie
 
-enum-known-next : tie.Need-enum-known-next
-enum-known-next c = search needs
-
-enum-told : tie.Need-enum-told
-enum-told c = search needs
-
 returns : tie.Need-returns
 unfolding weighedAs
 returns c = at (weighedAs _ _ _) (c .before .next .given .1) refl
@@ -21,4 +15,4 @@ unfolding weighedAs
 returns-2 c = at (weighedAs _ _ _) (c .enum-told .given .1) refl
 
 pub weighed-spec : {M : Type 1} → statement M
-weighed-spec = tie.close (tie.spec enum-known-next enum-told returns returns-2)
+weighed-spec = tie.close (tie.spec (λ c. search needs) (λ c. search needs) returns returns-2)

@@ -8,9 +8,6 @@ use Rattle.tsplib.proofs.state.weight_count.Tie as tie
 returns : tie.Need-returns
 returns c = weights-none (c .if1 .taken)
 
-sub-result : tie.Need-sub-result
-sub-result c = search needs
-
 mul-result : tie.Need-mul-result
 mul-result c = record { fits = weights-fit (omega arith) }
 
@@ -18,4 +15,4 @@ returns-2 : tie.Need-returns-2
 returns-2 c = weights-some _
 
 pub weight-count-spec : {M : Type 1} → statement M
-weight-count-spec = tie.close (tie.spec returns sub-result mul-result returns-2)
+weight-count-spec = tie.close (tie.spec returns (λ c. search needs) mul-result returns-2)

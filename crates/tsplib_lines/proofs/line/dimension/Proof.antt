@@ -5,15 +5,6 @@ use borrow.Author.Needs.{needs}
 use Rattle.tsplib_lines.proofs.line.dimension.Statement.{statement}
 use Rattle.tsplib_lines.proofs.line.dimension.Tie as tie
 
-numbers-of-requires : tie.Need-numbers-of-requires
-numbers-of-requires c κs = search needs
-
-enum-known-tally : tie.Need-enum-known-tally
-enum-known-tally c = search needs
-
-enum-told : tie.Need-enum-told
-enum-told c = search needs
-
 returns : tie.Need-returns
 returns c = dimension-none _ (sym (c .before .before .numbers-of .ensures) ∙ c .enum-told .given .1)
 
@@ -25,4 +16,4 @@ returns-3 c = dimension-one _ (sym (c .before .before .before .before .before .n
 
 pub dimension-spec : {M : Type 1} → statement M
 dimension-spec =
-    tie.close (tie.spec numbers-of-requires enum-known-tally enum-told returns returns-2 returns-3)
+    tie.close (tie.spec (λ c κs. search needs) (λ c. search needs) (λ c. search needs) returns returns-2 returns-3)

@@ -6,9 +6,6 @@ use borrow.Author.Needs.{needs}
 use Rattle.tsplib_lines.proofs.line.only.Statement.{statement}
 use Rattle.tsplib_lines.proofs.line.only.Tie as tie
 
-is-sole-requires : tie.Need-is-sole-requires
-is-sole-requires c κs = search needs
-
 returns : tie.Need-returns
 unfolding onlyAs
 returns c = when-yes _ _ (sym (c .before .is-sole .ensures) ∙ c .if1 .taken)
@@ -18,4 +15,4 @@ unfolding onlyAs
 returns-2 c = when-no _ (sym (c .before .is-sole .ensures) ∙ c .if1 .left) refl
 
 pub only-spec : {M : Type 1} → statement M
-only-spec = tie.close (tie.spec is-sole-requires returns returns-2)
+only-spec = tie.close (tie.spec (λ c κs. search needs) returns returns-2)

@@ -5,18 +5,6 @@ use borrow.Author.Needs.{needs}
 use Rattle.tsplib_lines.proofs.line.read_line.Statement.{statement}
 use Rattle.tsplib_lines.proofs.line.read_line.Tie as tie
 
-numbers-of-requires : tie.Need-numbers-of-requires
-numbers-of-requires c κs = search needs
-
-enum-known-tally : tie.Need-enum-known-tally
-enum-known-tally c = search needs
-
-enum-told : tie.Need-enum-told
-enum-told c = search needs
-
-word-line-requires : tie.Need-word-line-requires
-word-line-requires c κs = search needs
-
 returns : tie.Need-returns
 returns c = number-line-told _ (sym (c .before .before .before .numbers-of .ensures) ∙ c .before .tally .given .1)
 
@@ -26,4 +14,4 @@ returns-2 c = word-line-told _ (sym (c .before .before .before .numbers-of .ensu
 pub read-line-spec : {M : Type 1} → statement M
 read-line-spec =
     tie.close
-    (tie.spec numbers-of-requires enum-known-tally enum-told word-line-requires returns returns-2)
+    (tie.spec (λ c κs. search needs) (λ c. search needs) (λ c. search needs) (λ c κs. search needs) returns returns-2)

@@ -6,31 +6,13 @@ use borrow.Author.Needs.{needs}
 use Rattle.tsplib_lines.proofs.line.section.Statement.{statement}
 use Rattle.tsplib_lines.proofs.line.section.Tie as tie
 
-slice-aggregate-is-sole : tie.Need-slice-aggregate-is-sole
-slice-aggregate-is-sole c = search needs
-
-is-sole-requires : tie.Need-is-sole-requires
-is-sole-requires c κs = search needs
-
 returns : tie.Need-returns
 unfolding sectionOf toldOf
 returns c = ap toldOf (when-yes node-section _ (sym (c .before .is-sole .ensures) ∙ c .if1 .taken))
 
-slice-aggregate-is-sole-2 : tie.Need-slice-aggregate-is-sole-2
-slice-aggregate-is-sole-2 c = search needs
-
-is-sole-requires-2 : tie.Need-is-sole-requires-2
-is-sole-requires-2 c κs = search needs
-
 returns-2 : tie.Need-returns-2
 unfolding sectionOf toldOf
 returns-2 c = ap toldOf (when-no _ (sym (c .before .before .before .before .is-sole .ensures) ∙ c .before .before .before .if1 .left) (when-yes weight-section _ (sym (c .before .is-sole2 .ensures) ∙ c .if2 .taken)))
-
-slice-aggregate-is-sole-3 : tie.Need-slice-aggregate-is-sole-3
-slice-aggregate-is-sole-3 c = search needs
-
-is-sole-requires-3 : tie.Need-is-sole-requires-3
-is-sole-requires-3 c κs = search needs
 
 returns-3 : tie.Need-returns-3
 unfolding sectionOf toldOf
@@ -43,14 +25,5 @@ returns-4 c = ap toldOf (when-no _ (sym (c .before .before .before .before .befo
 pub section-spec : {M : Type 1} → statement M
 section-spec =
     tie.close
-    (tie.spec
-    slice-aggregate-is-sole
-    is-sole-requires
-    returns
-    slice-aggregate-is-sole-2
-    is-sole-requires-2
-    returns-2
-    slice-aggregate-is-sole-3
-    is-sole-requires-3
-    returns-3
-    returns-4)
+    (tie.spec (λ c. search needs) (λ c κs. search needs) returns (λ c. search needs) (λ c κs. search needs) returns-2
+    (λ c. search needs) (λ c κs. search needs) returns-3 returns-4)

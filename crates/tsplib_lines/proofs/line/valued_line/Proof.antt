@@ -7,45 +7,6 @@ use borrow.Author.Needs.{needs}
 use Rattle.tsplib_lines.proofs.line.valued_line.Statement.{statement}
 use Rattle.tsplib_lines.proofs.line.valued_line.Tie as tie
 
-enum-told : tie.Need-enum-told
-enum-told c = search needs
-
-enum-told-2 : tie.Need-enum-told-2
-enum-told-2 c = search needs
-
-enum-told-3 : tie.Need-enum-told-3
-enum-told-3 c = search needs
-
-slice-aggregate-only : tie.Need-slice-aggregate-only
-slice-aggregate-only c = search needs
-
-only-requires : tie.Need-only-requires
-only-requires c κs = search needs
-
-enum-told-4 : tie.Need-enum-told-4
-enum-told-4 c = search needs
-
-dimension-requires : tie.Need-dimension-requires
-dimension-requires c κs = search needs
-
-enum-told-5 : tie.Need-enum-told-5
-enum-told-5 c = search needs
-
-weight-type-requires : tie.Need-weight-type-requires
-weight-type-requires c κs = search needs
-
-enum-told-6 : tie.Need-enum-told-6
-enum-told-6 c = search needs
-
-slice-aggregate-only-2 : tie.Need-slice-aggregate-only-2
-slice-aggregate-only-2 c = search needs
-
-only-requires-2 : tie.Need-only-requires-2
-only-requires-2 c κs = search needs
-
-enum-told-7 : tie.Need-enum-told-7
-enum-told-7 c = search needs
-
 returns : tie.Need-returns
 unfolding valued toldOf
 returns c = valued-as _ (c .enum-told .given .1) refl
@@ -77,24 +38,7 @@ returns-7 c = valued-as _ (c .enum-told7 .given .1) refl
 pub valued-line-spec : {M : Type 1} → statement M
 valued-line-spec =
     tie.close
-    (tie.spec
-    enum-told
-    enum-told-2
-    enum-told-3
-    slice-aggregate-only
-    only-requires
-    enum-told-4
-    dimension-requires
-    enum-told-5
-    weight-type-requires
-    enum-told-6
-    slice-aggregate-only-2
-    only-requires-2
-    enum-told-7
-    returns
-    returns-2
-    returns-3
-    returns-4
-    returns-5
-    returns-6
-    returns-7)
+    (tie.spec (λ c. search needs) (λ c. search needs) (λ c. search needs) (λ c. search needs) (λ c κs. search needs)
+    (λ c. search needs) (λ c κs. search needs) (λ c. search needs) (λ c κs. search needs) (λ c. search needs)
+    (λ c. search needs) (λ c κs. search needs) (λ c. search needs) returns returns-2 returns-3 returns-4 returns-5
+    returns-6 returns-7)

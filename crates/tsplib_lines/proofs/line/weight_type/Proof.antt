@@ -6,15 +6,6 @@ use borrow.Author.Needs.{needs}
 use Rattle.tsplib_lines.proofs.line.weight_type.Statement.{statement}
 use Rattle.tsplib_lines.proofs.line.weight_type.Tie as tie
 
-weighing-of-requires : tie.Need-weighing-of-requires
-weighing-of-requires c κs = search needs
-
-enum-known-w : tie.Need-enum-known-w
-enum-known-w c = search needs
-
-enum-told : tie.Need-enum-told
-enum-told c = search needs
-
 returns : tie.Need-returns
 unfolding toldOf
 returns c = sym (ap (λ (n : NamedWeighing). toldOf (weighingLine n)) (sym (c .before .before .before .weighing-of .ensures) ∙ c .before .w .given .1))
@@ -25,4 +16,4 @@ returns-2 c = sym (ap (λ (n : NamedWeighing). toldOf (weighingLine n)) (sym (c 
 
 pub weight-type-spec : {M : Type 1} → statement M
 weight-type-spec =
-    tie.close (tie.spec weighing-of-requires enum-known-w enum-told returns returns-2)
+    tie.close (tie.spec (λ c κs. search needs) (λ c. search needs) (λ c. search needs) returns returns-2)

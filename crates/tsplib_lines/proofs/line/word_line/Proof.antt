@@ -8,35 +8,11 @@ use borrow.Author.Needs.{needs}
 use Rattle.tsplib_lines.proofs.line.word_line.Statement.{statement}
 use Rattle.tsplib_lines.proofs.line.word_line.Tie as tie
 
-find-requires : tie.Need-find-requires
-find-requires c κs = search needs
-
-section-requires : tie.Need-section-requires
-section-requires c κs = search needs
-
 returns : tie.Need-returns
 returns c = whole-line _ (no-colon (c .before .before .find .ensures) (c .before .if1 .taken)) (c .section .ensures)
 
 slice-aggregate-keyword-of : tie.Need-slice-aggregate-keyword-of
 slice-aggregate-keyword-of c = sym (length-take-le _ _ (c .before .before .find .ensures .high))
-
-keyword-of-requires : tie.Need-keyword-of-requires
-keyword-of-requires c κs = search needs
-
-add-valued-line : tie.Need-add-valued-line
-add-valued-line c = search needs
-
-sub-valued-line : tie.Need-sub-valued-line
-sub-valued-line c = search needs
-
-part-valued-line-start : tie.Need-part-valued-line-start
-part-valued-line-start c = search needs
-
-part-valued-line-end : tie.Need-part-valued-line-end
-part-valued-line-end c = search needs
-
-valued-line-requires : tie.Need-valued-line-requires
-valued-line-requires c κs = search needs
 
 returns-2 : tie.Need-returns-2
 returns-2 c = keyword-line _ (a-colon (c .before .before .before .before .before .find .ensures) (c .before .before .before .before .if1 .left)) (c .before .before .keyword-of .ensures) (part-end (c .before .before .before .before .before .find .result + 1) (now (c .before .before .before .before .before .before .before .args .text))) (c .valued-line .ensures)
@@ -44,15 +20,5 @@ returns-2 c = keyword-line _ (a-colon (c .before .before .before .before .before
 pub word-line-spec : {M : Type 1} → statement M
 word-line-spec =
     tie.close
-    (tie.spec
-    find-requires
-    section-requires
-    returns
-    slice-aggregate-keyword-of
-    keyword-of-requires
-    add-valued-line
-    sub-valued-line
-    part-valued-line-start
-    part-valued-line-end
-    valued-line-requires
-    returns-2)
+    (tie.spec (λ c κs. search needs) (λ c κs. search needs) returns slice-aggregate-keyword-of (λ c κs. search needs)
+    (λ c. search needs) (λ c. search needs) (λ c. search needs) (λ c. search needs) (λ c κs. search needs) returns-2)

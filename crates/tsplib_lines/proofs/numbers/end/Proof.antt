@@ -4,12 +4,6 @@ use borrow.Author.Needs.{needs}
 use Rattle.tsplib_lines.proofs.numbers.end.Statement.{statement}
 use Rattle.tsplib_lines.proofs.numbers.end.Tie as tie
 
-enum-told : tie.Need-enum-told
-enum-told c = search needs
-
-enum-known-place : tie.Need-enum-known-place
-enum-known-place c = search needs
-
 count-number-requires : tie.Need-count-number-requires
 count-number-requires c κs = countable _ (c .before .place .given .1) (c .before .before .before .pre)
 
@@ -20,4 +14,4 @@ returns-2 : tie.Need-returns-2
 returns-2 c = end-within _ (c .before .before .place .given .1) (c .count-number .ensures)
 
 pub end-spec : {M : Type 1} → statement M
-end-spec = tie.close (tie.spec enum-told enum-known-place count-number-requires returns returns-2)
+end-spec = tie.close (tie.spec (λ c. search needs) (λ c. search needs) count-number-requires returns returns-2)

@@ -17,26 +17,11 @@ abbrev μ-loop : tie.MeasureT-loop
 loop-holds : tie.Need-loop-holds Inv-loop μ-loop
 loop-holds c = sweep-start _
 
-shared-slice-read-sweep-byte : tie.Need-shared-slice-read-sweep-byte Inv-loop μ-loop
-shared-slice-read-sweep-byte c = search needs
-
 sweep-byte-requires : tie.Need-sweep-byte-requires Inv-loop μ-loop
 sweep-byte-requires c κs = record { room = omega (arith, c .before .before .before .loop .inv .few, c .before .before .loop-test .taken) }
 
-enum-known-next : tie.Need-enum-known-next Inv-loop μ-loop
-enum-known-next c = search needs
-
-enum-told : tie.Need-enum-told Inv-loop μ-loop
-enum-told c = search needs
-
 returns : tie.Need-returns Inv-loop μ-loop
 returns c = sweep-stray (c .before .before .before .before .before .before .loop .inv) (c .before .before .before .before .before .loop-test .taken) (sym (c .before .before .sweep-byte .ensures) ∙ c .enum-told .given .1)
-
-add-i : tie.Need-add-i Inv-loop μ-loop
-add-i c = search needs
-
-loop-less : tie.Need-loop-less Inv-loop μ-loop
-loop-less c = search needs
 
 loop-again : tie.Need-loop-again Inv-loop μ-loop
 loop-again c = sweep-on (c .before .before .before .before .before .before .before .loop .inv) (c .before .before .before .before .before .before .loop-test .taken) (sym (c .before .before .before .sweep-byte .ensures) ∙ c .before .next .given .1)
@@ -53,18 +38,5 @@ returns-3 c = sweep-some (c .before .before .before .before .before .loop .inv) 
 pub numbers-of-spec : {M : Type 1} → statement M
 numbers-of-spec =
     tie.close
-    (tie.spec
-    Inv-loop
-    μ-loop
-    loop-holds
-    shared-slice-read-sweep-byte
-    sweep-byte-requires
-    enum-known-next
-    enum-told
-    returns
-    add-i
-    loop-less
-    loop-again
-    end-requires
-    returns-2
-    returns-3)
+    (tie.spec Inv-loop μ-loop loop-holds (λ c. search needs) sweep-byte-requires (λ c. search needs) (λ c. search needs)
+    returns (λ c. search needs) (λ c. search needs) loop-again end-requires returns-2 returns-3)

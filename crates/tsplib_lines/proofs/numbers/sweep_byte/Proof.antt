@@ -4,9 +4,6 @@ use borrow.Author.Needs.{needs}
 use Rattle.tsplib_lines.proofs.numbers.sweep_byte.Statement.{statement}
 use Rattle.tsplib_lines.proofs.numbers.sweep_byte.Tie as tie
 
-sweep-blank-requires : tie.Need-sweep-blank-requires
-sweep-blank-requires c κs = search needs
-
 returns : tie.Need-returns
 returns c = byte-blank _ _ (c .before .if1 .taken) (c .sweep-blank .ensures)
 
@@ -16,13 +13,10 @@ returns-2 c = byte-low _ _ (c .before .if1 .left) (c .if2 .taken)
 returns-3 : tie.Need-returns-3
 returns-3 c = byte-high _ _ (c .before .before .if1 .left) (c .if3 .taken)
 
-sweep-digit-requires : tie.Need-sweep-digit-requires
-sweep-digit-requires c κs = search needs
-
 returns-4 : tie.Need-returns-4
 returns-4 c = byte-digit _ _ (c .before .before .before .if1 .left) (c .before .before .if2 .left) (c .before .if3 .left) (c .sweep-digit .ensures)
 
 pub sweep-byte-spec : {M : Type 1} → statement M
 sweep-byte-spec =
     tie.close
-    (tie.spec sweep-blank-requires returns returns-2 returns-3 sweep-digit-requires returns-4)
+    (tie.spec (λ c κs. search needs) returns returns-2 returns-3 (λ c κs. search needs) returns-4)

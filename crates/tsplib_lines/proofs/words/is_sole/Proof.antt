@@ -12,38 +12,17 @@ Inv-loop text word at₀ i₀ at i = Matching word text at i
 abbrev μ-loop : tie.MeasureT-loop
 μ-loop text word at₀ i₀ at i = length word - i
 
-after-blanks-requires : tie.Need-after-blanks-requires Inv-loop μ-loop
-after-blanks-requires c κs = search needs
-
 loop-holds : tie.Need-loop-holds Inv-loop μ-loop
 loop-holds c = match-start (c .after-blanks .ensures)
 
 returns : tie.Need-returns Inv-loop μ-loop
 returns c = match-short (c .before .before .loop .inv) (c .before .loop-test .taken) (c .if1 .taken)
 
-shared-slice-read-if2 : tie.Need-shared-slice-read-if2 Inv-loop μ-loop
-shared-slice-read-if2 c = search needs
-
-shared-slice-read-if2-2 : tie.Need-shared-slice-read-if2-2 Inv-loop μ-loop
-shared-slice-read-if2-2 c = search needs
-
 returns-2 : tie.Need-returns-2 Inv-loop μ-loop
 returns-2 c = match-not (c .before .before .before .before .before .loop .inv) (c .before .before .before .before .loop-test .taken) (c .before .before .before .if1 .left) (c .if2 .taken)
 
-add-at : tie.Need-add-at Inv-loop μ-loop
-add-at c = search needs
-
-add-i : tie.Need-add-i Inv-loop μ-loop
-add-i c = search needs
-
-loop-less : tie.Need-loop-less Inv-loop μ-loop
-loop-less c = search needs
-
 loop-again : tie.Need-loop-again Inv-loop μ-loop
 loop-again c = match-on (c .before .before .before .before .before .loop .inv) (c .before .before .before .before .loop-test .taken) (c .before .before .before .if1 .left) (c .if2 .left)
-
-after-blanks-requires-2 : tie.Need-after-blanks-requires-2 Inv-loop μ-loop
-after-blanks-requires-2 c κs = search needs
 
 returns-3 : tie.Need-returns-3 Inv-loop μ-loop
 returns-3 c = match-end (c .before .before .loop .inv) (c .before .loop-test .left) (c .after-blanks2 .ensures)
@@ -51,18 +30,5 @@ returns-3 c = match-end (c .before .before .loop .inv) (c .before .loop-test .le
 pub is-sole-spec : {M : Type 1} → statement M
 is-sole-spec =
     tie.close
-    (tie.spec
-    Inv-loop
-    μ-loop
-    after-blanks-requires
-    loop-holds
-    returns
-    shared-slice-read-if2
-    shared-slice-read-if2-2
-    returns-2
-    add-at
-    add-i
-    loop-less
-    loop-again
-    after-blanks-requires-2
-    returns-3)
+    (tie.spec Inv-loop μ-loop (λ c κs. search needs) loop-holds returns (λ c. search needs) (λ c. search needs)
+    returns-2 (λ c. search needs) (λ c. search needs) (λ c. search needs) loop-again (λ c κs. search needs) returns-3)

@@ -13,12 +13,9 @@ returns-2 : tie.Need-returns-2
 unfolding admission inRange
 returns-2 c = rw (admission, inRange, le-leb _ _ (c .before .if1 .left), lt-leb _ _ (c .if2 .taken))
 
-cast-t3 : tie.Need-cast-t3
-cast-t3 c = search needs
-
 returns-3 : tie.Need-returns-3
 unfolding admission inRange
 returns-3 c = rw (admission, inRange, le-leb _ _ (c .before .if1 .left), le-leb _ _ (c .if2 .left))
 
 pub admit-spec : {M : Type 1} → statement M
-admit-spec = tie.close (tie.spec returns returns-2 cast-t3 returns-3)
+admit-spec = tie.close (tie.spec returns returns-2 (λ c. search needs) returns-3)

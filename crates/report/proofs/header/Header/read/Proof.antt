@@ -13,29 +13,8 @@ admits c = admitted (sym (c .before .before .before .admit .ensures) ∙ c .befo
 returns : tie.Need-returns
 returns c = header-short _ (c .if1 .taken)
 
-number-in-requires : tie.Need-number-in-requires
-number-in-requires c κs = search needs
-
-admit-requires : tie.Need-admit-requires
-admit-requires c κs = search needs
-
-enum-known-instance : tie.Need-enum-known-instance
-enum-known-instance c = search needs
-
-enum-told : tie.Need-enum-told
-enum-told c = search needs
-
 returns-2 : tie.Need-returns-2
 returns-2 c = header-points _ (c .before .before .before .number-in .ensures) (c .before .before .before .before .if1 .left) (sym (c .before .before .admit .ensures) ∙ c .enum-told .given .1)
-
-cast-if2 : tie.Need-cast-if2
-cast-if2 c = search needs
-
-mul-if2 : tie.Need-mul-if2
-mul-if2 c = search needs
-
-add-if2 : tie.Need-add-if2
-add-if2 c = search needs
 
 returns-3 : tie.Need-returns-3
 returns-3 c = header-cut _ (c .before .before .before .before .before .number-in .ensures) (c .before .before .before .before .before .before .if1 .left) (admits (c .before)) (c .if2 .taken)
@@ -46,9 +25,6 @@ returns-4 c =
     let n = k .before .before .before .before in
     header-long _ (n .number-in .ensures) (n .before .if1 .left) (admits k) (c .before .if2 .left) (c .if3 .taken)
 
-number-in-requires-2 : tie.Need-number-in-requires-2
-number-in-requires-2 c κs = search needs
-
 returns-5 : tie.Need-returns-5
 returns-5 c =
     let k = c .before .before .before in
@@ -58,17 +34,5 @@ returns-5 c =
 pub read-spec : {M : Type 1} → statement M
 read-spec =
     tie.close
-    (tie.spec
-    returns
-    number-in-requires
-    admit-requires
-    enum-known-instance
-    enum-told
-    returns-2
-    cast-if2
-    mul-if2
-    add-if2
-    returns-3
-    returns-4
-    number-in-requires-2
-    returns-5)
+    (tie.spec returns (λ c κs. search needs) (λ c κs. search needs) (λ c. search needs) (λ c. search needs) returns-2
+    (λ c. search needs) (λ c. search needs) (λ c. search needs) returns-3 returns-4 (λ c κs. search needs) returns-5)

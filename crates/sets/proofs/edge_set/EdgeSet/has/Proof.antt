@@ -18,31 +18,10 @@ abbrev μ-loop : tie.MeasureT-loop
 loop-holds : tie.Need-loop-holds Inv-loop μ-loop
 loop-holds c = (c .before .before .pre .few, refl)
 
-sub-i : tie.Need-sub-i Inv-loop μ-loop
-sub-i c = search needs
-
-mul-joins : tie.Need-mul-joins Inv-loop μ-loop
-mul-joins c = search needs
-
-array-read-joins : tie.Need-array-read-joins Inv-loop μ-loop
-array-read-joins c = search needs
-
-mul-joins-2 : tie.Need-mul-joins-2 Inv-loop μ-loop
-mul-joins-2 c = search needs
-
-array-read-joins-2 : tie.Need-array-read-joins-2 Inv-loop μ-loop
-array-read-joins-2 c = search needs
-
-joins-requires : tie.Need-joins-requires Inv-loop μ-loop
-joins-requires c κs = search needs
-
 returns : tie.Need-returns Inv-loop μ-loop
 unfolding edgeList
 returns c = sym (has-here _ _ _ _ _ (c .before .before .loop-test .taken) (sym (c .before .joins .ensures) ∙ c .if1 .taken))
     ∙ c .before .before .before .loop .inv .1
-
-loop-less : tie.Need-loop-less Inv-loop μ-loop
-loop-less c = search needs
 
 loop-again : tie.Need-loop-again Inv-loop μ-loop
 loop-again c = (
@@ -58,17 +37,5 @@ returns-2 c = sym (has-none _ _ _ _ _ (c .loop-test .left)) ∙ c .before .loop 
 pub has-spec : {M : Type 1} → statement M
 has-spec =
     tie.close
-    (tie.spec
-    Inv-loop
-    μ-loop
-    loop-holds
-    sub-i
-    mul-joins
-    array-read-joins
-    mul-joins-2
-    array-read-joins-2
-    joins-requires
-    returns
-    loop-less
-    loop-again
-    returns-2)
+    (tie.spec Inv-loop μ-loop loop-holds (λ c. search needs) (λ c. search needs) (λ c. search needs) (λ c. search needs)
+    (λ c. search needs) (λ c κs. search needs) returns (λ c. search needs) loop-again returns-2)

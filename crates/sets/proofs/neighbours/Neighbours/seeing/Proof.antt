@@ -7,15 +7,9 @@ use Rattle.sets.specs.Neighbours.{seen}
 use Rattle.sets.proofs.neighbours.Neighbours.seeing.Statement.{statement}
 use Rattle.sets.proofs.neighbours.Neighbours.seeing.Tie as tie
 
-with-requires : tie.Need-with-requires
-with-requires c κs = search needs
-
 returns : tie.Need-returns
 unfolding seen
 returns c = c .with .ensures ∙ rw (eq-eqb _ _ (c .before .if1 .taken))
-
-with-requires-2 : tie.Need-with-requires-2
-with-requires-2 c κs = search needs
 
 returns-2 : tie.Need-returns-2
 unfolding seen
@@ -26,4 +20,4 @@ unfolding seen
 returns-3 c = rw (ne-eqb _ _ (c .before .if1 .left), ne-eqb _ _ (c .if2 .left))
 
 pub seeing-spec : {M : Type 1} → statement M
-seeing-spec = tie.close (tie.spec with-requires returns with-requires-2 returns-2 returns-3)
+seeing-spec = tie.close (tie.spec (λ c κs. search needs) returns (λ c κs. search needs) returns-2 returns-3)

@@ -14,11 +14,8 @@ returns-2 c = refused-sheet _ (whole-broken _ (c .if2 .taken))
 returns-3 : tie.Need-returns-3
 returns-3 c = refused-sheet _ (whole-long _ (omega (arith, c .if3 .taken)))
 
-cast-t4 : tie.Need-cast-t4
-cast-t4 c = search needs
-
 returns-4 : tie.Need-returns-4
 returns-4 c = admitted-sheet _ (whole-passed _ (c .before .before .if1 .left) (c .before .if2 .left) (c .if3 .left))
 
 pub admit-spec : {M : Type 1} → statement M
-admit-spec = tie.close (tie.spec returns returns-2 returns-3 cast-t4 returns-4)
+admit-spec = tie.close (tie.spec returns returns-2 returns-3 (λ c. search needs) returns-4)
