@@ -11,36 +11,39 @@ use Rattle.lengths.specs.Edge.{edgeCount}
 use Rattle.lengths.specs.Instance.{inRange, mostLength}
 use Rattle.lengths.proofs.Limits.{order-same}
 use Rattle.lists.specs.Test.{allAtMost, eachAtMost, unless}
-use Rattle.marks.specs.Mark.{struckMark, areMarks}
+use Rattle.marks.specs.Mark.{struckMark}
 use Rattle.marks.specs.Packed.{marksOf}
 use Rattle.argument.specs.Sheet.{run}
-use Rattle.limits.specs.Tests.{testedLimits, untilMarks, testedBetween, readyBetween}
-use Rattle.limits.specs.Mark.{markBetween, markBetweenPacked}
-use Rattle.limits.specs.Listing.{listedBetween}
+use Rattle.admission.specs.Tests.{testedTable, testedLimits, untilMarks, testedBetween, readyBetween, tested, untilPending, ready}
+use Rattle.marking.specs.MarkBetween.{markBetween, markBetweenPacked}
+use Rattle.marking.specs.ListBetween.{listedBetween}
 use Rattle.marking.specs.Listing.{listTested, listed, listLeft}
 use Rattle.marking.specs.Mark.{markTested, markBy, markSheet, repack, markPackedBy, markPacked}
-use Rattle.marking.specs.Tests.{tested, untilPending, ready}
 use Rattle.marking.specs.declared.listing.Listed.{Listed}
-use Rattle.marking.specs.declared.tests.Tested.{Tested}
-use Rattle.marking.specs.declared.tests.Tested.the-variants.{Points, Refused}
+use Rattle.admission.specs.declared.tested.Tested.{Tested}
+use Rattle.admission.specs.declared.tested.Tested.the-variants.{Points, Refused}
 use Rattle.revosti.specs.Between.{markBetweenInC}
 use Rattle.revosti.specs.Mark.{markInC}
 use Rattle.demands.specs.Run.{Call, Step, marking, marking-between, oneTable, stepped, stepsOf}
 
 module _ (n : ℕ) (table marks : List ℕ) where
   -- the tests: 2 and 5 made a second time refuse nothing more, and 25 refuses nothing
-  pub tested-agrees : testedBetween n table table marks ≡ tested n table marks
-  unfolding testedBetween testedLimits tested
-  tested-agrees = by (inRange n) (eqb (length table) (edgeCount n)) (allAtMost mostLength table) (eachAtMost table table) (order-same table)
+  limits-agree : testedLimits n table table ≡ testedTable n table
+  unfolding testedLimits testedTable
+  limits-agree = by (inRange n) (eqb (length table) (edgeCount n)) (allAtMost mostLength table) (eachAtMost table table) (order-same table)
     where
       by : (a b c d : Bool) → d ≡ true →
-          untilMarks (unless a (Refused 1) (unless b (Refused 2) (unless b (Refused 2) (unless c (Refused 5) (unless c (Refused 5) (unless d (Refused 25) (Points n))))))) marks
-          ≡ unless a (Refused 1) (unless b (Refused 2) (unless c (Refused 5) (unless (eqb (length marks) (edgeCount n)) (Refused 6) (unless (areMarks marks) (Refused 6) (Points n)))))
+          unless a (Refused 1) (unless b (Refused 2) (unless b (Refused 2) (unless c (Refused 5) (unless c (Refused 5) (unless d (Refused 25) (Points n))))))
+          ≡ unless a (Refused 1) (unless b (Refused 2) (unless c (Refused 5) (Points n)))
       by false b c d e = refl
       by true false c d e = refl
       by true true false d e = refl
       by true true true false e = absurd (false≢true e)
       by true true true true e = refl
+
+  pub tested-agrees : testedBetween n table table marks ≡ tested n table marks
+  unfolding testedBetween tested
+  tested-agrees = ap (λ (t : Tested). untilMarks t marks) limits-agree
 
   pub ready-agrees : readyBetween n table table marks ≡ ready n table marks
   unfolding readyBetween ready

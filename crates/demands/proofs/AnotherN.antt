@@ -21,12 +21,11 @@ use Rattle.marks.specs.Packed.{marksOf}
 use Rattle.marks.proofs.PackedSets.{repacked-same}
 use Rattle.argument.specs.Sheet.{Result}
 use Rattle.marking.specs.Mark.{turnedDown, markTested, markBy, repack, markPackedBy}
-use Rattle.marking.specs.Tests.{tested, untilPending, ready}
-use Rattle.marking.specs.declared.tests.Tested.{Tested}
-use Rattle.marking.specs.declared.tests.Tested.the-variants.{Points, Refused}
-use Rattle.marking.proofs.Tested.{range-admits}
-use Rattle.limits.specs.Mark.{markBetween, markBetweenPacked}
-use Rattle.limits.specs.Tests.{testedLimits, untilMarks, testedBetween, readyBetween}
+use Rattle.admission.specs.Tests.{testedTable, tested, untilPending, ready, testedLimits, untilMarks, testedBetween, readyBetween}
+use Rattle.admission.specs.declared.tested.Tested.{Tested}
+use Rattle.admission.specs.declared.tested.Tested.the-variants.{Points, Refused}
+use Rattle.admission.proofs.Passed.{range-admits}
+use Rattle.marking.specs.MarkBetween.{markBetween, markBetweenPacked}
 use Rattle.revosti.specs.Between.{MarkedBetweenInC}
 use Rattle.revosti.specs.Mark.{resultNumber, MarkedInC}
 use Rattle.demands.proofs.Sizes.{edge-count-injective}
@@ -38,20 +37,22 @@ module _ (n m : ℕ) (some : leastPoints ≤ n) (other : m ≡ n → ⊥) where
       ne-eqb (length table) (edgeCount m)
       (λ e. other (edge-count-injective m n (omega (arith, range-admits m h .least)) (omega arith) (sym e ∙ whole)))
 
-  -- the tests that all operations share
-  pub tested-another : (table marks : List ℕ) → length table ≡ edgeCount n → tested m table marks ≡ Refused (cond (inRange m) 2 1)
-  unfolding tested
-  tested-another table marks whole = by (inRange m) refl
+  -- the tests of a table, and so those that all operations share
+  table-another : (table : List ℕ) → length table ≡ edgeCount n → testedTable m table ≡ Refused (cond (inRange m) 2 1)
+  unfolding testedTable
+  table-another table whole = by (inRange m) refl
     where
       rest : Tested
-      rest =
-          unless (allAtMost mostLength table) (Refused 5)
-          (unless (eqb (length marks) (edgeCount m)) (Refused 6) (unless (areMarks marks) (Refused 6) (Points m)))
+      rest = unless (allAtMost mostLength table) (Refused 5) (Points m)
 
       by : (t : Bool) → inRange m ≡ t
           → unless t (Refused 1) (unless (eqb (length table) (edgeCount m)) (Refused 2) rest) ≡ Refused (cond t 2 1)
       by false e = refl
       by true e = ap (λ (b : Bool). unless b (Refused 2) rest) (other-size table whole e)
+
+  pub tested-another : (table marks : List ℕ) → length table ≡ edgeCount n → tested m table marks ≡ Refused (cond (inRange m) 2 1)
+  unfolding tested
+  tested-another table marks whole = ap (λ (t : Tested). untilMarks t marks) (table-another table whole)
 
   -- marking and asking, over a packed set
   pub mark-another : (by : ℕ) (table set s : List ℕ) → length table ≡ edgeCount n

@@ -11,10 +11,9 @@ use Rattle.argument.specs.Sheet.{markingListed, sheet}
 use Rattle.argument.proofs.AnyList.{sheet-any-list}
 use Rattle.endian.specs.Bytes.{whole16, whole32}
 use Rattle.sheets.specs.Rules.{markingBy, markingBetween}
-use Rattle.limits.specs.Mark.{markBetween, markBetweenPacked}
-use Rattle.limits.specs.Tests.{readyBetween}
+use Rattle.marking.specs.MarkBetween.{markBetween, markBetweenPacked}
+use Rattle.admission.specs.Tests.{readyBetween, ready}
 use Rattle.marking.specs.Mark.{markBy, repack, markPackedBy}
-use Rattle.marking.specs.Tests.{ready}
 use Rattle.revosti.specs.Between.{markBetweenInC}
 use Rattle.revosti.specs.Mark.{markInC}
 use Rattle.demands.specs.Marked.{Passes, PassesBetween, ListsExactly}

@@ -20,10 +20,10 @@ use Rattle.argument.proofs.Maps.{equal-judge, sheet-maps}
 use Rattle.sheets.specs.Rules.{rulesWhere, rulesOf, markingBy}
 use Rattle.sheets.specs.Sheet.{wholeSheet}
 use Rattle.marking.specs.Mark.{markBy, markTested, turnedDown, markSheet, askSheet}
-use Rattle.marking.specs.Tests.{ready}
-use Rattle.marking.specs.declared.tests.Tested.{Tested}
-use Rattle.marking.specs.declared.tests.Tested.the-variants.{Points, Refused}
-use Rattle.marking.proofs.Tested.{passed, ready-tested}
+use Rattle.admission.specs.Tests.{ready}
+use Rattle.admission.specs.declared.tested.Tested.{Tested}
+use Rattle.admission.specs.declared.tested.Tested.the-variants.{Points, Refused}
+use Rattle.admission.proofs.Passed.{passed, ready-tested}
 
 -- the marks m of marking are the marks m′ of asking, confirmed; and m′ are marks of n points
 record Same (n : ℕ) (m m′ : List ℕ) : Type 0 where

@@ -11,14 +11,14 @@ use Rattle.endian.specs.Bytes.{whole16, whole32}
 use Rattle.marks.specs.Mark.{struckMark, openMark, pendingMark, nonePending}
 use Rattle.marks.specs.Packed.{packed, wellPacked, marksOf, repacked}
 use Rattle.marks.specs.Pending.{settledAnswer, settledLeft, settledSet}
-use Rattle.marks.specs.declared.pending.Settled.{Settled}
-use Rattle.marks.specs.declared.pending.Settled.the-variants as settled
+use Rattle.lengths.specs.declared.outcome.Outcome.{Outcome}
+use Rattle.lengths.specs.declared.outcome.Outcome.the-variants as settled
 use Rattle.marks.proofs.PackedSets.{packed-marks, repacked-same}
 use Rattle.marks.proofs.PackedMarks.{held-set}
 use Rattle.marking.proofs.PackedSheets.{mark-byte-set}
 use Rattle.marking.specs.Mark.{markTested, markBy, markPackedBy, askSheet, markPacked, askPacked}
-use Rattle.marking.specs.Tests.{untilPending, ready}
-use Rattle.marking.specs.declared.tests.Tested.{Tested}
+use Rattle.admission.specs.Tests.{untilPending, ready}
+use Rattle.admission.specs.declared.tested.Tested.{Tested}
 use Rattle.revosti.specs.Mark.{resultNumber, verdictNumber, markInC}
 use Rattle.demands.proofs.Asked.{ask-verdict, ask-lines, ask-confirm, ask-withdraw}
 use Rattle.demands.proofs.OnPacked.{out-of-limits, settle-on-packed}
@@ -43,7 +43,7 @@ module _ (n : ℕ) (table set s : List ℕ) where
   unfolding settledAnswer
   out-settle mark h =
       let r : settledAnswer n (marksOf n set) ≡ settled.Refused 1 0 = rw h in
-      ap (λ (t : Settled). repacked n set (settledLeft t mark (marksOf n set))) r ∙ repacked-same n set
+      ap (λ (t : Outcome). repacked n set (settledLeft t mark (marksOf n set))) r ∙ repacked-same n set
 
   -- nor does a set that is not well packed
   ill-mark : (by : ℕ) → wellPacked n set ≡ false → markPackedBy by n table set s .marks ≡ set

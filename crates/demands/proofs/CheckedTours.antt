@@ -25,44 +25,21 @@ use Rattle.marks.specs.Mark.{struckMark, openMark, pendingMark, markAt, areMark
 use Rattle.marks.specs.Packed.{marksOf}
 use Rattle.rules.specs.PairTest.{every}
 use Rattle.tours.specs.Tour.{Tour, Uses, tourLength}
-use Rattle.marking.specs.Tests.{tested}
-use Rattle.marking.specs.Tour.{isTour, checkTested, tourChecked}
-use Rattle.marking.specs.declared.tests.Tested.{Tested}
-use Rattle.marking.specs.declared.tests.Tested.the-variants as tests
-use Rattle.marking.specs.declared.tour.Checked.{Checked}
-use Rattle.marking.specs.declared.tour.Checked.the-variants as checked
-use Rattle.marking.proofs.Tested.{passed}
-use Rattle.marking.proofs.TourExact.{is-tour-exact, all-open-exact}
+use Rattle.admission.specs.Tests.{tested}
+use Rattle.tour_check.specs.Tour.{isTour, checkTested, tourChecked}
+use Rattle.admission.specs.declared.tested.Tested.{Tested}
+use Rattle.admission.specs.declared.tested.Tested.the-variants as tests
+use Rattle.tour_check.specs.declared.tour.Checked.{Checked}
+use Rattle.tour_check.specs.declared.tour.Checked.the-variants as checked
+use Rattle.admission.proofs.Passed.{passed}
+use Rattle.tour_check.proofs.TourExact.{is-tour-exact, all-open-exact}
 use Rattle.revosti.specs.Tour.{openNumber, checkedNumber, tourInC}
 use Rattle.demands.specs.CheckedTours.{TourTold}
+use Rattle.demands.proofs.TestNumbers.{tested-number}
 
--- what the tests refuse by
-record Among1To6 (t : Tested) : Type 0 where
-  pub low : (k : ℕ) → t ≡ tests.Refused k → 1 ≤ k
-  pub high : (k : ℕ) → t ≡ tests.Refused k → k ≤ 6
-
-tests-number : (n : ℕ) (table marks : List ℕ) → Among1To6 (tested n table marks)
-unfolding tested
-tests-number n table marks =
-    go (inRange n) (eqb (length table) (edgeCount n)) (allAtMost mostLength table) (eqb (length marks) (edgeCount n)) (areMarks marks)
-  where
-    by : (j : ℕ) → 1 ≤ j → j ≤ 6 → Among1To6 (tests.Refused j)
-    by j l h = record { low = λ k e. let f : j ≡ k = cc in omega arith; high = λ k e. let f : j ≡ k = cc in omega arith }
-
-    go : (a b c d e : Bool)
-        → Among1To6
-        (unless a (tests.Refused 1)
-        (unless b (tests.Refused 2)
-        (unless c (tests.Refused 5) (unless d (tests.Refused 6) (unless e (tests.Refused 6) (tests.Points n))))))
-    go false b c d e = by 1 (omega arith) (omega arith)
-    go true false c d e = by 2 (omega arith) (omega arith)
-    go true true false d e = by 5 (omega arith) (omega arith)
-    go true true true false e = by 6 (omega arith) (omega arith)
-    go true true true true false = by 6 (omega arith) (omega arith)
-    go true true true true true = record {
-      low = λ k e. let z : _≡_ {A = ℕ} 0 1 = cc in absurd (omega arith);
-      high = λ k e. let z : _≡_ {A = ℕ} 0 1 = cc in absurd (omega arith);
-    }
+-- the tests refuse by a number from 1 to 6
+tests-number : (n : ℕ) (table marks : List ℕ) (k : ℕ) → tested n table marks ≡ tests.Refused k → (1 ≤ k) × (k ≤ 6)
+tests-number = tested-number (λ k. (1 ≤ k) × (k ≤ 6)) (omega arith, omega arith) (omega arith, omega arith) (omega arith, omega arith) (omega arith, omega arith)
 
 -- open or pending
 opens-iff : (mark : ℕ) → (opens pendingMark mark ≡ true) ↔ ((mark ≡ openMark) ⊎ (mark ≡ pendingMark))
@@ -124,7 +101,7 @@ module _ (n : ℕ) (table marks t : List ℕ) where
       behind e false h = none e (λ T. false≢true (sym h ∙ is-tour-exact n t .1 T)) refl
 
       go : (r : Tested) → tested n table marks ≡ r → Found n table marks t (checkTested r table marks t)
-      go (tests.Refused k) e = early k e (tests-number n table marks .low k e) (tests-number n table marks .high k e) refl
+      go (tests.Refused k) e = early k e (tests-number n table marks k e .0) (tests-number n table marks k e .1) refl
       go (tests.Points p) e =
           let q = passed e .same in
           subst (λ (m : ℕ). Found n table marks t (checkTested (tests.Points m) table marks t)) (sym q)

@@ -11,9 +11,9 @@ use Rattle.argument.specs.Line.{Struck, strikes, judge, CompleteLine}
 use Rattle.argument.specs.Sheet.{Place, Result, start, sheet, CompleteLines, Answers, RefusedAt}
 use Rattle.argument.specs.Verdict.{accepted, refused}
 use Rattle.sheets.specs.Rules.{rulesOf, markingBy}
-use Rattle.marking.proofs.Tested.{passed, ready-tested}
+use Rattle.admission.proofs.Passed.{passed, ready-tested}
 use Rattle.marking.specs.Mark.{markBy}
-use Rattle.marking.specs.Tests.{ready}
+use Rattle.admission.specs.Tests.{ready}
 use Rattle.demands.specs.Marked.{Passes, struckEdges, Changes}
 use Rattle.demands.proofs.Changed.{chain-changes}
 use Rattle.demands.proofs.SheetLines.{judged-exact, lines-marked, answers, answers-whole, answers-refusal, tested-changes}

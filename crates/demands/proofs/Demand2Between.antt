@@ -12,9 +12,9 @@ use Rattle.argument.specs.Line.{Struck, strikes, judge, CompleteLine}
 use Rattle.argument.specs.Sheet.{Place, Result, start, sheet, CompleteLines, Answers, RefusedAt}
 use Rattle.argument.specs.Verdict.{accepted, refused}
 use Rattle.sheets.specs.Rules.{rulesBetween, markingBetween}
-use Rattle.limits.proofs.LimitWays.{passed-ready}
-use Rattle.limits.specs.Tests.{readyBetween}
-use Rattle.limits.specs.Mark.{markBetween}
+use Rattle.admission.proofs.Passed.{passed-ready}
+use Rattle.admission.specs.Tests.{readyBetween}
+use Rattle.marking.specs.MarkBetween.{markBetween}
 use Rattle.demands.specs.Marked.{PassesBetween, struckEdges, Changes}
 use Rattle.demands.proofs.Changed.{chain-changes}
 use Rattle.demands.proofs.SheetLines.{judged-exact, lines-marked, answers, answers-whole, answers-refusal, tested-changes}

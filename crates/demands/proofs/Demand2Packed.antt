@@ -15,15 +15,13 @@ use Rattle.argument.specs.Line.{Struck}
 use Rattle.argument.specs.Sheet.{Place, Result, start, CompleteLines, Answers, RefusedAt}
 use Rattle.argument.specs.Verdict.{accepted, refused}
 use Rattle.sheets.specs.Rules.{markingBy, markingBetween}
-use Rattle.limits.proofs.LimitWays.{passed-ready}
-use Rattle.limits.specs.Mark.{markBetween, markBetweenPacked}
-use Rattle.limits.specs.Tests.{readyBetween}
+use Rattle.admission.proofs.Passed.{passed-ready, both-passed, passed, passed-well, ready-tested}
+use Rattle.marking.specs.MarkBetween.{markBetween, markBetweenPacked}
+use Rattle.admission.specs.Tests.{readyBetween, ready}
 use Rattle.marking.proofs.PackedSheets.{mark-byte-set, tested-byte-set}
-use Rattle.marking.proofs.Tested.{both-passed, passed, passed-well, ready-tested}
 use Rattle.marking.specs.Mark.{markTested, markBy, packedResult, repack, markPackedBy}
-use Rattle.marking.specs.Tests.{ready}
-use Rattle.marking.specs.declared.tests.Tested.{Tested}
-use Rattle.marking.specs.declared.tests.Tested.the-variants.{Points, Refused}
+use Rattle.admission.specs.declared.tested.Tested.{Tested}
+use Rattle.admission.specs.declared.tested.Tested.the-variants.{Points, Refused}
 use Rattle.demands.specs.Marked.{Passes, PassesBetween, struckEdges, Changes, AnswersPacked}
 use Rattle.demands.proofs.Demand2.{demand-2-sheet, demand-2-whole, demand-2-refusal, demand-2-struck, demand-2-changes}
 use Rattle.demands.proofs.Demand2Between.{demand-2-sheet-between, demand-2-whole-between, demand-2-refusal-between, demand-2-struck-between, demand-2-changes-between}

@@ -13,8 +13,8 @@ use Rattle.argument.proofs.Safe.{step-safe}
 use Rattle.marks.specs.Mark.{struckMark}
 use Rattle.marks.specs.Packed.{ByteSet}
 use Rattle.sheets.specs.Rules.{markingOf}
-use Rattle.marking.specs.Tests.{ready}
-use Rattle.marking.specs.declared.tests.Tested.the-variants.{Points}
+use Rattle.admission.specs.Tests.{ready}
+use Rattle.admission.specs.declared.tested.Tested.the-variants.{Points}
 use Rattle.desks.specs.Turn.{waiting, turnFrom, turnMarks, turnOnMarks}
 use Rattle.desks.proofs.TurnLeaves.{from-keeps, tested-keeps, turn-keeps, turn-byte-set}
 use Rattle.demands.proofs.Kept.{InTour, Kept, OutOfReach, guarded}

@@ -15,8 +15,8 @@ use Rattle.tours.specs.Tour.{Tour, tourLength, Shortest}
 use Rattle.tours.proofs.Bit.{same-self}
 use Rattle.tours.proofs.Count.{count-cons, tour-length}
 use Rattle.tours.proofs.Points.{points, points-tour}
-use Rattle.marking.specs.Tour.{isTour}
-use Rattle.marking.proofs.TourExact.{is-tour, tour-is}
+use Rattle.tour_check.specs.Tour.{isTour}
+use Rattle.tour_check.proofs.TourExact.{is-tour, tour-is}
 
 -- a list of k letters from 1 to n
 abbrev Word : ℕ → ℕ → List ℕ → Type 0

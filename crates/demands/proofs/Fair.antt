@@ -14,7 +14,7 @@ use Rattle.endian.specs.Bytes.{whole16, whole32}
 use Rattle.marks.specs.Packed.{marksOf}
 use Rattle.desks.specs.HandIn.{isDesk, testedSheet, handInAnswer, handInBy, handInLeft}
 use Rattle.desks.specs.State.{deskCount, stateBytes, lent, lastServed, setDesk, hasLine, following, nextDesk}
-use Rattle.desks.specs.Turn.{Outcome, turnPacked, servedLeft, Turn, turnOf, turnWith}
+use Rattle.desks.specs.Turn.{DeskTurn, turnPacked, servedLeft, Turn, turnOf, turnWith}
 use Rattle.desks.specs.asks.State.{DeskAsked}
 use Rattle.desks.specs.declared.handing.Handed.{Handed}
 use Rattle.desks.specs.declared.handing.Handed.the-variants as handed
@@ -34,13 +34,13 @@ found-asked {state} room e = let f = next-found state e in record { room = room;
 
 -- what a turn comes to where it serves a desk
 pub turn-of : (state : List ℕ) → stateBytes ≤ length state → {x : Next} → nextDesk state ≡ x →
-    (marks : List ℕ) (go : (index owner lines : ℕ) → Outcome (List ℕ))
+    (marks : List ℕ) (go : (index owner lines : ℕ) → DeskTurn (List ℕ))
     → turnWith state marks go ≡ turnOf x state marks go
 unfolding turnWith
 turn-of state room e marks go = rw (long state room) (ap (λ (x : Next). turnOf x state marks go) e)
 
 module _ (state : List ℕ) (room : stateBytes ≤ length state) (b : Buffers) where
-  abbrev go : (index owner lines : ℕ) → Outcome (List ℕ)
+  abbrev go : (index owner lines : ℕ) → DeskTurn (List ℕ)
   go = turnPacked (b .n) (whole32 (b .table)) (b .set) (whole16 (b .sheet))
 
   -- the state behind it
@@ -61,7 +61,7 @@ module _ (state : List ℕ) (room : stateBytes ≤ length state) (b : Buffers) w
   turn-nothing-left e = ap (λ (x : Turn). x .state) (turn-of state room e (b .set) go)
 
 -- a turn that is lent too few bytes
-turn-of-short : (state : List ℕ) → length state < stateBytes → (marks : List ℕ) (go : (index owner lines : ℕ) → Outcome (List ℕ))
+turn-of-short : (state : List ℕ) → length state < stateBytes → (marks : List ℕ) (go : (index owner lines : ℕ) → DeskTurn (List ℕ))
     → turnWith state marks go ≡ record { answer = turned.Refused 22; state = state; marks = marks }
 unfolding turnWith
 turn-of-short state h marks go = rw (short state h)

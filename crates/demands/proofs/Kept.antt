@@ -29,8 +29,8 @@ use Rattle.argument.proofs.Safe.{sheet-safe}
 use Rattle.sheets.specs.Rules.{rulesBetween, markingBetween}
 use Rattle.sheets.specs.Sheet.{wholeSheet}
 use Rattle.marking.specs.Mark.{markTested, turnedDown}
-use Rattle.marking.specs.declared.tests.Tested.{Tested}
-use Rattle.marking.specs.declared.tests.Tested.the-variants.{Points, Refused}
+use Rattle.admission.specs.declared.tested.Tested.{Tested}
+use Rattle.admission.specs.declared.tested.Tested.the-variants.{Points, Refused}
 use Rattle.demands.proofs.Lawful.{lawful-between}
 use Rattle.demands.proofs.Monotone.{LengthsBetween, feasible-over, closes-under}
 use Rattle.demands.proofs.Optimal.{OwnPair, optimal-feasible, optimal-not-closed}

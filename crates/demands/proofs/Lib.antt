@@ -32,6 +32,7 @@ pub mod SheetLines
 pub mod Sizes
 pub mod Slips
 pub mod Strikes
+pub mod TestNumbers
 pub mod TextTables
 pub mod ToldLines
 pub mod ToldLinesInC

@@ -18,17 +18,15 @@ use Rattle.argument.specs.Rules.{NamesFeasible, single}
 use Rattle.argument.proofs.Complete.{named-list}
 use Rattle.argument.proofs.Tests.{fits-means}
 use Rattle.sheets.specs.Rules.{rulesWhere}
-use Rattle.limits.proofs.LimitWays.{passed-between}
-use Rattle.marking.proofs.Tested.{passed}
+use Rattle.admission.proofs.Passed.{passed-between, passed}
 use Rattle.enumeration.specs.Find.{pairsAt, numbersOf}
-use Rattle.limits.specs.Tests.{testedBetween}
-use Rattle.limits.specs.Listing.{listedBetween}
+use Rattle.admission.specs.Tests.{testedBetween, tested}
+use Rattle.marking.specs.ListBetween.{listedBetween}
 use Rattle.marking.specs.Listing.{listTested, listed, listLeft, placesOf}
-use Rattle.marking.specs.Tests.{tested}
 use Rattle.marking.specs.declared.listing.Listed.{Listed}
 use Rattle.marking.specs.declared.listing.Listed.the-variants as listing
-use Rattle.marking.specs.declared.tests.Tested.{Tested}
-use Rattle.marking.specs.declared.tests.Tested.the-variants.{Points, Refused}
+use Rattle.admission.specs.declared.tested.Tested.{Tested}
+use Rattle.admission.specs.declared.tested.Tested.the-variants.{Points, Refused}
 use Rattle.demands.specs.Listed.{ListsBetween, ListsFeasible}
 use Rattle.demands.proofs.Lawful.{lawful-where}
 use Rattle.lists.proofs.Tests.{answered}

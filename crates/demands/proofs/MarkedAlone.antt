@@ -20,10 +20,10 @@ use Rattle.argument.specs.Sheet.{answer}
 use Rattle.sheets.specs.Sheet.{wholeSheet}
 use Rattle.sheets.specs.declared.verdict.Verdict as declared
 use Rattle.sheets.specs.declared.verdict.Verdict.the-variants as verdict
-use Rattle.marking.specs.Tests.{tested, untilPending, ready}
-use Rattle.marking.specs.declared.tests.Tested.{Tested}
-use Rattle.marking.specs.declared.tests.Tested.the-variants as tests
-use Rattle.marking.proofs.Tested.{passed}
+use Rattle.admission.specs.Tests.{tested, untilPending, ready}
+use Rattle.admission.specs.declared.tested.Tested.{Tested}
+use Rattle.admission.specs.declared.tested.Tested.the-variants as tests
+use Rattle.admission.proofs.Passed.{passed}
 use Rattle.desks.specs.HandIn.{isDesk, untilSheet, testedSheet, handInAnswer, handInBy, handInLeft}
 use Rattle.desks.specs.State.{stateBytes, lent, nextIndex, owner, linesAt, setDesk, hasLine, nextDesk}
 use Rattle.desks.specs.declared.handing.Handed.{Handed}
@@ -45,6 +45,7 @@ use Rattle.demands.proofs.Fair.{found-asked, state-served, turn-nothing
 use Rattle.demands.proofs.Fair as fair
 use Rattle.demands.proofs.Slips.{marked-slip}
 use Rattle.demands.proofs.OwnTurns.{sheet-passed, Going, Gone, going-line, goes, going-start}
+use Rattle.demands.proofs.TestNumbers.{ready-number}
 
 -- the desk d with its n, the table and the sheet as bytes, the packed set at handing in, and that the sheet passed its tests
 module _ (d n : ℕ) (table set₀ s : List ℕ) (tests-passed : ready n (whole32 table) (marksOf n set₀) ≡ tests.Points n)
@@ -156,18 +157,11 @@ Numbered handed.Done = Unit {0}
 Numbered (handed.Refused k) = 1 ≤ k
 
 ready-numbered : (n : ℕ) (table marks : List ℕ) → NumberedTest (ready n table marks)
-unfolding ready tested
-ready-numbered n table marks =
-    pending (tested n table marks)
-    (either NumberedTest (inRange n) (omega arith)
-    (either NumberedTest (eqb (length table) (edgeCount n)) (omega arith)
-    (either NumberedTest (allAtMost mostLength table) (omega arith)
-    (either NumberedTest (eqb (length marks) (edgeCount n)) (omega arith)
-    (either NumberedTest (areMarks marks) (omega arith) tt)))))
+ready-numbered n table marks = by (ready n table marks) refl
   where
-    pending : (t : Tested) → NumberedTest t → NumberedTest (untilPending t marks)
-    pending (tests.Refused k) h = h
-    pending (tests.Points p) h = either NumberedTest (nonePending marks) (omega arith) tt
+    by : (t : Tested) → ready n table marks ≡ t → NumberedTest t
+    by (tests.Points p) e = tt
+    by (tests.Refused k) e = ready-number (λ j. 1 ≤ j) (omega arith) (omega arith) (omega arith) (omega arith) (omega arith) n table marks k e
 
 hand-in-numbered : (state : List ℕ) (d n : ℕ) (table marks s : List ℕ) → Numbered (handInAnswer state d n table marks s)
 unfolding handInAnswer testedSheet

@@ -19,15 +19,16 @@ use Rattle.lengths.specs.declared.distance.NamedRule.the-variants.{Known}
 use Rattle.lengths.specs.declared.distance.Root.the-variants.{Euc2d, Ceil2d, Att}
 use Rattle.lengths.specs.declared.distance.Rule.{Rule}
 use Rattle.lengths.specs.declared.distance.Rule.the-variants.{Rooted, Man2d, Max2d}
-use Rattle.lengths.specs.declared.measure.Measured.{Measured}
-use Rattle.lengths.specs.declared.measure.Measured.the-variants.{Done, Refused}
+use Rattle.lengths.specs.declared.outcome.Outcome.{Outcome}
+use Rattle.lengths.specs.declared.outcome.Outcome.the-variants.{Done, Refused}
 use Rattle.lengths.proofs.Coordinates.{x-small, y-small, squares-small}
 use Rattle.lengths.proofs.Distances.{distance-euc2d, euc2d-only, distance-ceil2d, ceil2d-only, distance-att, att-only, distance-man2d, man2d-only, distance-max2d, max2d-only}
 use Rattle.lengths.proofs.Filling.{length-measured, measured-again, measured-length}
 use Rattle.lengths.proofs.Limits.{limit-each}
 use Rattle.lengths.proofs.Tables.{length-self}
-use Rattle.marking.proofs.Tested.{range-admits}
-use Rattle.revosti.specs.Measure.{measuredNumber, MeasuredInC}
+use Rattle.admission.proofs.Passed.{range-admits}
+use Rattle.revosti.specs.Measure.{MeasuredInC}
+use Rattle.revosti.specs.Outcome.{outcomeNumber}
 use Rattle.demands.specs.Measured.{IsDistance, Measures}
 use Rattle.lists.proofs.Tests.{answered}
 
@@ -144,18 +145,18 @@ demand-2-measure n rule cs table h =
 -- number above 0.
 pub demand-2-measure-in-C : {n rule : ℕ} {cs table left : List ℕ} {r : ℕ} → MeasuredInC n rule cs table r left → r ≡ 0
     → Measures n rule cs (whole32 left)
-unfolding measured measuredNumber
+unfolding measured outcomeNumber
 demand-2-measure-in-C {n} {rule} {cs} {table} m z =
     let size = length (whole32 table) in
     rw (m .table-left)
     (demand-2-measure n rule cs table
     (by (inRange n) (eqb (length cs) (2 * n)) (eqb size (edgeCount n)) (known (ruleOf rule)) (allAtMost mostCoordinate cs) (sym (m .answered) ∙ z)))
   where
-    answer : (a b c d e : Bool) → Measured
+    answer : (a b c d e : Bool) → Outcome
     answer a b c d e =
         unless a (Refused 1 0) (unless b (Refused 2 0) (unless c (Refused 2 0) (unless d (Refused 3 0) (unless e (Refused 4 0) Done))))
 
-    by : (a b c d e : Bool) → measuredNumber (answer a b c d e) ≡ 0 → answer a b c d e ≡ Done
+    by : (a b c d e : Bool) → outcomeNumber (answer a b c d e) ≡ 0 → answer a b c d e ≡ Done
     by false b c d e h = absurd (omega arith)
     by true false c d e h = absurd (omega arith)
     by true true false d e h = absurd (omega arith)

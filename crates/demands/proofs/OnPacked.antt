@@ -16,37 +16,32 @@ use Rattle.lengths.proofs.Edges.{edgeCount-tri, tri-suc, tri-mono, three-way}
 use Rattle.lengths.proofs.Instances.{in-range}
 use Rattle.lists.specs.Test.{allAtMost, eachAtMost, unless}
 use Rattle.marks.specs.Converting.{isByteSet, packAnswer, packLeft, unpackAnswer, unpackLeft}
-use Rattle.marks.specs.declared.converting.Converted.{Converted}
-use Rattle.marks.specs.declared.converting.Converted.the-variants as converted
+use Rattle.lengths.specs.declared.outcome.Outcome.{Outcome}
+use Rattle.lengths.specs.declared.outcome.Outcome.the-variants as outcome
 use Rattle.marks.specs.Mark.{struckMark, areMarks}
 use Rattle.marks.specs.Fresh.{freshAnswer, freshSetAnswer, freshLeft, freshSetLeft}
-use Rattle.marks.specs.declared.fresh.Fresh.{Fresh}
-use Rattle.marks.specs.declared.fresh.Fresh.the-variants as fresh
 use Rattle.marks.specs.Packed.{ByteSet, packedBytes, packedSize, packed, wellPacked, marksOf, repacked}
 use Rattle.marks.specs.Pending.{settledAnswer, settledLeft, settledSetAnswer, settledSet}
-use Rattle.marks.specs.declared.pending.Settled.{Settled}
-use Rattle.marks.specs.declared.pending.Settled.the-variants as settled
 use Rattle.marks.proofs.PackedSets.{packed-length, well-packed, marks-none, marks-size, marks-are, packed-marks, repacked-same, packed-is-well, marks-packed, some-edges}
-use Rattle.limits.specs.Tests.{testedLimits, untilMarks, testedBetween, readyBetween}
-use Rattle.limits.specs.Mark.{markBetween, markBetweenPacked}
-use Rattle.limits.specs.Listing.{listedBetween}
+use Rattle.admission.specs.Tests.{testedTable, testedLimits, untilMarks, testedBetween, readyBetween, tested, untilPending, ready}
+use Rattle.marking.specs.MarkBetween.{markBetween, markBetweenPacked}
+use Rattle.marking.specs.ListBetween.{listedBetween}
 use Rattle.marking.specs.Listing.{listTested, listed, listLeft}
 use Rattle.marking.specs.Mark.{turnedDown, markTested, markBy, packedResult, repack, markPackedBy}
-use Rattle.marking.specs.Tests.{tested, untilPending, ready}
-use Rattle.marking.specs.Tour.{checkTested, tourChecked}
+use Rattle.tour_check.specs.Tour.{checkTested, tourChecked}
 use Rattle.sheets.specs.declared.verdict.Verdict.the-variants as verdict
 use Rattle.desks.specs.State.{lent, nextIndex, owner, linesAt, nextDesk}
-use Rattle.desks.specs.Turn.{Outcome, servedOf, turnTested, turnMarks, repackOutcome, turnPacked, servedLeft, Turn, turnOf, turnWith, turnOnMarks, turn}
+use Rattle.desks.specs.Turn.{DeskTurn, servedOf, turnTested, turnMarks, repackDeskTurn, turnPacked, servedLeft, Turn, turnOf, turnWith, turnOnMarks, turn}
 use Rattle.desks.specs.declared.state.Next.{Next}
 use Rattle.desks.specs.declared.state.Next.the-variants as next
 use Rattle.desks.specs.declared.turn.Served.the-variants.{Ended}
 use Rattle.desks.specs.declared.turn.Turned.the-variants as turned
-use Rattle.marking.specs.declared.tests.Tested.{Tested}
-use Rattle.marking.specs.declared.tests.Tested.the-variants.{Points, Refused}
+use Rattle.admission.specs.declared.tested.Tested.{Tested}
+use Rattle.admission.specs.declared.tested.Tested.the-variants.{Points, Refused}
 
 -- what a turn leaves, with the marks packed
-abbrev packedOutcome : Outcome (List ℕ) → Outcome (List ℕ)
-packedOutcome r = servedOf (r .served) (packed (r .marks))
+abbrev packedDeskTurn : DeskTurn (List ℕ) → DeskTurn (List ℕ)
+packedDeskTurn r = servedOf (r .served) (packed (r .marks))
 
 abbrev pub packedTurn : Turn → Turn
 packedTurn t = record { answer = t .answer; state = t .state; marks = packed (t .marks) }
@@ -98,26 +93,25 @@ record Shared (tests : List ℕ → Tested) (n : ℕ) : Type 0 where
   pub wrong : (marks : List ℕ) → eqb (length marks) (edgeCount n) ≡ false → tests marks ≡ Refused number
 
 pub out-of-limits : (n : ℕ) (table marks : List ℕ) → inRange n ≡ false → tested n table marks ≡ Refused 1
-unfolding tested
-out-of-limits n table marks h = rw (tested, h)
+unfolding tested testedTable
+out-of-limits n table marks h = rw (tested, testedTable, h)
 
 -- those over one table, and over two (Paper 11)
 shared-tested : (n : ℕ) (table : List ℕ) → Shared (tested n table) n
-unfolding tested
+unfolding tested testedTable
 shared-tested n table =
     record {
       outside = λ h marks. out-of-limits n table marks h;
       number = unless (inRange n) 1 (unless (eqb (length table) (edgeCount n)) 2 (unless (allAtMost mostLength table) 5 6));
-      wrong = λ marks h. by (inRange n) (eqb (length table) (edgeCount n)) (allAtMost mostLength table) (areMarks marks) (eqb (length marks) (edgeCount n)) h;
+      wrong = λ marks h. by marks h (inRange n) (eqb (length table) (edgeCount n)) (allAtMost mostLength table);
     }
   where
-    by : (a t l m w : Bool) → w ≡ false →
-        unless a (Refused 1) (unless t (Refused 2) (unless l (Refused 5) (unless w (Refused 6) (unless m (Refused 6) (Points n))))) ≡ Refused (unless a 1 (unless t 2 (unless l 5 6)))
-    by false t l m w h = refl
-    by true false l m w h = refl
-    by true true false m w h = refl
-    by true true true m false h = refl
-    by true true true m true h = absurd (true≢false h)
+    by : (marks : List ℕ) → eqb (length marks) (edgeCount n) ≡ false → (a t l : Bool) →
+        untilMarks (unless a (Refused 1) (unless t (Refused 2) (unless l (Refused 5) (Points n)))) marks ≡ Refused (unless a 1 (unless t 2 (unless l 5 6)))
+    by marks h false t l = refl
+    by marks h true false l = refl
+    by marks h true true false = refl
+    by marks h true true true = rw h
 
 shared-between : (n : ℕ) (low high : List ℕ) → Shared (testedBetween n low high) n
 unfolding testedBetween testedLimits
@@ -200,16 +194,16 @@ module _ {p : ℕ} {bytes : List ℕ} (some : leastPoints ≤ p) (b : ByteSet p 
   mark-between-on-packed low high s = marked-alike (testedBetween n low high) (shared-between n low high) low high struckMark s
 
   -- TURNS (Paper 14), whatever the desks' state is: a desk's own, and then the whole call
-  turned-alike : (table s : List ℕ) (index owner lines : ℕ) → turnPacked n table (packed bytes) s index owner lines ≡ packedOutcome (turnMarks n table bytes s index owner lines)
+  turned-alike : (table s : List ℕ) (index owner lines : ℕ) → turnPacked n table (packed bytes) s index owner lines ≡ packedDeskTurn (turnMarks n table bytes s index owner lines)
   unfolding turnPacked turnMarks ready repacked
   turned-alike table s index owner lines = on (alike (tested n table) (shared-tested n table) (meet some b n))
     where
-      on : Alike (tested n table) n bytes → turnPacked n table (packed bytes) s index owner lines ≡ packedOutcome (turnMarks n table bytes s index owner lines)
+      on : Alike (tested n table) n bytes → turnPacked n table (packed bytes) s index owner lines ≡ packedDeskTurn (turnMarks n table bytes s index owner lines)
       on (refused k f g) =
-          ap (λ (t : Tested). repackOutcome n (packed bytes) (turnTested (untilPending t (marksOf n (packed bytes))) table (marksOf n (packed bytes)) s index owner lines)) f
+          ap (λ (t : Tested). repackDeskTurn n (packed bytes) (turnTested (untilPending t (marksOf n (packed bytes))) table (marksOf n (packed bytes)) s index owner lines)) f
           ∙ ap (servedOf (Ended (verdict.Refused k 0 lines))) (repacked-same n (packed bytes))
-          ∙ sym (ap (λ (t : Tested). packedOutcome (turnTested (untilPending t bytes) table bytes s index owner lines)) g)
-      on (held w e) = ap (λ (m : List ℕ). repackOutcome n (packed bytes) (turnTested (untilPending (tested n table m) m) table m s index owner lines)) e ∙ rw w
+          ∙ sym (ap (λ (t : Tested). packedDeskTurn (turnTested (untilPending t bytes) table bytes s index owner lines)) g)
+      on (held w e) = ap (λ (m : List ℕ). repackDeskTurn n (packed bytes) (turnTested (untilPending (tested n table m) m) table m s index owner lines)) e ∙ rw w
 
   pub turn-on-packed : (state table s : List ℕ) → turn state n table (packed bytes) s ≡ packedTurn (turnOnMarks state n table bytes s)
   unfolding turnWith
@@ -218,7 +212,7 @@ module _ {p : ℕ} {bytes : List ℕ} (some : leastPoints ≤ p) (b : ByteSet p 
       served : (d : Next) → turnOf d state (packed bytes) (turnPacked n table (packed bytes) s) ≡ packedTurn (turnOf d state bytes (turnMarks n table bytes s))
       served next.NoLine = refl
       served (next.Desk d) =
-          ap (λ (r : Outcome (List ℕ)). record { answer = turned.Desk d (r .served); state = servedLeft (r .served) state d; marks = r .marks })
+          ap (λ (r : DeskTurn (List ℕ)). record { answer = turned.Desk d (r .served); state = servedLeft (r .served) state d; marks = r .marks })
           (turned-alike table s (nextIndex state d) (owner state d) (linesAt state d))
 
       room : (r : Bool) →
@@ -242,12 +236,12 @@ module _ {p : ℕ} {bytes : List ℕ} (some : leastPoints ≤ p) (b : ByteSet p 
   settle-on-packed mark = on (meet some b n)
     where
       -- a refusal leaves both sets as they are
-      kept : (k : ℕ) → settledAnswer n (marksOf n (packed bytes)) ≡ settled.Refused k 0 → settledAnswer n bytes ≡ settled.Refused k 0
+      kept : (k : ℕ) → settledAnswer n (marksOf n (packed bytes)) ≡ outcome.Refused k 0 → settledAnswer n bytes ≡ outcome.Refused k 0
           → settledSet mark n (packed bytes) ≡ packed (settledLeft (settledAnswer n bytes) mark bytes)
       kept k f g =
-          ap (λ (r : Settled). repacked n (packed bytes) (settledLeft r mark (marksOf n (packed bytes)))) f
+          ap (λ (r : Outcome). repacked n (packed bytes) (settledLeft r mark (marksOf n (packed bytes)))) f
           ∙ repacked-same n (packed bytes)
-          ∙ sym (ap (λ (r : Settled). packed (settledLeft r mark bytes)) g)
+          ∙ sym (ap (λ (r : Outcome). packed (settledLeft r mark bytes)) g)
 
       on : Meeting n bytes → settledSet mark n (packed bytes) ≡ packed (settledLeft (settledAnswer n bytes) mark bytes)
       on (outside h) = kept 1 (rw h) (rw h)
@@ -290,16 +284,16 @@ module _ {p : ℕ} {bytes : List ℕ} (some : leastPoints ≤ p) (b : ByteSet p 
       on : Meeting n bytes → freshSetAnswer n (length (packed bytes)) ≡ freshAnswer n (length bytes)
       on (outside h) = rw h
       on (stated w e) =
-          ap (λ (t : Bool). unless (inRange n) (fresh.Refused 1 0) (unless t (fresh.Refused 6 0) fresh.Done)) (eq-eqb (length (packed bytes)) (packedSize n) (well-packed n (packed bytes) w .size)
+          ap (λ (t : Bool). unless (inRange n) (outcome.Refused 1 0) (unless t (outcome.Refused 6 0) outcome.Done)) (eq-eqb (length (packed bytes)) (packedSize n) (well-packed n (packed bytes) w .size)
           ∙ sym (eq-eqb (length bytes) (edgeCount n) (sym (ap length e) ∙ marks-size n (packed bytes) w)))
       on (other r s q z e) = rw (r, s, q)
 
   pub fresh-on-packed : freshSetLeft (freshSetAnswer n (length (packed bytes))) n (packed bytes) ≡ packed (freshLeft (freshAnswer n (length bytes)) n bytes)
-  fresh-on-packed = ap (λ (r : Fresh). freshSetLeft r n (packed bytes)) fresh-on-packed-answer ∙ by (freshAnswer n (length bytes))
+  fresh-on-packed = ap (λ (r : Outcome). freshSetLeft r n (packed bytes)) fresh-on-packed-answer ∙ by (freshAnswer n (length bytes))
     where
-      by : (r : Fresh) → freshSetLeft r n (packed bytes) ≡ packed (freshLeft r n bytes)
-      by fresh.Done = refl
-      by (fresh.Refused k rec) = refl
+      by : (r : Outcome) → freshSetLeft r n (packed bytes) ≡ packed (freshLeft r n bytes)
+      by outcome.Done = refl
+      by (outcome.Refused k rec) = refl
 
 -- CONVERTING, with n within the limits and buffers of the right sizes: packing a byte set gives its packed set, and unpacking that gives the old bytes
 module _ (n : ℕ) (range : inRange n ≡ true) where
@@ -307,12 +301,12 @@ module _ (n : ℕ) (range : inRange n ≡ true) where
       → unpackLeft (unpackAnswer n (packLeft (packAnswer n bytes (length set)) bytes set) (length back)) n (packLeft (packAnswer n bytes (length set)) bytes set) back ≡ bytes
   unfolding packAnswer unpackAnswer isByteSet
   there-and-back bytes set back b r l =
-      let packs : packAnswer n bytes (length set) ≡ converted.Done
+      let packs : packAnswer n bytes (length set) ≡ outcome.Done
       = rw (range, eq-eqb (length bytes) (edgeCount n) (b .size), b .are, eq-eqb (length set) (packedSize n) r) in
-      let unpacks : unpackAnswer n (packed bytes) (length back) ≡ converted.Done
+      let unpacks : unpackAnswer n (packed bytes) (length back) ≡ outcome.Done
       = rw (range, packed-is-well b, eq-eqb (length back) (edgeCount n) l) in
-      ap (λ (c : Converted). unpackLeft (unpackAnswer n (packLeft c bytes set) (length back)) n (packLeft c bytes set) back) packs
-      ∙ ap (λ (c : Converted). unpackLeft c n (packed bytes) back) unpacks
+      ap (λ (c : Outcome). unpackLeft (unpackAnswer n (packLeft c bytes set) (length back)) n (packLeft c bytes set) back) packs
+      ∙ ap (λ (c : Outcome). unpackLeft c n (packed bytes) back) unpacks
       ∙ marks-packed b
 
   -- and unpacking a well packed set and packing the bytes gives the old quarters
@@ -320,9 +314,9 @@ module _ (n : ℕ) (range : inRange n ≡ true) where
       → packLeft (packAnswer n (unpackLeft (unpackAnswer n set (length bytes)) n set bytes) (length again)) (unpackLeft (unpackAnswer n set (length bytes)) n set bytes) again ≡ set
   unfolding packAnswer unpackAnswer isByteSet
   back-and-there set bytes again w l r =
-      let unpacks : unpackAnswer n set (length bytes) ≡ converted.Done = rw (range, w, eq-eqb (length bytes) (edgeCount n) l) in
-      let packs : packAnswer n (marksOf n set) (length again) ≡ converted.Done
+      let unpacks : unpackAnswer n set (length bytes) ≡ outcome.Done = rw (range, w, eq-eqb (length bytes) (edgeCount n) l) in
+      let packs : packAnswer n (marksOf n set) (length again) ≡ outcome.Done
       = rw (range, eq-eqb (length (marksOf n set)) (edgeCount n) (marks-size n set w), marks-are n set, eq-eqb (length again) (packedSize n) r) in
-      ap (λ (c : Converted). packLeft (packAnswer n (unpackLeft c n set bytes) (length again)) (unpackLeft c n set bytes) again) unpacks
-      ∙ ap (λ (c : Converted). packLeft c (marksOf n set) again) packs
+      ap (λ (c : Outcome). packLeft (packAnswer n (unpackLeft c n set bytes) (length again)) (unpackLeft c n set bytes) again) unpacks
+      ∙ ap (λ (c : Outcome). packLeft c (marksOf n set) again) packs
       ∙ packed-marks n set w

@@ -36,14 +36,16 @@ use Rattle.sheets.specs.declared.verdict.Verdict as declared
 use Rattle.sheets.specs.declared.verdict.Verdict.the-variants as verdict
 use Rattle.sheets.proofs.Records.{sheet-records}
 use Rattle.marking.specs.Mark.{markBy, repack, markPackedBy}
-use Rattle.marking.specs.Tests.{tested, ready}
-use Rattle.marking.specs.declared.tests.Tested.{Tested}
-use Rattle.marking.specs.declared.tests.Tested.the-variants as tests
+use Rattle.admission.specs.Tested.{markTests}
+use Rattle.admission.specs.Tests.{testedTable, untilMarks, untilPending, tested, ready}
+use Rattle.admission.specs.declared.tested.Tested.{Tested}
+use Rattle.admission.specs.declared.tested.Tested.the-variants as tests
 use Rattle.marking.proofs.MarkingSheets.{struck-set}
-use Rattle.marking.proofs.Tested.{not-points, both-passed, passed-well, passed, ready-tested}
+use Rattle.admission.proofs.Deciding.{until-passed}
+use Rattle.admission.proofs.Passed.{both-passed, passed-well, passed, ready-tested}
 use Rattle.desks.specs.HandIn.{untilSheet, testedSheet}
 use Rattle.desks.specs.State.{stateBytes, nextIndex, owner, linesAt, setDesk, hasLine, nextDesk}
-use Rattle.desks.specs.Turn.{Outcome, servedOf, waiting, ahead, stepServed, turnFrom, turnMarks, repackOutcome, turnPacked, servedLeft, Turn}
+use Rattle.desks.specs.Turn.{DeskTurn, servedOf, waiting, ahead, stepServed, turnFrom, turnMarks, repackDeskTurn, turnPacked, servedLeft, Turn}
 use Rattle.desks.specs.asks.State.{DeskAsked}
 use Rattle.desks.specs.declared.handing.Handed.the-variants as handed
 use Rattle.desks.specs.declared.state.Next.the-variants as next
@@ -81,11 +83,9 @@ ready-again : (n : ℕ) (table marks left : List ℕ) → ready n table marks �
     ready n table left ≡ tests.Points n
 unfolding ready tested
 ready-again n table marks left h b none =
-    let t = ready-tested {table = table} {marks = marks} h .tests in
-    let p1 = answered (inRange n) _ _ (tests.Points n) not-points t in
-    let p2 = answered (eqb (length table) (edgeCount n)) _ _ (tests.Points n) not-points (p1 .1) in
-    let p3 = answered (allAtMost mostLength table) _ _ (tests.Points n) not-points (p2 .1) in
-    rw (p1 .0, p2 .0, p3 .0, eq-eqb (length left) (edgeCount n) (b .size), b .are, none)
+    let t = until-passed (testedTable n table) (markTests marks) (ready-tested {table = table} {marks = marks} h .tests) .0 in
+    let again : untilPending (untilMarks (tests.Points n) left) left ≡ tests.Points n = rw (eq-eqb (length left) (edgeCount n) (b .size), b .are, none) in
+    ap (λ (x : Tested). untilPending (untilMarks x left) left) t ∙ again
 
 -- a struck edge leaves nothing pending
 none-struck : (n : ℕ) (marks : List ℕ) (a b : ℕ) → nonePending marks ≡ true → nonePending (markIn struckMark n marks a b) ≡ true
@@ -150,7 +150,7 @@ module _ (d n : ℕ) (table set₀ s : List ℕ) (tests-passed : ready n (whole3
       ≡ servedOf (turnFrom 𝓜 (whole16 s) (waiting m i o l) .served) (packed (turnFrom 𝓜 (whole16 s) (waiting m i o l) .marks))
   unfolding turnPacked turnMarks repacked
   line-here m i o l b none =
-      ap (λ (y : List ℕ). repackOutcome n (packed m) (turnMarks n (whole32 table) y (whole16 s) i o l)) (marks-packed b)
+      ap (λ (y : List ℕ). repackDeskTurn n (packed m) (turnMarks n (whole32 table) y (whole16 s) i o l)) (marks-packed b)
       ∙ rw (packed-is-well b, ready-again n (whole32 table) before m tests-passed b none, whole)
 
   -- a desk whose next line waits: a chain of complete lines led there, with as many turns, and the desk's numbers say
@@ -193,7 +193,7 @@ module _ (d n : ℕ) (table set₀ s : List ℕ) (tests-passed : ready n (whole3
     abbrev q⁰ : Place (List ℕ)
     q⁰ = waiting (q .marks) (q .index) (q .last) (q .lines)
 
-    abbrev outcome : Outcome (List ℕ)
+    abbrev outcome : DeskTurn (List ℕ)
     outcome = turnFrom 𝓜 (whole16 s) q⁰
 
     asked : DeskAsked (x .state) d
@@ -226,7 +226,7 @@ module _ (d n : ℕ) (table set₀ s : List ℕ) (tests-passed : ready n (whole3
         { answer = turned.Desk d (outcome .served); state = after .state; marks = after .set }
     turns-to =
         turn-of (x .state) (g .room) mine (x .set) (turnPacked n (whole32 table) (x .set) (whole16 s))
-        ∙ ap (λ (r : Outcome (List ℕ)). record
+        ∙ ap (λ (r : DeskTurn (List ℕ)). record
         { answer = turned.Desk d (r .served); state = servedLeft (r .served) (x .state) d; marks = r .marks }) turn-here
 
     abbrev pub seen : Seen
@@ -249,7 +249,7 @@ module _ (d n : ℕ) (table set₀ s : List ℕ) (tests-passed : ready n (whole3
         let result : sheet 𝓜 (whole16 s) before ≡ answer p w = sym (g .goes-on) ∙ l in
         let to : markInC struckMark n table set₀ s ≡ repack n set₀ (answer p w) = alone ∙ ap (repack n set₀) result in
         let state-as : after .state ≡ servedLeft (served.Ended v) (x .state) d = ap
-        (λ (o : Outcome (List ℕ)). servedLeft (o .served) (x .state) d) e in
+        (λ (o : DeskTurn (List ℕ)). servedLeft (o .served) (x .state) d) e in
         let zero-lines : linesAt (servedLeft (served.Ended v) (x .state) d) d ≡ 0
         = served-number asked (served.Ended v) (3 * d) (omega (arith, asked .low)) ∙ desk-lines asked 0 0 0 in
         let zero-index : nextIndex (servedLeft (served.Ended v) (x .state) d) d ≡ 0
@@ -262,9 +262,9 @@ module _ (d n : ℕ) (table set₀ s : List ℕ) (tests-passed : ready n (whole3
               (omega (arith, zero-lines, zero-index));
           few = omega (arith, g .low, g .above, g .inside);
           ended = record {
-            answered = ap (λ (o : Outcome (List ℕ)). servedNumber (o .served) + deskBit * d) e
+            answered = ap (λ (o : DeskTurn (List ℕ)). servedNumber (o .served) + deskBit * d) e
                 ∙ ap (λ (y : ℕ). y + deskBit * d) (r ∙ ap resultNumber (sym to));
-            marked = ap (λ (o : Outcome (List ℕ)). packed (o .marks)) e ∙ sym (ap (λ (y : Result (List ℕ)). y .marks) to ∙ rw well);
+            marked = ap (λ (o : DeskTurn (List ℕ)). packed (o .marks)) e ∙ sym (ap (λ (y : Result (List ℕ)). y .marks) to ∙ rw well);
           };
         } in
         subst (Gone (suc k)) (sym seen-after) there
@@ -326,7 +326,7 @@ module _ (d n : ℕ) (table set₀ s : List ℕ) (tests-passed : ready n (whole3
           let o : outcome ≡ servedOf (served.Waits (p .index) (p .last) (p .lines)) (p .marks) = outcome-here
           ∙ ap (λ (z : Served). servedOf z (p .marks)) (sym e) in
           let r : Served = served.Waits (p .index) (p .last) (p .lines) in
-          let state-as : after .state ≡ servedLeft r (x .state) d = ap (λ (z : Outcome (List ℕ)). servedLeft (z .served) (x .state) d) o in
+          let state-as : after .state ≡ servedLeft r (x .state) d = ap (λ (z : DeskTurn (List ℕ)). servedLeft (z .served) (x .state) d) o in
           let rises = step-rises 𝓜 (whole16 s) q p step-here in
           let kept = step-keeps 𝓜 (λ (m : List ℕ). ByteSet n m × (nonePending m ≡ true))
           (λ m a b h. (struck-set struckMark n (omega arith) m a b (h .0), none-struck n m a b (h .1)))
@@ -340,7 +340,7 @@ module _ (d n : ℕ) (table set₀ s : List ℕ) (tests-passed : ready n (whole3
             place = p;
             chain = chain-on 𝓜 (whole16 s) (g .lines) (start before) q (g .chain) y entered complete;
             goes-on = sym goes-further ∙ g .goes-on;
-            marked = ap (λ (z : Outcome (List ℕ)). packed (z .marks)) o;
+            marked = ap (λ (z : DeskTurn (List ℕ)). packed (z .marks)) o;
             bytes = kept .0;
             none = kept .1;
             index = ap (λ (z : List ℕ). nextIndex z d) state-as ∙ served-number asked r (3 * d - 2) (omega (arith, asked .low))
@@ -353,7 +353,7 @@ module _ (d n : ℕ) (table set₀ s : List ℕ) (tests-passed : ready n (whole3
             low = omega (arith, g .low, g .above, rises .1);
             above = above;
             inside = inside;
-            answered = λ h. ap (λ (z : Outcome (List ℕ)). servedNumber (z .served) + deskBit * d) o
+            answered = λ h. ap (λ (z : DeskTurn (List ℕ)). servedNumber (z .served) + deskBit * d) o
                 ∙ ap (λ (m : ℕ). 16777216 * m + lineLeftBit + deskBit * d) lines-now;
           } in
           subst (Going (suc k)) (sym seen-after) there

@@ -18,8 +18,8 @@ use Rattle.marks.proofs.Settling.{settled-byte-set}
 use Rattle.tours.specs.Tour.{Shortest, ThreeOptimal}
 use Rattle.argument.specs.Sheet.{run}
 use Rattle.argument.proofs.Safe.{run-keeps}
-use Rattle.limits.specs.Mark.{markBetween}
-use Rattle.limits.specs.Tests.{readyBetween}
+use Rattle.marking.specs.MarkBetween.{markBetween}
+use Rattle.admission.specs.Tests.{readyBetween}
 use Rattle.marking.proofs.PackedSheets.{mark-byte-set, tested-byte-set}
 use Rattle.demands.specs.Keeping.{OrderFree, KeepsTours}
 use Rattle.demands.specs.Run.{Tables, Step, marking, asking, confirming, withdrawing, marking-between, turning, stepped, stepsOf, steppedPacked, stepsPacked, steppedInC, stepsInC, stepIn, lengthsIn, freshIn}

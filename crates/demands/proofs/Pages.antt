@@ -13,10 +13,10 @@ use Rattle.lists.specs.Test.{unless}
 use Rattle.endian.specs.Bytes.{whole32}
 use Rattle.marks.specs.Packed.{packed, marksOf}
 use Rattle.marks.proofs.PackedSets.{whole-well, packed-marks}
-use Rattle.marking.specs.Tests.{tested}
-use Rattle.marking.specs.declared.tests.Tested.{Tested}
-use Rattle.marking.specs.declared.tests.Tested.the-variants as tests
-use Rattle.marking.proofs.Tested.{passed}
+use Rattle.admission.specs.Tests.{tested}
+use Rattle.admission.specs.declared.tested.Tested.{Tested}
+use Rattle.admission.specs.declared.tested.Tested.the-variants as tests
+use Rattle.admission.proofs.Passed.{passed}
 use Rattle.pages.specs.AllPages.{Board, readInto, readPages}
 use Rattle.pages.specs.Page.{pageCount, isPage, pageText}
 use Rattle.pages.specs.PageOf.{Instance, PageOf, WrongPage}

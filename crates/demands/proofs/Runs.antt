@@ -14,8 +14,8 @@ use Rattle.lengths.proofs.Tables.{length-symmetric}
 use Rattle.marks.specs.Fresh.{freshMarks}
 use Rattle.marks.specs.Mark.{markAt, struckMark, openMark, pendingMark, openUpTo}
 use Rattle.marks.specs.Pending.{settledAnswer, settledLeft}
-use Rattle.marks.specs.declared.pending.Settled.{Settled}
-use Rattle.marks.specs.declared.pending.Settled.the-variants as settling
+use Rattle.lengths.specs.declared.outcome.Outcome.{Outcome}
+use Rattle.lengths.specs.declared.outcome.Outcome.the-variants as settling
 use Rattle.marks.proofs.FreshMarks.{fresh-left}
 use Rattle.marks.proofs.Marks.{open-mark}
 use Rattle.marks.proofs.PackedSets.{some-edges}
@@ -24,14 +24,12 @@ use Rattle.tours.specs.Tour.{Uses, Shortest, ThreeOptimal}
 use Rattle.tours.proofs.ThreeOptimal.{shortest-optimal}
 use Rattle.argument.specs.Safety.{HasOrder}
 use Rattle.argument.specs.Sheet.{run}
-use Rattle.limits.proofs.LimitWays.{passed-ready}
-use Rattle.limits.specs.Mark.{markBetween}
-use Rattle.limits.specs.Tests.{readyBetween}
-use Rattle.marking.proofs.Tested.{BetweenPassed, passed, ready-tested}
+use Rattle.admission.proofs.Passed.{passed-ready, BetweenPassed, passed, ready-tested}
+use Rattle.marking.specs.MarkBetween.{markBetween}
+use Rattle.admission.specs.Tests.{readyBetween, ready}
 use Rattle.marking.specs.Mark.{markTested, markBy}
-use Rattle.marking.specs.Tests.{ready}
-use Rattle.marking.specs.declared.tests.Tested.{Tested}
-use Rattle.marking.specs.declared.tests.Tested.the-variants.{Points, Refused}
+use Rattle.admission.specs.declared.tested.Tested.{Tested}
+use Rattle.admission.specs.declared.tested.Tested.the-variants.{Points, Refused}
 use Rattle.demands.specs.Keeping.{Ordered, Serves, StepOrder, OrderFree, KeepsTours}
 use Rattle.demands.specs.Run.{Tables, Call, Step, marking, asking, confirming, withdrawing, marking-between, turning, stepped, stepsOf, freshFrom}
 use Rattle.demands.proofs.DeskTurns.{turn-kept}
@@ -96,7 +94,7 @@ module _ {n : ℕ} (T : Tables) (some : leastPoints ≤ n) (low-whole : length (
   sheet-kept by call may marks kept = call-kept by (T .own) (T .own) (call .sheet) may marks kept (ready (call .n) (T .own) marks) (own-passed (call .n) marks)
 
   -- confirming and withdrawing change pending marks alone, and the tour's edges have mark 1
-  settle-kept : (mark : ℕ) (marks : List ℕ) → Kept n t marks → (r : Settled) → Kept n t (settledLeft r mark marks)
+  settle-kept : (mark : ℕ) (marks : List ℕ) → Kept n t marks → (r : Outcome) → Kept n t (settledLeft r mark marks)
   settle-kept mark marks kept (settling.Refused k rec) = kept
   settle-kept mark marks kept settling.Done =
       record { whole = settled-size mark marks ∙ kept .whole; all-open = λ a b u. settled-open mark n marks a b (kept .all-open a b u) }

@@ -20,8 +20,8 @@ use Rattle.sheets.proofs.Records.{sheet-records}
 use Rattle.sheets.specs.Rules.{rulesBetween, markingBetween}
 use Rattle.sheets.specs.Sheet.{wholeSheet}
 use Rattle.marking.specs.Mark.{markTested, turnedDown}
-use Rattle.marking.specs.declared.tests.Tested.{Tested}
-use Rattle.marking.specs.declared.tests.Tested.the-variants.{Points, Refused}
+use Rattle.admission.specs.declared.tested.Tested.{Tested}
+use Rattle.admission.specs.declared.tested.Tested.the-variants.{Points, Refused}
 use Rattle.demands.specs.Marked.{struckEdges, Changes}
 use Rattle.demands.proofs.Changed.{chain-changes, no-changes}
 use Rattle.demands.proofs.Lawful.{lawful-between}

@@ -25,13 +25,12 @@ use Rattle.argument.proofs.Verdicts.{refused-accepted}
 use Rattle.sheets.specs.Rules.{markingBetween}
 use Rattle.sheets.specs.Sheet.{wholeSheet}
 use Rattle.sheets.proofs.Records.{sheet-records}
-use Rattle.marking.proofs.Tested.{not-points}
-use Rattle.limits.specs.Tests.{testedLimits, untilMarks, testedBetween, readyBetween}
-use Rattle.limits.specs.Mark.{markBetween, markBetweenPacked}
+use Rattle.admission.proofs.Deciding.{not-points}
+use Rattle.admission.specs.Tests.{testedLimits, untilMarks, testedBetween, readyBetween, tested, untilPending, ready}
+use Rattle.marking.specs.MarkBetween.{markBetween, markBetweenPacked}
 use Rattle.marking.specs.Mark.{turnedDown, markTested, markBy, markPackedBy}
-use Rattle.marking.specs.Tests.{tested, untilPending, ready}
-use Rattle.marking.specs.declared.tests.Tested.{Tested}
-use Rattle.marking.specs.declared.tests.Tested.the-variants.{Points, Refused}
+use Rattle.admission.specs.declared.tested.Tested.{Tested}
+use Rattle.admission.specs.declared.tested.Tested.the-variants.{Points, Refused}
 use Rattle.slips.specs.Slip.{newSlip, slipOf, stopped?, flagOf, Fits}
 use Rattle.slips.specs.View.{examinerView, candidateView}
 use Rattle.slips.specs.declared.slip.Slip.{Slip}
@@ -41,6 +40,7 @@ use Rattle.revosti.specs.Slip.{slipIn, slipNumber}
 use Rattle.revosti.proofs.SlipNumbers.{slip-read}
 use Rattle.demands.specs.SheetAnswer.{SheetAnswer, of-marking, of-between}
 use Rattle.demands.proofs.SheetLines.{answers-refusal}
+use Rattle.demands.proofs.TestNumbers.{tested-number, ready-number, between-number}
 
 -- a result whose values have few bits, and whose refusal has a number
 record Noted (r : Result (List ℕ)) : Type 0 where
@@ -51,54 +51,17 @@ record Noted (r : Result (List ℕ)) : Type 0 where
 pub record Numbered (t : Tested) : Type 0 where
   pub number-told : (number : ℕ) → t ≡ Refused number → (1 ≤ number) × (number < 256)
 
-number-of : (k : ℕ) → 1 ≤ k → k < 256 → Numbered (Refused k)
-number-of k h g = record { number-told = λ number e. let same : k ≡ number = cc in (omega arith, omega arith) }
-
-points-of : (n : ℕ) → Numbered (Points n)
-points-of n = record { number-told = λ number e. absurd (not-points (sym e)) }
-
-test-numbered : {t : Tested} {k : ℕ} → 1 ≤ k → k < 256 → (b : Bool) → Numbered t → Numbered (unless b (Refused k) t)
-test-numbered h g true rest = rest
-test-numbered {k = k} h g false rest = number-of k h g
-
-marks-numbered : (n : ℕ) (marks : List ℕ) → Numbered (unless (eqb (length marks) (edgeCount n)) (Refused 6) (unless (areMarks marks) (Refused 6) (Points n)))
-marks-numbered n marks =
-    test-numbered (omega arith) (omega arith) (eqb (length marks) (edgeCount n)) (test-numbered (omega arith) (omega arith) (areMarks marks) (points-of n))
-
-pending-numbered : (t : Tested) (marks : List ℕ) → Numbered t → Numbered (untilPending t marks)
-pending-numbered (Refused number) marks h = h
-pending-numbered (Points n) marks h = test-numbered (omega arith) (omega arith) (nonePending marks) (points-of n)
+abbrev Few : ℕ → Type 0
+Few k = (1 ≤ k) × (k < 256)
 
 pub tested-numbered : (n : ℕ) (table marks : List ℕ) → Numbered (tested n table marks)
-unfolding tested
-tested-numbered n table marks =
-    test-numbered (omega arith) (omega arith) (inRange n)
-    (test-numbered (omega arith) (omega arith) (eqb (length table) (edgeCount n))
-    (test-numbered (omega arith) (omega arith) (allAtMost mostLength table) (marks-numbered n marks)))
+tested-numbered n table marks = record { number-told = tested-number Few (omega arith, omega arith) (omega arith, omega arith) (omega arith, omega arith) (omega arith, omega arith) n table marks }
 
 ready-numbered : (n : ℕ) (table marks : List ℕ) → Numbered (ready n table marks)
-unfolding ready
-ready-numbered n table marks = pending-numbered (tested n table marks) marks (tested-numbered n table marks)
-
--- over two tables, too
-limits-numbered : (n : ℕ) (low high : List ℕ) → Numbered (testedLimits n low high)
-unfolding testedLimits
-limits-numbered n low high =
-    test-numbered (omega arith) (omega arith) (inRange n)
-    (test-numbered (omega arith) (omega arith) (eqb (length low) (edgeCount n))
-    (test-numbered (omega arith) (omega arith) (eqb (length high) (edgeCount n))
-    (test-numbered (omega arith) (omega arith) (allAtMost mostLength low)
-    (test-numbered (omega arith) (omega arith) (allAtMost mostLength high)
-    (test-numbered (omega arith) (omega arith) (eachAtMost low high) (points-of n))))))
-
-until-marks-numbered : (t : Tested) (marks : List ℕ) → Numbered t → Numbered (untilMarks t marks)
-until-marks-numbered (Refused number) marks h = h
-until-marks-numbered (Points n) marks h = marks-numbered n marks
+ready-numbered n table marks = record { number-told = ready-number Few (omega arith, omega arith) (omega arith, omega arith) (omega arith, omega arith) (omega arith, omega arith) (omega arith, omega arith) n table marks }
 
 between-numbered : (n : ℕ) (low high marks : List ℕ) → Numbered (readyBetween n low high marks)
-unfolding readyBetween testedBetween
-between-numbered n low high marks =
-    pending-numbered (testedBetween n low high marks) marks (until-marks-numbered (testedLimits n low high) marks (limits-numbered n low high))
+between-numbered n low high marks = record { number-told = between-number Few (omega arith, omega arith) (omega arith, omega arith) (omega arith, omega arith) (omega arith, omega arith) (omega arith, omega arith) (omega arith, omega arith) n low high marks }
 
 -- a sheet accepts no more lines than it is given steps
 module _ {M : Type 0} (𝓜 : Marking M) (s : List ℕ) where

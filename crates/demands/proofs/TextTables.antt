@@ -15,8 +15,8 @@ use Rattle.endian.proofs.Writing.{read-again32}
 use Rattle.lengths.specs.Edge.{edgeCount}
 use Rattle.lengths.specs.Instance.{inRange, mostLength}
 use Rattle.lengths.specs.Measure.{measured, tableAfter}
-use Rattle.lengths.specs.declared.measure.Measured.{Measured}
-use Rattle.lengths.specs.declared.measure.Measured.the-variants as measuring
+use Rattle.lengths.specs.declared.outcome.Outcome.{Outcome}
+use Rattle.lengths.specs.declared.outcome.Outcome.the-variants as measuring
 use Rattle.lengths.proofs.Limits.{limit-each}
 use Rattle.lists.specs.Test.{allAtMost, unless}
 use Rattle.lists.proofs.Tests.{answered}
@@ -43,7 +43,7 @@ text-distances {n = n} {rule} {cs} t {table} {left} {m} r =
     let a = read-inside t r in
     go (measured n rule cs (length (whole32 table))) refl (a .answered) (a .table-left)
   where
-    go : (d : Measured) → measured n rule cs (length (whole32 table)) ≡ d
+    go : (d : Outcome) → measured n rule cs (length (whole32 table)) ≡ d
         → Points m ≡ ofMeasured n (measured n rule cs (length (whole32 table)))
         → left ≡ tableAfter n rule cs table
         → (m ≡ n) × Measures n rule cs (whole32 left)

@@ -25,10 +25,10 @@ use Rattle.argument.proofs.Sheet.{step-stops}
 use Rattle.argument.proofs.Verdicts.{refused-accepted, refused-inj}
 use Rattle.sheets.specs.Rules.{rulesOf, markingOf}
 use Rattle.sheets.specs.Sheet.{wholeSheet}
-use Rattle.marking.proofs.Tested.{passed}
-use Rattle.marking.specs.Tests.{tested}
-use Rattle.marking.specs.declared.tests.Tested.{Tested}
-use Rattle.marking.specs.declared.tests.Tested.the-variants as tests
+use Rattle.admission.proofs.Passed.{passed}
+use Rattle.admission.specs.Tests.{tested}
+use Rattle.admission.specs.declared.tested.Tested.{Tested}
+use Rattle.admission.specs.declared.tested.Tested.the-variants as tests
 use Rattle.sentences.specs.Reason.{Reason}
 use Rattle.sentences.specs.Sentence.{textOf, sentenceBytes}
 use Rattle.sentences.proofs.Apart.{texts-apart}

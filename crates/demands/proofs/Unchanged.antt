@@ -8,17 +8,17 @@ use Rattle.endian.specs.Bytes.{whole16, whole32}
 use Rattle.marks.specs.Mark.{struckMark}
 use Rattle.marks.specs.Packed.{marksOf, repacked}
 use Rattle.marks.specs.Pending.{settledAnswer, settledLeft, settledSetAnswer, settledSet}
-use Rattle.marks.specs.declared.pending.Settled.{Settled}
-use Rattle.marks.specs.declared.pending.Settled.the-variants.{Done, Refused}
+use Rattle.lengths.specs.declared.outcome.Outcome.{Outcome}
+use Rattle.lengths.specs.declared.outcome.Outcome.the-variants.{Done, Refused}
 use Rattle.marks.proofs.PackedSets.{repacked-same}
 use Rattle.argument.specs.Sheet.{Result}
-use Rattle.limits.specs.Mark.{markBetween, markBetweenPacked}
-use Rattle.limits.specs.Tests.{readyBetween}
+use Rattle.marking.specs.MarkBetween.{markBetween, markBetweenPacked}
+use Rattle.admission.specs.Tests.{readyBetween, ready}
 use Rattle.marking.specs.Mark.{markBy, markPackedBy}
-use Rattle.marking.specs.Tests.{ready}
 use Rattle.revosti.specs.Between.{MarkedBetweenInC, markBetweenInC}
 use Rattle.revosti.specs.Mark.{verdictNumber, resultNumber, MarkedInC, markInC}
-use Rattle.revosti.specs.Pending.{settledNumber, SettledInC}
+use Rattle.revosti.specs.Outcome.{outcomeNumber}
+use Rattle.revosti.specs.Pending.{SettledInC}
 use Rattle.demands.proofs.SheetLines.{tested-unmarked}
 
 -- MARKING AND ASKING: where no line is accepted, the set is as it was. The marks that it holds are (`tested-unmarked`), and packing these gives the old bytes; a set that is not
@@ -35,7 +35,7 @@ between-unchanged n low high set s e =
 
 -- CONFIRMING AND WITHDRAWING: a refused call leaves the set as it was
 pub settle-unchanged : (mark n : ℕ) (set : List ℕ) (number rec : ℕ) → settledSetAnswer n set ≡ Refused number rec → settledSet mark n set ≡ set
-settle-unchanged mark n set number rec e = ap (λ (r : Settled). repacked n set (settledLeft r mark (marksOf n set))) e ∙ repacked-same n set
+settle-unchanged mark n set number rec e = ap (λ (r : Outcome). repacked n set (settledLeft r mark (marksOf n set))) e ∙ repacked-same n set
 
 -- for C an answer below 2²⁴ has no line accepted, and one other than 0 of *confirm* and *withdraw* is a refusal
 no-lines : (r : Result (List ℕ)) → resultNumber r < 16777216 → r .lines ≡ 0
@@ -51,9 +51,9 @@ between-unchanged-in-C {n} {low} {high} {set} {s} m h =
     m .set-left ∙ between-unchanged n (whole32 low) (whole32 high) set (whole16 s) (no-lines (markBetweenInC n low high set s) (omega (arith, m .answered)))
 
 pub settle-unchanged-in-C : {mark n : ℕ} {set : List ℕ} {r : ℕ} {left : List ℕ} → SettledInC mark n set r left → (r ≡ 0 → ⊥) → left ≡ set
-unfolding settledNumber
+unfolding outcomeNumber
 settle-unchanged-in-C {mark} {n} {set} {r} m some = m .set-left ∙ by (settledSetAnswer n set) refl
   where
-    by : (a : Settled) → settledSetAnswer n set ≡ a → settledSet mark n set ≡ set
-    by Done e = absurd (some (m .answered ∙ ap settledNumber e))
+    by : (a : Outcome) → settledSetAnswer n set ≡ a → settledSet mark n set ≡ set
+    by Done e = absurd (some (m .answered ∙ ap outcomeNumber e))
     by (Refused number rec) e = settle-unchanged mark n set number rec e

@@ -16,11 +16,10 @@ use Rattle.argument.specs.Rules.{NamesFeasible, Reached}
 use Rattle.argument.specs.Sheet.{Marking, Result, start, Answers}
 use Rattle.sheets.specs.Rules.{rulesBetween}
 use Rattle.sheets.specs.Sheet.{wholeSheet}
-use Rattle.limits.specs.Tests.{readyBetween}
+use Rattle.admission.specs.Tests.{readyBetween, ready}
 use Rattle.marking.specs.Mark.{packedResult}
-use Rattle.marking.specs.Tests.{ready}
 use Rattle.revosti.specs.Mark.{resultNumber}
-use Rattle.marking.specs.declared.tests.Tested.the-variants.{Points}
+use Rattle.admission.specs.declared.tested.Tested.the-variants.{Points}
 
 -- the call passes tests 1, 2, 5, 6 and 20, and test 7
 pub record Passes (n : ℕ) (table marks sheet : List ℕ) : Type 0 where

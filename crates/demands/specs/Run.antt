@@ -12,7 +12,7 @@ use Rattle.revosti.specs.Between.{markBetweenInC}
 use Rattle.revosti.specs.Desk.{turnInC}
 use Rattle.revosti.specs.Mark.{markInC}
 use Rattle.desks.specs.Turn.{turnOnMarks, turn}
-use Rattle.limits.specs.Mark.{markBetween, markBetweenPacked}
+use Rattle.marking.specs.MarkBetween.{markBetween, markBetweenPacked}
 use Rattle.marking.specs.Mark.{markSheet, askSheet, markPacked, askPacked}
 
 -- the tables of a run, which stay: low and high lengths, and the lengths of the board itself. Where these are not known, the table of the board

@@ -11,8 +11,8 @@ use Rattle.argument.specs.Sheet.{Place, lineStep}
 use Rattle.argument.specs.Verdict.{refused}
 use Rattle.sheets.specs.Rules.{rulesOf, markingOf}
 use Rattle.sheets.specs.Sheet.{wholeSheet}
-use Rattle.marking.specs.Tests.{tested}
-use Rattle.marking.specs.declared.tests.Tested.the-variants.{Points}
+use Rattle.admission.specs.Tests.{tested}
+use Rattle.admission.specs.declared.tested.Tested.the-variants.{Points}
 use Rattle.reasons.specs.Telling.{lineText, tellLeft}
 use Rattle.reasons.specs.declared.telling.Telling.{Telling}
 use Rattle.reasons.specs.declared.telling.Telling.the-variants.{Bytes, Refused}

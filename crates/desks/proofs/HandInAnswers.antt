@@ -16,9 +16,9 @@ use Rattle.sheets.specs.declared.sheet.Sheet as declared
 use Rattle.sheets.specs.declared.sheet.SheetAdmission.{SheetAdmission}
 use Rattle.sheets.specs.declared.sheet.SheetAdmission.the-variants as admitting
 use Rattle.sheets.proofs.Records.{sheet-admitted, sheet-refused}
-use Rattle.marking.specs.Tests.{ready}
-use Rattle.marking.specs.declared.tests.Tested.{Tested}
-use Rattle.marking.specs.declared.tests.Tested.the-variants as tests
+use Rattle.admission.specs.Tests.{ready}
+use Rattle.admission.specs.declared.tested.Tested.{Tested}
+use Rattle.admission.specs.declared.tested.Tested.the-variants as tests
 use Rattle.desks.specs.State.{deskCount, stateNumbers, stateBytes, hasLine, nextDesk, nextAnswer}
 use Rattle.desks.specs.asks.State.{DeskAsked, SetAs}
 use Rattle.desks.specs.HandIn.{openAnswer, openLeft, OpenedAs, isDesk, untilSheet, testedSheet, handInAnswer, handInBy, handInLeft, HandedInAs}

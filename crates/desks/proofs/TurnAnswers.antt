@@ -29,12 +29,12 @@ use Rattle.sheet_lines.specs.asks.Line.{MarkingAsked, SteppedAs, steppedOf, mar
 use Rattle.sheet_lines.specs.declared.line.Stepped.{Stepped}
 use Rattle.sheet_lines.specs.declared.line.Stepped.the-variants as stepped
 use Rattle.marking.proofs.MarkingSheets.{rows-room, sheet-admits}
-use Rattle.marking.proofs.Tested.{both-passed, passed-some, passed-well, passed, ready-tested}
-use Rattle.marking.specs.Tests.{ready}
-use Rattle.marking.specs.declared.tests.Tested.{Tested}
-use Rattle.marking.specs.declared.tests.Tested.the-variants as tests
+use Rattle.admission.proofs.Passed.{both-passed, passed-some, passed-well, passed, ready-tested}
+use Rattle.admission.specs.Tests.{ready}
+use Rattle.admission.specs.declared.tested.Tested.{Tested}
+use Rattle.admission.specs.declared.tested.Tested.the-variants as tests
 use Rattle.desks.specs.State.{stateBytes, setNumber, nextIndex, owner, linesAt, nextDesk}
-use Rattle.desks.specs.Turn.{Outcome, servedOf, waiting, ahead, stepServed, turnFrom, turnTested, turnMarks, repackOutcome, turnPacked, deskLeft, servedLeft, Turn, turnOf, turnWith, turn, TurnedAs}
+use Rattle.desks.specs.Turn.{DeskTurn, servedOf, waiting, ahead, stepServed, turnFrom, turnTested, turnMarks, repackDeskTurn, turnPacked, deskLeft, servedLeft, Turn, turnOf, turnWith, turn, TurnedAs}
 use Rattle.desks.specs.asks.State.{SetAs}
 use Rattle.desks.specs.asks.Turn.{TurnAdmitted, TurnRows, ServeAsked, PutBackAs, ServedAs}
 use Rattle.desks.specs.declared.state.Next.{Next}
@@ -105,7 +105,7 @@ module _ {n : ℕ} {table rows marks s : List ℕ} {count index lines : ℕ} (as
 pub turn-room : {n : ℕ} {table rows marks s : List ℕ} {count index lines : ℕ} (most : ℕ) → TurnAdmitted n table marks s count index lines →
     n ≤ most → length rows ≡ (most + 1) * (most + 1)
     → TurnRows n table rows marks s count index lines
-turn-room most a h e = record { asked = rows-room most (a .admitted) h e; left = a .left }
+turn-room most a h e = record { asked = rows-room most (a .admitted) h e e; left = a .left }
 
 -- a sheet that the tests pass is admitted with its instance
 pub turn-admits : (n : ℕ) {table : List ℕ} (set : List ℕ) {s : List ℕ} {t : Tested} {p : ℕ} {a : SheetAdmission} {x : declared.Sheet}
@@ -117,13 +117,13 @@ turn-admits n set e g w z h = record { admitted = sheet-admits n set (omega arit
 -- the ways out of a desk's turn, over the packed set
 module _ (n : ℕ) (table set s : List ℕ) (index owner lines : ℕ) {t : Tested} (e : t ≡ ready n table (marksOf n set)) where
   as-tested : {t′ : Tested} → t ≡ t′ →
-      repackOutcome n set (turnTested t′ table (marksOf n set) s index owner lines) ≡ turnPacked n table set s index owner lines
+      repackDeskTurn n set (turnTested t′ table (marksOf n set) s index owner lines) ≡ turnPacked n table set s index owner lines
   unfolding turnPacked turnMarks
-  as-tested g = ap (λ (x : Tested). repackOutcome n set (turnTested x table (marksOf n set) s index owner lines)) (sym g ∙ e)
+  as-tested g = ap (λ (x : Tested). repackDeskTurn n set (turnTested x table (marksOf n set) s index owner lines)) (sym g ∙ e)
 
   -- a failed test leaves the set as it is
   ends : {number : ℕ} {r : Served} → r ≡ Ended (verdict.Refused number 0 lines) →
-      servedOf r set ≡ repackOutcome n set (servedOf (Ended (verdict.Refused number 0 lines)) (marksOf n set))
+      servedOf r set ≡ repackDeskTurn n set (servedOf (Ended (verdict.Refused number 0 lines)) (marksOf n set))
   ends h = ap₂ (λ (x : Served) (m : List ℕ). servedOf x m) h (sym (repacked-same n set))
 
   pub turn-untested : {number : ℕ} {r : Served} → t ≡ tests.Refused number → r ≡ Ended (verdict.Refused number 0 lines) →
@@ -132,12 +132,12 @@ module _ (n : ℕ) (table set s : List ℕ) (index owner lines : ℕ) {t : Teste
 
   module _ {p : ℕ} (g : t ≡ tests.Points p) {a : SheetAdmission} (w : a ≡ sheetAdmission (length s)) where
     as-whole : (b : Bool) → wholeSheet (length s) ≡ b →
-        repackOutcome n set
+        repackDeskTurn n set
         (unless b (servedOf (Ended (verdict.Refused 7 0 lines)) (marksOf n set))
         (turnFrom (markingOf p table) s (waiting (marksOf n set) index owner lines)))
         ≡ turnPacked n table set s index owner lines
     as-whole b h =
-        ap (λ (x : Bool). repackOutcome n set
+        ap (λ (x : Bool). repackDeskTurn n set
         (unless x (servedOf (Ended (verdict.Refused 7 0 lines)) (marksOf n set))
         (turnFrom (markingOf p table) s (waiting (marksOf n set) index owner lines)))) (sym h)
         ∙ as-tested g
@@ -175,11 +175,11 @@ desk-served state d n table set s {i} {o} {l} ei eo el {r} {left} {mid} {out} e 
     let to : turnPacked n table set s i o l ≡ turnPacked n table set s (nextIndex state d) (owner state d) (linesAt state d) = rw
     (ei, eo, el) in
     let told : r ≡ turnPacked n table set s (nextIndex state d) (owner state d) (linesAt state d) .served = ap
-    (λ (x : Outcome (List ℕ)). x .served) (e ∙ to) in
+    (λ (x : DeskTurn (List ℕ)). x .served) (e ∙ to) in
     record {
       answered = told;
       state-left = put .written ∙ ap (λ (x : List ℕ). setNumber x 0 d) (back .written) ∙ ap (λ (x : Served). servedLeft x state d) told;
-      set-left = ap (λ (x : Outcome (List ℕ)). x .marks) (e ∙ to);
+      set-left = ap (λ (x : DeskTurn (List ℕ)). x .marks) (e ∙ to);
     }
 
 -- the desk that the round robin finds can be served

@@ -18,11 +18,11 @@ use Rattle.sheets.specs.Rules.{markingOf}
 use Rattle.sheets.specs.Sheet.{wholeSheet}
 use Rattle.sheets.specs.declared.verdict.Verdict.the-variants as verdict
 use Rattle.marking.proofs.MarkingSheets.{struck-set}
-use Rattle.marking.specs.Tests.{ready}
-use Rattle.marking.specs.declared.tests.Tested.{Tested}
-use Rattle.marking.specs.declared.tests.Tested.the-variants as tests
+use Rattle.admission.specs.Tests.{ready}
+use Rattle.admission.specs.declared.tested.Tested.{Tested}
+use Rattle.admission.specs.declared.tested.Tested.the-variants as tests
 use Rattle.desks.specs.State.{lent, nextDesk}
-use Rattle.desks.specs.Turn.{Outcome, servedOf, waiting, stepServed, turnFrom, turnTested, turnMarks, repackOutcome, turnOf, turnWith, turnOnMarks}
+use Rattle.desks.specs.Turn.{DeskTurn, servedOf, waiting, stepServed, turnFrom, turnTested, turnMarks, repackDeskTurn, turnOf, turnWith, turnOnMarks}
 use Rattle.desks.specs.declared.state.Next.{Next}
 use Rattle.desks.specs.declared.state.Next.the-variants as next
 use Rattle.desks.specs.declared.turn.Served.{Served}
@@ -56,7 +56,7 @@ tested-keeps P table marks s index owner lines k (tests.Points n) go = whole (wh
     whole false = k
 
 -- whatever the state is, the marks are those that were found, or those that a desk's turn leaves
-pub turn-keeps : (P : List ℕ → Type 0) (state marks : List ℕ) (go : (index owner lines : ℕ) → Outcome (List ℕ)) → P marks →
+pub turn-keeps : (P : List ℕ → Type 0) (state marks : List ℕ) (go : (index owner lines : ℕ) → DeskTurn (List ℕ)) → P marks →
     ((index owner lines : ℕ) → P (go index owner lines .marks)) → P (turnWith state marks go .marks)
 unfolding turnWith
 turn-keeps P state marks go k each = room (lent state)
@@ -93,16 +93,16 @@ turn-byte-set {p} state n table s {marks} b =
 pub turned-packed : (p n : ℕ) (table s set : List ℕ) (index owner lines : ℕ) (r : Served) (left : List ℕ) → 0 < edgeCount n →
     wellPacked n set ≡ true
     → servedOf r (marksOf n left) ≡ turnFrom (markingOf p table) s (waiting (marksOf n set) index owner lines)
-    → servedOf r left ≡ repackOutcome n set (turnFrom (markingOf p table) s (waiting (marksOf n set) index owner lines))
+    → servedOf r left ≡ repackDeskTurn n set (turnFrom (markingOf p table) s (waiting (marksOf n set) index owner lines))
 unfolding repacked
 turned-packed p n table s set index owner lines r left some h q =
-    let o : Outcome (List ℕ) = turnFrom (markingOf p table) s (waiting (marksOf n set) index owner lines) in
-    let m : marksOf n left ≡ o .marks = ap (λ (x : Outcome (List ℕ)). x .marks) q in
+    let o : DeskTurn (List ℕ) = turnFrom (markingOf p table) s (waiting (marksOf n set) index owner lines) in
+    let m : marksOf n left ≡ o .marks = ap (λ (x : DeskTurn (List ℕ)). x .marks) q in
     let e : left ≡ packed (o .marks) = held-packed left some m (from-set p table s index owner lines (held-set n set h)) in
-    ap (servedOf r) e ∙ ap (λ (x : Served). servedOf x (packed (o .marks))) (ap (λ (x : Outcome (List ℕ)). x .served) q) ∙ sym (rw h)
+    ap (servedOf r) e ∙ ap (λ (x : Served). servedOf x (packed (o .marks))) (ap (λ (x : DeskTurn (List ℕ)). x .served) q) ∙ sym (rw h)
 
 -- the desk that a turn serves is the one that the round robin finds
-module _ (state marks : List ℕ) (go : (index owner lines : ℕ) → Outcome (List ℕ)) where
+module _ (state marks : List ℕ) (go : (index owner lines : ℕ) → DeskTurn (List ℕ)) where
   pub turned-desk : {d : ℕ} {r : Served} → turnWith state marks go .answer ≡ turned.Desk d r → nextDesk state ≡ next.Desk d
   unfolding turnWith
   turned-desk {d} {r} = room (lent state)

@@ -8,9 +8,9 @@ use lib.Dec.{leb}
 use lib.ListN.{length, drop, replicate}
 use Rattle.lists.specs.Test.{unless}
 use Rattle.sheets.specs.Sheet.{wholeSheet}
-use Rattle.marking.specs.Tests.{ready}
-use Rattle.marking.specs.declared.tests.Tested.{Tested}
-use Rattle.marking.specs.declared.tests.Tested.the-variants as tests
+use Rattle.admission.specs.Tests.{ready}
+use Rattle.admission.specs.declared.tested.Tested.{Tested}
+use Rattle.admission.specs.declared.tested.Tested.the-variants as tests
 use Rattle.desks.specs.State.{deskCount, stateBytes, lent, setDesk, hasLine}
 use Rattle.desks.specs.declared.handing.Handed.{Handed}
 use Rattle.desks.specs.declared.handing.Handed.the-variants.{Done, Refused}

@@ -14,9 +14,9 @@ use Rattle.marks.specs.Packed.{marksOf, repacked}
 use Rattle.sheets.specs.Rules.{markingOf}
 use Rattle.sheets.specs.Sheet.{wholeSheet}
 use Rattle.sheets.specs.declared.verdict.Verdict.the-variants as verdict
-use Rattle.marking.specs.Tests.{ready}
-use Rattle.marking.specs.declared.tests.Tested.{Tested}
-use Rattle.marking.specs.declared.tests.Tested.the-variants as tests
+use Rattle.admission.specs.Tests.{ready}
+use Rattle.admission.specs.declared.tested.Tested.{Tested}
+use Rattle.admission.specs.declared.tested.Tested.the-variants as tests
 use Rattle.desks.specs.State.{lent, setNumber, nextIndex, owner, linesAt, setDesk, nextDesk}
 use Rattle.desks.specs.declared.state.Next.{Next}
 use Rattle.desks.specs.declared.state.Next.the-variants as next
@@ -26,11 +26,11 @@ use Rattle.desks.specs.declared.turn.Turned.{Turned}
 use Rattle.desks.specs.declared.turn.Turned.the-variants as turned
 
 -- what a turn makes of a desk: the marks that it leaves, and what comes of its sheet
-pub record Outcome (M : Type 0) : Type 0 where
+pub record DeskTurn (M : Type 0) : Type 0 where
   pub marks : M
   pub served : Served
 
-abbrev pub servedOf : {M : Type 0} → Served → M → Outcome M
+abbrev pub servedOf : {M : Type 0} → Served → M → DeskTurn M
 servedOf r left = record { marks = left; served = r }
 
 -- where a desk's sheet waits. The highest record entered is not kept: an index that waits was found above it.
@@ -50,31 +50,31 @@ ahead count index owner high lines =
     ]
 
 -- one line from a place, and a look at the next index: "A refusal ends that desk's sheet"
-unfoldable pub stepServed : {M : Type 0} → List ℕ → Place M → Verdict (LineStep M) → Outcome M
+unfoldable pub stepServed : {M : Type 0} → List ℕ → Place M → Verdict (LineStep M) → DeskTurn M
 stepServed s p (accepted over) = servedOf (Ended (verdict.Accepted (p .lines))) (p .marks)
 stepServed s p (accepted (onward q)) = servedOf (ahead (records s) (q .index) (q .last) (q .high) (q .lines)) (q .marks)
 stepServed s p (refused number rec) = servedOf (Ended (verdict.Refused number rec (p .lines))) (p .marks)
 
-unfoldable pub turnFrom : {M : Type 0} → Marking M → List ℕ → Place M → Outcome M
+unfoldable pub turnFrom : {M : Type 0} → Marking M → List ℕ → Place M → DeskTurn M
 turnFrom 𝓜 s p = stepServed s p (lineStep 𝓜 s p)
 
 -- "A turn first repeats the sheet's tests up to 7": a failure ends the sheet with no record at fault, and its lines are
 -- kept
-abbrev pub turnTested : Tested → (table marks s : List ℕ) → (index owner lines : ℕ) → Outcome (List ℕ)
+abbrev pub turnTested : Tested → (table marks s : List ℕ) → (index owner lines : ℕ) → DeskTurn (List ℕ)
 turnTested (tests.Refused number) table marks s index owner lines = servedOf (Ended (verdict.Refused number 0 lines)) marks
 turnTested (tests.Points n) table marks s index owner lines =
     unless (wholeSheet (length s)) (servedOf (Ended (verdict.Refused 7 0 lines)) marks)
     (turnFrom (markingOf n table) s (waiting marks index owner lines))
 
 -- a desk's turn, by its three numbers: over the marks of the edges, and over a packed set
-unfoldable pub turnMarks : ℕ → (table marks s : List ℕ) → (index owner lines : ℕ) → Outcome (List ℕ)
+unfoldable pub turnMarks : ℕ → (table marks s : List ℕ) → (index owner lines : ℕ) → DeskTurn (List ℕ)
 turnMarks n table marks s index owner lines = turnTested (ready n table marks) table marks s index owner lines
 
-abbrev pub repackOutcome : ℕ → List ℕ → Outcome (List ℕ) → Outcome (List ℕ)
-repackOutcome n set r = servedOf (r .served) (repacked n set (r .marks))
+abbrev pub repackDeskTurn : ℕ → List ℕ → DeskTurn (List ℕ) → DeskTurn (List ℕ)
+repackDeskTurn n set r = servedOf (r .served) (repacked n set (r .marks))
 
-unfoldable pub turnPacked : ℕ → (table set s : List ℕ) → (index owner lines : ℕ) → Outcome (List ℕ)
-turnPacked n table set s index owner lines = repackOutcome n set (turnMarks n table (marksOf n set) s index owner lines)
+unfoldable pub turnPacked : ℕ → (table set s : List ℕ) → (index owner lines : ℕ) → DeskTurn (List ℕ)
+turnPacked n table set s index owner lines = repackDeskTurn n set (turnMarks n table (marksOf n set) s index owner lines)
 
 -- the state behind a turn: a desk whose sheet has ended has numbers 0, and the desk is the last served
 abbrev pub deskLeft : Served → List ℕ → ℕ → List ℕ
@@ -91,13 +91,13 @@ pub record Turn : Type 0 where
   pub marks : List ℕ
 
 -- the desk that is served takes its turn as `go` says, by its three numbers; with no line left nothing changes
-abbrev pub turnOf : Next → List ℕ → List ℕ → (go : (index owner lines : ℕ) → Outcome (List ℕ)) → Turn
+abbrev pub turnOf : Next → List ℕ → List ℕ → (go : (index owner lines : ℕ) → DeskTurn (List ℕ)) → Turn
 turnOf next.NoLine state marks go = record { answer = turned.NoLine; state = state; marks = marks }
 turnOf (next.Desk d) state marks go =
-    let r : Outcome (List ℕ) = go (nextIndex state d) (owner state d) (linesAt state d) in
+    let r : DeskTurn (List ℕ) = go (nextIndex state d) (owner state d) (linesAt state d) in
     record { answer = turned.Desk d (r .served); state = servedLeft (r .served) state d; marks = r .marks }
 
-unfoldable pub turnWith : List ℕ → List ℕ → (go : (index owner lines : ℕ) → Outcome (List ℕ)) → Turn
+unfoldable pub turnWith : List ℕ → List ℕ → (go : (index owner lines : ℕ) → DeskTurn (List ℕ)) → Turn
 turnWith state marks go = unless (lent state) (record { answer = turned.Refused 22; state = state; marks = marks })
     (turnOf (nextDesk state) state marks go)
 

@@ -3,11 +3,11 @@ use crate::state::DESKS;
 use crate::state::STATE_BYTES;
 use crate::state::has_line;
 use crate::state::set_desk;
+use admission::tested::Tested;
+use admission::tests::test_ready;
 use endian::bytes::count16;
 use endian::bytes::encode16;
 use lengths::refusal;
-use marking::tests::Tested;
-use marking::tests::test_ready;
 use sheets::sheet::Sheet;
 use sheets::sheet::SheetAdmission;
 ghost use mathlib.Core.Path.{_≡_};
@@ -66,7 +66,8 @@ pub fn hand_in(
     marks: &[u8],
     sheet: &[u8],
 ) -> Handed
-    ensures { λ r. ⌜ HandedInAs (now (desks .entry)) desk n (whole32 (now (table .entry))) (marksOf n (now (marks .entry))) (whole16 (now (sheet .entry))) r (now (desks .exit)) ⌝ }
+    ensures { λ r. ⌜ HandedInAs (now (desks .entry)) desk n (whole32 (now (table .entry)))
+        (marksOf n (now (marks .entry))) (whole16 (now (sheet .entry))) r (now (desks .exit)) ⌝ }
 {
     if desks.len() < STATE_BYTES {
         return Handed::Refused(refusal::BUFFER);

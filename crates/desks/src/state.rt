@@ -59,7 +59,7 @@ fn following(desk: u16) -> u16
     desk % DESKS + 1
 }
 
-// The round robin: the next desk after the last served that has a line left.
+// The round robin: the next desk after the last served that has a line left. It ends, as `left` falls by one a step.
 pub fn next_of(desks: &[u8]) -> Next
     requires { ⌜ StateAsked (now desks) ⌝ }
     ensures { λ r. ⌜ r ≡ nextDesk (now (desks .entry)) ⌝ }

@@ -4,6 +4,8 @@ use crate::state::STATE_BYTES;
 use crate::state::next_of;
 use crate::state::number_at;
 use crate::state::set_desk;
+use admission::tested::Tested;
+use admission::tests::test_ready;
 use endian::bytes::count16;
 use endian::bytes::put16;
 use lengths::instance::Instance;
@@ -11,8 +13,6 @@ use lengths::refusal;
 use lengths::rows::fill_rows;
 use marking::mark::FEW_ROWS;
 use marking::mark::MOST_ROWS;
-use marking::tests::Tested;
-use marking::tests::test_ready;
 use marks::mark;
 use sheet_lines::line::Stepped;
 use sheet_lines::line::mark_line;
@@ -98,7 +98,9 @@ fn turn_by_rows(
     lines: u16,
 ) -> Served
     requires { ⌜ TurnRows n (whole32 (now table)) (now rows) (marksOf n (now marks)) (whole16 (now sheet)) count index lines ⌝ }
-    ensures { λ r. ⌜ servedOf r (marksOf n (now (marks .exit))) ≡ turnFrom (markingOf n (whole32 (now (table .entry)))) (whole16 (now (sheet .entry))) (waiting (marksOf n (now (marks .entry))) index owner lines) ⌝ }
+    ensures { λ r. ⌜ servedOf r (marksOf n (now (marks .exit))) ≡ turnFrom
+        (markingOf n (whole32 (now (table .entry)))) (whole16 (now (sheet .entry)))
+        (waiting (marksOf n (now (marks .entry))) index owner lines) ⌝ }
 {
     fill_rows(n, table, rows);
     match mark_line(
@@ -134,7 +136,9 @@ fn turn_admitted(
     lines: u16,
 ) -> Served
     requires { ⌜ TurnAdmitted n (whole32 (now table)) (marksOf n (now marks)) (whole16 (now sheet)) count index lines ⌝ }
-    ensures { λ r. ⌜ servedOf r (marksOf n (now (marks .exit))) ≡ turnFrom (markingOf n (whole32 (now (table .entry)))) (whole16 (now (sheet .entry))) (waiting (marksOf n (now (marks .entry))) index owner lines) ⌝ }
+    ensures { λ r. ⌜ servedOf r (marksOf n (now (marks .exit))) ≡ turnFrom
+        (markingOf n (whole32 (now (table .entry)))) (whole16 (now (sheet .entry)))
+        (waiting (marksOf n (now (marks .entry))) index owner lines) ⌝ }
 {
     if n <= Instance::FEW_POINTS {
         let mut rows = [0u32; FEW_ROWS];
@@ -175,7 +179,8 @@ fn turn_sheet(
     lines: u16,
 ) -> Served
     requires { ⌜ lines < index ⌝ }
-    ensures { λ r. ⌜ servedOf r (now (marks .exit)) ≡ turnPacked n (whole32 (now (table .entry))) (now (marks .entry)) (whole16 (now (sheet .entry))) index owner lines ⌝ }
+    ensures { λ r. ⌜ servedOf r (now (marks .exit)) ≡ turnPacked n (whole32 (now (table .entry)))
+        (now (marks .entry)) (whole16 (now (sheet .entry))) index owner lines ⌝ }
 {
     let points = match test_ready(n, table, marks) {
         Tested::Points(points) => points,
@@ -222,7 +227,8 @@ fn serve(
     sheet: &[u8],
 ) -> Served
     requires { ⌜ ServeAsked (now desks) desk ⌝ }
-    ensures { λ r. ⌜ ServedAs (now (desks .entry)) desk n (whole32 (now (table .entry))) (now (marks .entry)) (whole16 (now (sheet .entry))) r (now (desks .exit)) (now (marks .exit)) ⌝ }
+    ensures { λ r. ⌜ ServedAs (now (desks .entry)) desk n (whole32 (now (table .entry))) (now (marks .entry))
+        (whole16 (now (sheet .entry))) r (now (desks .exit)) (now (marks .exit)) ⌝ }
 {
     let last = 3 * desk as usize;
     let index = number_at(desks, last - 2);
@@ -236,7 +242,8 @@ fn serve(
 
 // One turn: test 22, then one line of the next desk that has one.
 pub fn turn(desks: &mut [u8], n: u32, table: &[u8], marks: &mut [u8], sheet: &[u8]) -> Turned
-    ensures { λ r. ⌜ TurnedAs (now (desks .entry)) n (whole32 (now (table .entry))) (now (marks .entry)) (whole16 (now (sheet .entry))) r (now (desks .exit)) (now (marks .exit)) ⌝ }
+    ensures { λ r. ⌜ TurnedAs (now (desks .entry)) n (whole32 (now (table .entry))) (now (marks .entry))
+        (whole16 (now (sheet .entry))) r (now (desks .exit)) (now (marks .exit)) ⌝ }
 {
     if desks.len() < STATE_BYTES {
         return Turned::Refused(refusal::BUFFER);

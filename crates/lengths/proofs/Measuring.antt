@@ -16,7 +16,7 @@ use Rattle.lengths.specs.declared.distance.Rule.{Rule}
 use Rattle.lengths.specs.declared.instance.Admission.the-variants.{OutOfRange}
 use Rattle.lengths.specs.declared.instance.Instance.{Instance}
 use Rattle.lengths.specs.Instance.{admission, mostCoordinate}
-use Rattle.lengths.specs.declared.measure.Measured.the-variants.{Done, Refused}
+use Rattle.lengths.specs.declared.outcome.Outcome.the-variants.{Done, Refused}
 use Rattle.lists.specs.Test.{allAtMost}
 use Rattle.lengths.proofs.Limits.{limit-each}
 use Rattle.lengths.proofs.Instances.{Admits, out-of-range}

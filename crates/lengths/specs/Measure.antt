@@ -13,8 +13,8 @@ use Rattle.lists.specs.Test.{allAtMost, unless}
 use Rattle.lengths.specs.declared.distance.Rule.{Rule}
 use Rattle.lengths.specs.declared.distance.NamedRule.{NamedRule}
 use Rattle.lengths.specs.declared.distance.NamedRule.the-variants.{Known, Unknown}
-use Rattle.lengths.specs.declared.measure.Measured.{Measured}
-use Rattle.lengths.specs.declared.measure.Measured.the-variants.{Done, Refused}
+use Rattle.lengths.specs.declared.outcome.Outcome.{Outcome}
+use Rattle.lengths.specs.declared.outcome.Outcome.the-variants.{Done, Refused}
 
 -- the coordinates of point a: x and y of point 1 stand first, then those of point 2
 unfoldable pub xOf : List ℕ → ℕ → ℕ
@@ -48,7 +48,7 @@ known (Known rule) = true
 known Unknown = false
 
 -- 01's tests in their order: n, the two sizes, the rule, the coordinates; no record is at fault, which is record 0
-unfoldable pub measured : ℕ → ℕ → List ℕ → ℕ → Measured
+unfoldable pub measured : ℕ → ℕ → List ℕ → ℕ → Outcome
 measured n rule cs size =
     unless (inRange n) (Refused 1 0)
     (unless (eqb (length cs) (2 * n)) (Refused 2 0)
@@ -58,7 +58,7 @@ measured n rule cs size =
     Done))))
 
 -- the table's bytes that are left: those of the lengths where nothing is refused, else as they were
-abbrev pub leftBy : Measured → NamedRule → ℕ → List ℕ → List ℕ → List ℕ
+abbrev pub leftBy : Outcome → NamedRule → ℕ → List ℕ → List ℕ → List ℕ
 leftBy (Refused number rec) named n cs table = table
 leftBy Done (Known rule) n cs table = bytes32 (measuredTable rule cs n)
 leftBy Done Unknown n cs table = table
@@ -67,6 +67,6 @@ unfoldable pub tableAfter : ℕ → ℕ → List ℕ → List ℕ → List ℕ
 tableAfter n rule cs table = leftBy (measured n rule cs (length (whole32 table))) (ruleOf rule) n cs table
 
 -- what `measure` ensures of the coordinates that its bytes are: its answer, and the table's bytes that it leaves
-pub record MeasuredAs (n rule : ℕ) (cs table : List ℕ) (answer : Measured) (left : List ℕ) : Type 0 where
+pub record MeasuredAs (n rule : ℕ) (cs table : List ℕ) (answer : Outcome) (left : List ℕ) : Type 0 where
   pub answered : answer ≡ measured n rule cs (length (whole32 table))
   pub table-left : left ≡ tableAfter n rule cs table

@@ -4,6 +4,7 @@ pub mod edge;
 pub mod instance;
 pub mod limit;
 pub mod measure;
+pub mod outcome;
 pub mod refusal;
 pub mod rows;
 pub mod saving;

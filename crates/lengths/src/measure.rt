@@ -7,6 +7,8 @@ use crate::edge;
 use crate::instance::Admission;
 use crate::instance::Instance;
 use crate::limit::all_at_most;
+use crate::outcome::Outcome;
+use crate::outcome::refused;
 use crate::refusal;
 use endian::bytes::count32;
 use endian::bytes::number32;
@@ -15,12 +17,6 @@ ghost use mathlib.Core.Path.{_≡_};
 ghost use Rattle.endian.specs.Bytes.{bytes32, whole32};
 ghost use Rattle.lengths.specs.Measure.{gapOf, measuredTable, MeasuredAs};
 ghost use Rattle.lengths.specs.asks.Measure.{Located, distanceTo, gapRule, Fillable, RowToMeasure, RowMeasured};
-
-// The answer of "measure": the table is filled, or the number of the refusal and its record, always 0.
-pub enum Measured {
-    Done,
-    Refused { refusal: u8, record: u16 },
-}
 
 // The difference of two coordinates.
 fn gap(a: u32, b: u32) -> u64
@@ -121,40 +117,25 @@ fn fill(n: u16, rule: Rule, coordinates: &[u8], table: &mut [u8])
 }
 
 // Fills the table of n points with their distances by the rule, from the coordinates x and y of point 1, then of 2, and on.
-pub fn measure(n: u32, rule: u32, coordinates: &[u8], table: &mut [u8]) -> Measured
+pub fn measure(n: u32, rule: u32, coordinates: &[u8], table: &mut [u8]) -> Outcome
     ensures { λ r. ⌜ MeasuredAs n rule (whole32 (now (coordinates .entry))) (now (table .entry)) r (now (table .exit)) ⌝ }
 {
     let Admission::Admitted(instance) = Instance::admit(n) else {
-        return Measured::Refused {
-            refusal: refusal::POINTS,
-            record: refusal::NO_RECORD,
-        };
+        return refused(refusal::POINTS);
     };
     let points = instance.points;
     if count32(coordinates) != 2 * (points as usize) {
-        return Measured::Refused {
-            refusal: refusal::SIZE,
-            record: refusal::NO_RECORD,
-        };
+        return refused(refusal::SIZE);
     }
     if count32(table) != edge::count(points) {
-        return Measured::Refused {
-            refusal: refusal::SIZE,
-            record: refusal::NO_RECORD,
-        };
+        return refused(refusal::SIZE);
     }
     let NamedRule::Known(known) = Rule::numbered(rule) else {
-        return Measured::Refused {
-            refusal: refusal::RULE,
-            record: refusal::NO_RECORD,
-        };
+        return refused(refusal::RULE);
     };
     if !all_at_most(coordinates, Instance::MOST_COORDINATE) {
-        return Measured::Refused {
-            refusal: refusal::COORDINATE,
-            record: refusal::NO_RECORD,
-        };
+        return refused(refusal::COORDINATE);
     }
     fill(points, known, coordinates, table);
-    Measured::Done
+    Outcome::Done
 }

@@ -1,10 +1,5 @@
+pub mod BetweenLists
+pub mod BetweenSheets
 pub mod ListingAnswers
 pub mod MarkingSheets
 pub mod PackedSheets
-pub mod TestWays
-pub mod Tested
-pub mod TourAnswers
-pub mod TourCounts
-pub mod TourExact
-pub mod TourLoops
-pub mod TourSeen

@@ -19,14 +19,15 @@ use Rattle.enumeration.specs.Find.{pairsAt}
 use Rattle.enumeration.specs.asks.Find.{Found, FindAsked}
 use Rattle.marks.specs.Packed.{marksOf}
 use Rattle.marking.specs.Listing.{listTested, listed, listLeft, placesOf, ListedAs}
-use Rattle.marking.specs.asks.Listing.{Listable, ListedInto, ListedTested}
-use Rattle.marking.specs.Tests.{tested}
+use Rattle.admission.specs.asks.Tests.{Listable}
+use Rattle.marking.specs.asks.Listing.{ListedInto, ListedTested}
+use Rattle.admission.specs.Tests.{tested}
 use Rattle.marking.specs.declared.listing.Listed.{Listed}
 use Rattle.marking.specs.declared.listing.Listed.the-variants.{Pairs, Refused}
-use Rattle.marking.specs.declared.tests.Tested.{Tested}
-use Rattle.marking.specs.declared.tests.Tested.the-variants as tests
+use Rattle.admission.specs.declared.tested.Tested.{Tested}
+use Rattle.admission.specs.declared.tested.Tested.the-variants as tests
 use Rattle.lengths.proofs.Edges.{edges-few, edges-fewer}
-use Rattle.marking.proofs.Tested.{BetweenPassed, both-passed, listable-set, passed}
+use Rattle.admission.proofs.Passed.{BetweenPassed, both-passed, listable-set, passed}
 
 module _ {n : ℕ} {out put marks : List ℕ} (l : Listable n out put marks) (a b c : ℕ) (fit : fits n a b (splits c 0) ≡ true) where
   -- test 11 is passed

@@ -6,7 +6,7 @@ use mathlib.Core.Bool.{Bool, true, false}
 use mathlib.Core.List.{List}
 use native.Mathlib.Nat.{mul-le-mul}
 use native.Mathlib.Omega.{arith}
-use lib.ListN.{length}
+use lib.ListN.{length, replicate, length-replicate}
 use Rattle.lists.specs.Test.{unless}
 use Rattle.argument.specs.Record.{records}
 use Rattle.argument.specs.Sheet.{Result, sheet}
@@ -28,18 +28,24 @@ use Rattle.sheets.specs.declared.sheet.SheetAdmission.{SheetAdmission}
 use Rattle.sheets.specs.declared.sheet.SheetAdmission.the-variants as admitting
 use Rattle.sheets.specs.declared.verdict.Verdict.{Verdict}
 use Rattle.sheets.specs.declared.verdict.Verdict.the-variants as verdict
-use Rattle.marking.proofs.Tested.{BetweenPassed, both-passed, listable-set, passed-some, passed-well, passed, ready-tested}
+use Rattle.admission.proofs.Passed.{BetweenPassed, both-passed, listable-set, passed-some, passed-well, passed, ready-tested}
 use Rattle.marking.specs.Mark.{turnedDown, markTested, markBy, packedResult, repack, markPackedBy}
 use Rattle.marking.specs.asks.Mark.{AdmittedBy, RowsAsked}
-use Rattle.marking.specs.Tests.{ready}
-use Rattle.marking.specs.declared.tests.Tested.{Tested}
-use Rattle.marking.specs.declared.tests.Tested.the-variants.{Points, Refused}
+use Rattle.admission.specs.Tests.{ready}
+use Rattle.admission.specs.declared.tested.Tested.{Tested}
+use Rattle.admission.specs.declared.tested.Tested.the-variants.{Points, Refused}
 
--- an array for the rows of `most` points has room for those of fewer
-pub rows-room : {by n : ℕ} {table rows marks s : List ℕ} {count : ℕ} (most : ℕ) → AdmittedBy by n table table marks s count → n ≤ most → length rows ≡ (most + 1) * (most + 1) → RowsAsked by n table rows marks s count
-rows-room {by} {n} most a h e =
+-- arrays for the rows of `most` points have room for those of fewer
+pub rows-room : {by n : ℕ} {out put outs puts marks s : List ℕ} {count : ℕ} (most : ℕ) → AdmittedBy by n out put marks s count → n ≤ most
+    → length outs ≡ (most + 1) * (most + 1) → length puts ≡ (most + 1) * (most + 1) → RowsAsked by n out put outs puts marks s count
+rows-room {by} {n} most a h e f =
     let up : n + 1 ≤ most + 1 = omega arith in
-    record { is-mark = a .is-mark; admitted = a .admitted; room = omega (arith, mul-le-mul up up) }
+    let room : (n + 1) * (n + 1) ≤ (most + 1) * (most + 1) = mul-le-mul up up in
+    record { is-mark = a .is-mark; admitted = a .admitted; out-room = omega (arith, room); put-room = omega (arith, room) }
+
+-- the array of the rows of `most` points
+pub cleared : (most : ℕ) → length (replicate {A = ℕ} ((most + 1) * (most + 1)) 0) ≡ (most + 1) * (most + 1)
+cleared most = length-replicate {A = ℕ} ((most + 1) * (most + 1)) 0
 
 -- a sheet that the tests pass is admitted with its instance
 pub admits-between : {by n : ℕ} {out put : List ℕ} (set : List ℕ) {s : List ℕ} {p : ℕ} {a : SheetAdmission} {x : declared.Sheet} → by ≤ pendingMark → BetweenPassed n out put (marksOf n set) p

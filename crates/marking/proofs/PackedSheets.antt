@@ -17,9 +17,9 @@ use Rattle.sheets.specs.declared.verdict.Verdict.{Verdict}
 use Rattle.sheets.specs.declared.verdict.Verdict.the-variants as verdict
 use Rattle.marking.proofs.MarkingSheets.{marked-set}
 use Rattle.marking.specs.Mark.{turnedDown, markTested, markBy, packedResult, repack, markPackedBy}
-use Rattle.marking.specs.Tests.{ready}
-use Rattle.marking.specs.declared.tests.Tested.{Tested}
-use Rattle.marking.specs.declared.tests.Tested.the-variants.{Points, Refused}
+use Rattle.admission.specs.Tests.{ready}
+use Rattle.admission.specs.declared.tested.Tested.{Tested}
+use Rattle.admission.specs.declared.tested.Tested.the-variants.{Points, Refused}
 
 -- marks of p points that are marked behind any tests, or turned down, are marks of p points, whatever n a call states
 pub tested-byte-set : (by : ℕ) {p : ℕ} (out put s : List ℕ) {bytes : List ℕ} → by ≤ pendingMark → ByteSet p bytes → (t : Tested) → ByteSet p (markTested by t out put bytes s .marks)

@@ -1,6 +1,5 @@
 pub mod asks
+pub mod ListBetween
 pub mod Listing
 pub mod Mark
-pub mod TableTests
-pub mod Tests
-pub mod Tour
+pub mod MarkBetween

@@ -8,9 +8,9 @@ use Rattle.endian.specs.Bytes.{bytes16}
 use Rattle.lists.specs.Test.{unless}
 use Rattle.marks.specs.Mark.{unstruckIn}
 use Rattle.argument.specs.Record.{splits, fits}
-use Rattle.marking.specs.Tests.{tested}
-use Rattle.marking.specs.declared.tests.Tested.{Tested}
-use Rattle.marking.specs.declared.tests.Tested.the-variants as tests
+use Rattle.admission.specs.Tests.{tested}
+use Rattle.admission.specs.declared.tested.Tested.{Tested}
+use Rattle.admission.specs.declared.tested.Tested.the-variants as tests
 use Rattle.marking.specs.declared.listing.Listed.{Listed}
 use Rattle.marking.specs.declared.listing.Listed.the-variants.{Pairs, Refused}
 use Rattle.enumeration.specs.Find.{numbersOf, pairsAt}

@@ -9,9 +9,9 @@ use Rattle.sheets.specs.Rules.{markingBetween}
 use Rattle.sheets.specs.Sheet.{wholeSheet}
 use Rattle.marks.specs.Mark.{struckMark, pendingMark}
 use Rattle.marks.specs.Packed.{packed, marksOf, repacked}
-use Rattle.marking.specs.Tests.{ready}
-use Rattle.marking.specs.declared.tests.Tested.{Tested}
-use Rattle.marking.specs.declared.tests.Tested.the-variants.{Points, Refused}
+use Rattle.admission.specs.Tests.{ready}
+use Rattle.admission.specs.declared.tested.Tested.{Tested}
+use Rattle.admission.specs.declared.tested.Tested.the-variants.{Points, Refused}
 
 -- refused before the first line: nothing is marked, and no record is at fault
 abbrev pub turnedDown : ℕ → List ℕ → Result (List ℕ)

@@ -1,6 +1,5 @@
 // The third layer: the operations that an examiner and a solver call, over sheets, the walk and lines.
+pub mod list_between;
 pub mod listing;
 pub mod mark;
-pub mod table_tests;
-pub mod tests;
-pub mod tour;
+pub mod mark_between;

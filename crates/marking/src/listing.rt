@@ -1,6 +1,6 @@
 // The operation "list pairs": the feasible pairs of K = {ab} at c.
-use crate::tests::Tested;
-use crate::tests::test_instance;
+use admission::tested::Tested;
+use admission::tests::test_instance;
 use endian::bytes::encode16;
 use enumeration::find::find_pairs;
 use lengths::instance::Instance;
@@ -14,7 +14,8 @@ ghost use Rattle.endian.specs.Bytes.{whole32};
 ghost use Rattle.enumeration.specs.asks.Find.{FindAsked};
 ghost use Rattle.marks.specs.Packed.{marksOf};
 ghost use Rattle.marking.specs.Listing.{ListedAs};
-ghost use Rattle.marking.specs.asks.Listing.{Listable, ListedInto, ListedTested};
+ghost use Rattle.admission.specs.asks.Tests.{Listable};
+ghost use Rattle.marking.specs.asks.Listing.{ListedInto, ListedTested};
 
 // The answer of "list pairs": how many pairs there are, or the number of the refusal and its record, always 0.
 pub enum Listed {
@@ -32,7 +33,8 @@ pub fn turned_down(number: u8) -> Listed
     }
 }
 
-// Lists the feasible pairs of K = {ab} at c by way of `found`, which has room for all: test 18 comes before the list is written.
+// Lists the feasible pairs of K = {ab} at c by way of `found`, which has room for all: test 18 comes before the list is
+// written.
 fn list_into(
     n: u16,
     out: &[u8],
@@ -45,7 +47,8 @@ fn list_into(
     list: &mut [u8],
 ) -> Listed
     requires { ⌜ FindAsked n (whole32 (now out)) (whole32 (now put)) (marksOf n (now marks)) a b c (now found) ⌝ }
-    ensures { λ r. ⌜ ListedInto n (whole32 (now (out .entry))) (whole32 (now (put .entry))) (marksOf n (now (marks .entry))) a b c (now (list .entry)) r (now (list .exit)) ⌝ }
+    ensures { λ r. ⌜ ListedInto n (whole32 (now (out .entry))) (whole32 (now (put .entry)))
+        (marksOf n (now (marks .entry))) a b c (now (list .entry)) r (now (list .exit)) ⌝ }
 {
     let count = find_pairs(n, out, put, marks, a, b, c, found);
     let size = 2 * count as usize;
@@ -56,8 +59,8 @@ fn list_into(
     Listed::Pairs(count)
 }
 
-// Tests 11 and 12, which a pending edge passes, then the list, of tables and marks that passed the tests before. A small instance takes a small
-// array, which is cleared sooner.
+// Tests 11 and 12, which a pending edge passes, then the list, of tables and marks that passed the tests before. A
+// small instance takes a small array, which is cleared sooner.
 pub fn list_tested(
     n: u16,
     out: &[u8],
@@ -69,7 +72,8 @@ pub fn list_tested(
     list: &mut [u8],
 ) -> Listed
     requires { ⌜ Listable n (whole32 (now out)) (whole32 (now put)) (marksOf n (now marks)) ⌝ }
-    ensures { λ r. ⌜ ListedTested n (whole32 (now (out .entry))) (whole32 (now (put .entry))) (marksOf n (now (marks .entry))) a b c (now (list .entry)) r (now (list .exit)) ⌝ }
+    ensures { λ r. ⌜ ListedTested n (whole32 (now (out .entry))) (whole32 (now (put .entry)))
+        (marksOf n (now (marks .entry))) a b c (now (list .entry)) r (now (list .exit)) ⌝ }
 {
     let split = Closing::Split { point: c, first: 0 };
     if !points_fit(n, a, b, split) {
@@ -96,7 +100,8 @@ pub fn list_pairs(
     c: u16,
     list: &mut [u8],
 ) -> Listed
-    ensures { λ r. ⌜ ListedAs n (whole32 (now (table .entry))) (marksOf n (now (marks .entry))) a b c (now (list .entry)) r (now (list .exit)) ⌝ }
+    ensures { λ r. ⌜ ListedAs n (whole32 (now (table .entry))) (marksOf n (now (marks .entry))) a b c
+        (now (list .entry)) r (now (list .exit)) ⌝ }
 {
     match test_instance(n, table, marks) {
         Tested::Points(points) => list_tested(points, table, table, marks, a, b, c, list),

@@ -1,6 +1,6 @@
 // The operations "mark a sheet" and "ask a sheet": the same lines, with another mark for an accepted one.
-use crate::tests::Tested;
-use crate::tests::test_ready;
+use admission::tested::Tested;
+use admission::tests::test_ready;
 use endian::bytes::count16;
 use lengths::instance::Instance;
 use lengths::refusal;
@@ -37,14 +37,18 @@ fn mark_by_rows(
     sheet: &[u8],
     count: u16,
 ) -> Verdict
-    requires { ⌜ RowsAsked by n (whole32 (now table)) (now rows) (marksOf n (now marks)) (whole16 (now sheet)) count ⌝ }
-    ensures { λ r. ⌜ resultOf r (marksOf n (now (marks .exit))) ≡ lines.sheet (markingBy by n (whole32 (now (table .entry)))) (whole16 (now (sheet .entry))) (marksOf n (now (marks .entry))) ⌝ }
+    requires { ⌜ RowsAsked by n (whole32 (now table)) (whole32 (now table)) (now rows) (now rows)
+        (marksOf n (now marks)) (whole16 (now sheet)) count ⌝ }
+    ensures { λ r. ⌜ resultOf r (marksOf n (now (marks .exit))) ≡ lines.sheet
+        (markingBy by n (whole32 (now (table .entry)))) (whole16 (now (sheet .entry)))
+        (marksOf n (now (marks .entry))) ⌝ }
 {
     fill_rows(n, table, rows);
     mark_lines(n, by, table, table, rows, rows, marks, sheet, count)
 }
 
-// Marks the lines of a sheet that passed the tests, and has so many records. Few points take a small array, which is cleared sooner.
+// Marks the lines of a sheet that passed the tests, and has so many records. Few points take a small array, which is
+// cleared sooner.
 fn mark_admitted(
     n: u16,
     by: u8,
@@ -54,7 +58,9 @@ fn mark_admitted(
     count: u16,
 ) -> Verdict
     requires { ⌜ AdmittedBy by n (whole32 (now table)) (whole32 (now table)) (marksOf n (now marks)) (whole16 (now sheet)) count ⌝ }
-    ensures { λ r. ⌜ resultOf r (marksOf n (now (marks .exit))) ≡ lines.sheet (markingBy by n (whole32 (now (table .entry)))) (whole16 (now (sheet .entry))) (marksOf n (now (marks .entry))) ⌝ }
+    ensures { λ r. ⌜ resultOf r (marksOf n (now (marks .exit))) ≡ lines.sheet
+        (markingBy by n (whole32 (now (table .entry)))) (whole16 (now (sheet .entry)))
+        (marksOf n (now (marks .entry))) ⌝ }
 {
     if n <= Instance::FEW_POINTS {
         let mut rows = [0u32; FEW_ROWS];
@@ -78,7 +84,8 @@ pub fn turned_down(number: u8) -> Verdict
 // A sheet whose accepted lines write the mark `by`: tests 1, 2, 5, 6, 20 and 7, then its lines.
 fn mark_with(by: u8, n: u32, table: &[u8], marks: &mut [u8], sheet: &[u8]) -> Verdict
     requires { ⌜ by ≤ pendingMark ⌝ }
-    ensures { λ r. ⌜ resultOf r (now (marks .exit)) ≡ markPackedBy by n (whole32 (now (table .entry))) (now (marks .entry)) (whole16 (now (sheet .entry))) ⌝ }
+    ensures { λ r. ⌜ resultOf r (now (marks .exit)) ≡ markPackedBy by n (whole32 (now (table .entry)))
+        (now (marks .entry)) (whole16 (now (sheet .entry))) ⌝ }
 {
     let points = match test_ready(n, table, marks) {
         Tested::Points(points) => points,
@@ -100,14 +107,16 @@ fn mark_with(by: u8, n: u32, table: &[u8], marks: &mut [u8], sheet: &[u8]) -> Ve
 
 // Marks a sheet: an accepted line strikes its edge.
 pub fn mark_sheet(n: u32, table: &[u8], marks: &mut [u8], sheet: &[u8]) -> Verdict
-    ensures { λ r. ⌜ resultOf r (now (marks .exit)) ≡ markPacked n (whole32 (now (table .entry))) (now (marks .entry)) (whole16 (now (sheet .entry))) ⌝ }
+    ensures { λ r. ⌜ resultOf r (now (marks .exit)) ≡ markPacked n (whole32 (now (table .entry)))
+        (now (marks .entry)) (whole16 (now (sheet .entry))) ⌝ }
 {
     mark_with(mark::STRUCK, n, table, marks, sheet)
 }
 
 // Asks a sheet: an accepted line's edge is pending, until it is confirmed or withdrawn.
 pub fn ask_sheet(n: u32, table: &[u8], marks: &mut [u8], sheet: &[u8]) -> Verdict
-    ensures { λ r. ⌜ resultOf r (now (marks .exit)) ≡ askPacked n (whole32 (now (table .entry))) (now (marks .entry)) (whole16 (now (sheet .entry))) ⌝ }
+    ensures { λ r. ⌜ resultOf r (now (marks .exit)) ≡ askPacked n (whole32 (now (table .entry)))
+        (now (marks .entry)) (whole16 (now (sheet .entry))) ⌝ }
 {
     mark_with(mark::PENDING, n, table, marks, sheet)
 }

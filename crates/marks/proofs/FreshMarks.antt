@@ -19,7 +19,7 @@ use Rattle.marks.specs.Packed.{ByteSet, packedBytes, packedSize, byteOf,
 use Rattle.marks.specs.Fresh.{freshAnswer, freshSetAnswer, freshLeft, freshSetLeft, freshMarks, FreshAs}
 use Rattle.marks.specs.asks.Converting.{fourth, byteAt}
 use Rattle.marks.specs.asks.Fresh.{openOf, openByte}
-use Rattle.marks.specs.declared.fresh.Fresh.the-variants.{Done, Refused}
+use Rattle.lengths.specs.declared.outcome.Outcome.the-variants.{Done, Refused}
 
 -- a byte of open edges, by how many edges are left
 

@@ -22,7 +22,7 @@ use Rattle.marks.specs.Packed.{ByteSet, quarters, packedBytes, packedSiz
 use Rattle.marks.specs.Converting.{isByteSet, packAnswer, unpackAnswer, PackedAs, UnpackedAs}
 use Rattle.marks.specs.asks.Converting.{byteAt, PackAsked}
 use Rattle.marks.specs.asks.Packed.{FourMarks}
-use Rattle.marks.specs.declared.converting.Converted.the-variants.{Done, Refused}
+use Rattle.lengths.specs.declared.outcome.Outcome.the-variants.{Done, Refused}
 use Rattle.marks.proofs.PackedSets.{packed-at, packed-length, quarters-size, well-packed, marks-taken}
 
 -- a buffer that is written from the front: the first k numbers are those of f

@@ -15,8 +15,8 @@ use Rattle.lengths.specs.Instance.{inRange}
 use Rattle.marks.specs.Mark.{markAt, setMark, struckMark, openMark, pendingMark, areMarks, nonePending, opens, openUpTo, openIn}
 use Rattle.marks.specs.Pending.{settledAnswer, settledMark, settledMarks, settledLeft}
 use Rattle.marks.proofs.Marks.{open-mark}
-use Rattle.marks.specs.declared.pending.Settled.{Settled}
-use Rattle.marks.specs.declared.pending.Settled.the-variants.{Done, Refused}
+use Rattle.lengths.specs.declared.outcome.Outcome.{Outcome}
+use Rattle.lengths.specs.declared.outcome.Outcome.the-variants.{Done, Refused}
 
 -- settled marks: the size stays, each mark is settled by itself, and an open edge stays open
 pub settled-size : (to : ℕ) (marks : List ℕ) → length (settledMarks to marks) ≡ length marks
@@ -58,7 +58,7 @@ settled-none to (m ∷ marks) h =
 pub left-none : (to n : ℕ) (marks : List ℕ) → nonePending marks ≡ true → settledLeft (settledAnswer n marks) to marks ≡ marks
 left-none to n marks h = by (settledAnswer n marks)
   where
-    by : (r : Settled) → settledLeft r to marks ≡ marks
+    by : (r : Outcome) → settledLeft r to marks ≡ marks
     by Done = settled-none to marks h
     by (Refused k rec) = refl
 

@@ -21,8 +21,8 @@ use Rattle.marks.specs.Packed.{ByteSet, quarter, quarters, packedBytes, 
 use Rattle.marks.specs.Pending.{settledAnswer, settledMark, settledMarks, settledLeft, SettledAs}
 use Rattle.marks.specs.asks.Packed.{SetWithin}
 use Rattle.marks.specs.asks.Pending.{settledByte}
-use Rattle.marks.specs.declared.pending.Settled.{Settled}
-use Rattle.marks.specs.declared.pending.Settled.the-variants.{Done, Refused}
+use Rattle.lengths.specs.declared.outcome.Outcome.{Outcome}
+use Rattle.lengths.specs.declared.outcome.Outcome.the-variants.{Done, Refused}
 use Rattle.marks.proofs.PackedSets.{quarter-small, quarters-byte, quarters-at, packed-as, well-packed, marks-are, marks-size, marks-quarter, repacked-same, marks-none, some-edges}
 use Rattle.marks.proofs.PendingMarks.{settled-size, settled-at}
 
@@ -132,7 +132,7 @@ module _ {n : ℕ} (s : List ℕ) where
           record { answered = sym d; set-left = q ∙ settled-packed n s well to l ∙ sym (rw (d, well)) }
 
 -- what is left of marks of p points are marks of p points
-pub settled-byte-set : (mark : ℕ) {p : ℕ} {marks : List ℕ} → mark ≤ pendingMark → ByteSet p marks → (r : Settled) → ByteSet p (settledLeft r mark marks)
+pub settled-byte-set : (mark : ℕ) {p : ℕ} {marks : List ℕ} → mark ≤ pendingMark → ByteSet p marks → (r : Outcome) → ByteSet p (settledLeft r mark marks)
 unfolding markAt
 settled-byte-set mark {p} {marks} l b (Refused k rec) = b
 settled-byte-set mark {p} {marks} l b Done =

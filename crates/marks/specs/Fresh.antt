@@ -9,34 +9,34 @@ use Rattle.lengths.specs.Instance.{inRange}
 use Rattle.lists.specs.Test.{unless}
 use Rattle.marks.specs.Mark.{openMark}
 use Rattle.marks.specs.Packed.{packedSize, packed}
-use Rattle.marks.specs.declared.fresh.Fresh.{Fresh}
-use Rattle.marks.specs.declared.fresh.Fresh.the-variants.{Done, Refused}
+use Rattle.lengths.specs.declared.outcome.Outcome.{Outcome}
+use Rattle.lengths.specs.declared.outcome.Outcome.the-variants.{Done, Refused}
 
 -- a refusal names record 0: no record is at fault
-abbrev pub freshSized : ℕ → (size right : ℕ) → Fresh
+abbrev pub freshSized : ℕ → (size right : ℕ) → Outcome
 freshSized n size right = unless (inRange n) (Refused 1 0) (unless (eqb size right) (Refused 6 0) Done)
 
 -- of a byte set
-unfoldable pub freshAnswer : ℕ → ℕ → Fresh
+unfoldable pub freshAnswer : ℕ → ℕ → Outcome
 freshAnswer n size = freshSized n size (edgeCount n)
 
 -- of a packed set: "for fresh marks, only the size"
-unfoldable pub freshSetAnswer : ℕ → ℕ → Fresh
+unfoldable pub freshSetAnswer : ℕ → ℕ → Outcome
 freshSetAnswer n size = freshSized n size (packedSize n)
 
 -- "Fresh marks are all 1": an open edge for each edge of n points
 unfoldable pub freshMarks : ℕ → List ℕ
 freshMarks n = replicate (edgeCount n) openMark
 
-abbrev pub freshLeft : Fresh → ℕ → List ℕ → List ℕ
+abbrev pub freshLeft : Outcome → ℕ → List ℕ → List ℕ
 freshLeft Done n marks = freshMarks n
 freshLeft (Refused number rec) n marks = marks
 
-abbrev pub freshSetLeft : Fresh → ℕ → List ℕ → List ℕ
+abbrev pub freshSetLeft : Outcome → ℕ → List ℕ → List ℕ
 freshSetLeft Done n set = packed (freshMarks n)
 freshSetLeft (Refused number rec) n set = set
 
 -- what `fresh_marks` ensures: its answer, and the packed set that it leaves
-pub record FreshAs (n : ℕ) (set : List ℕ) (answer : Fresh) (left : List ℕ) : Type 0 where
+pub record FreshAs (n : ℕ) (set : List ℕ) (answer : Outcome) (left : List ℕ) : Type 0 where
   pub answered : answer ≡ freshSetAnswer n (length set)
   pub set-left : left ≡ freshSetLeft (freshSetAnswer n (length set)) n set

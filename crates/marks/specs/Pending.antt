@@ -10,11 +10,11 @@ use Rattle.lengths.specs.Instance.{inRange}
 use Rattle.lists.specs.Test.{unless}
 use Rattle.marks.specs.Mark.{pendingMark, areMarks, nonePending}
 use Rattle.marks.specs.Packed.{marksOf, repacked}
-use Rattle.marks.specs.declared.pending.Settled.{Settled}
-use Rattle.marks.specs.declared.pending.Settled.the-variants.{Done, Refused}
+use Rattle.lengths.specs.declared.outcome.Outcome.{Outcome}
+use Rattle.lengths.specs.declared.outcome.Outcome.the-variants.{Done, Refused}
 
 -- a refusal names record 0: no record is at fault
-unfoldable pub settledAnswer : ℕ → List ℕ → Settled
+unfoldable pub settledAnswer : ℕ → List ℕ → Outcome
 settledAnswer n marks =
     unless (inRange n) (Refused 1 0)
     (unless (eqb (length marks) (edgeCount n)) (Refused 6 0)
@@ -30,18 +30,18 @@ settledMark mark m = cond (eqb m pendingMark) mark m
 unfoldable pub settledMarks : (mark : ℕ) → List ℕ → List ℕ
 settledMarks mark marks = map (settledMark mark) marks
 
-abbrev pub settledLeft : Settled → (mark : ℕ) → List ℕ → List ℕ
+abbrev pub settledLeft : Outcome → (mark : ℕ) → List ℕ → List ℕ
 settledLeft Done mark marks = settledMarks mark marks
 settledLeft (Refused number rec) mark marks = marks
 
 -- over a packed set: the answer, and the set that is left
-abbrev pub settledSetAnswer : ℕ → List ℕ → Settled
+abbrev pub settledSetAnswer : ℕ → List ℕ → Outcome
 settledSetAnswer n set = settledAnswer n (marksOf n set)
 
 abbrev pub settledSet : (mark : ℕ) → ℕ → List ℕ → List ℕ
 settledSet mark n set = repacked n set (settledLeft (settledSetAnswer n set) mark (marksOf n set))
 
 -- what `confirm` (with struck) and `withdraw` (with open) ensure: the answer, and the packed set that is left
-pub record SettledAs (n mark : ℕ) (set : List ℕ) (answer : Settled) (left : List ℕ) : Type 0 where
+pub record SettledAs (n mark : ℕ) (set : List ℕ) (answer : Outcome) (left : List ℕ) : Type 0 where
   pub answered : answer ≡ settledSetAnswer n set
   pub set-left : left ≡ settledSet mark n set

@@ -8,6 +8,8 @@ use crate::packed::well_packed;
 use lengths::edge;
 use lengths::instance::Admission;
 use lengths::instance::Instance;
+use lengths::outcome::Outcome;
+use lengths::outcome::refused;
 use lengths::refusal;
 ghost use Prim.Native.Nat.{_*_, _≤_};
 ghost use mathlib.Core.Path.{_≡_};
@@ -16,12 +18,6 @@ ghost use Rattle.marks.specs.Converting.{isByteSet, PackedAs, UnpackedAs
 ghost use Rattle.marks.specs.Mark.{areMarks};
 ghost use Rattle.marks.specs.Packed.{packed, quarters};
 ghost use Rattle.marks.specs.asks.Converting.{byteAt, ByteAsked, PackAsked};
-
-// The answer of a conversion: the set is written, or the number of the refusal and its record, always 0.
-pub enum Converted {
-    Done,
-    Refused { refusal: u8, record: u16 },
-}
 
 // Is no byte above a mark?
 fn bytes_are_marks(bytes: &[u8]) -> bool
@@ -96,53 +92,35 @@ fn unpack_all(set: &[u8], bytes: &mut [u8])
 }
 
 // Packs the byte set of n points.
-pub fn pack_marks(n: u32, bytes: &[u8], set: &mut [u8]) -> Converted
+pub fn pack_marks(n: u32, bytes: &[u8], set: &mut [u8]) -> Outcome
     ensures { λ r. ⌜ PackedAs n (now (bytes .entry)) (now (set .entry)) r (now (set .exit)) ⌝ }
 {
     let Admission::Admitted(instance) = Instance::admit(n) else {
-        return Converted::Refused {
-            refusal: refusal::POINTS,
-            record: refusal::NO_RECORD,
-        };
+        return refused(refusal::POINTS);
     };
     if !is_byte_set(instance.points, bytes) {
-        return Converted::Refused {
-            refusal: refusal::MARKS,
-            record: refusal::NO_RECORD,
-        };
+        return refused(refusal::MARKS);
     }
     if set.len() != packed::size(instance.points) {
-        return Converted::Refused {
-            refusal: refusal::MARKS,
-            record: refusal::NO_RECORD,
-        };
+        return refused(refusal::MARKS);
     }
     pack_all(bytes, set);
-    Converted::Done
+    Outcome::Done
 }
 
 // Unpacks the packed set of n points.
-pub fn unpack_marks(n: u32, set: &[u8], bytes: &mut [u8]) -> Converted
+pub fn unpack_marks(n: u32, set: &[u8], bytes: &mut [u8]) -> Outcome
     ensures { λ r. ⌜ UnpackedAs n (now (set .entry)) (now (bytes .entry)) r (now (bytes .exit)) ⌝ }
 {
     let Admission::Admitted(instance) = Instance::admit(n) else {
-        return Converted::Refused {
-            refusal: refusal::POINTS,
-            record: refusal::NO_RECORD,
-        };
+        return refused(refusal::POINTS);
     };
     if !well_packed(instance.points, set) {
-        return Converted::Refused {
-            refusal: refusal::MARKS,
-            record: refusal::NO_RECORD,
-        };
+        return refused(refusal::MARKS);
     }
     if bytes.len() != edge::count(instance.points) {
-        return Converted::Refused {
-            refusal: refusal::MARKS,
-            record: refusal::NO_RECORD,
-        };
+        return refused(refusal::MARKS);
     }
     unpack_all(set, bytes);
-    Converted::Done
+    Outcome::Done
 }

@@ -4,6 +4,8 @@ use crate::packed::PER_BYTE;
 use lengths::edge;
 use lengths::instance::Admission;
 use lengths::instance::Instance;
+use lengths::outcome::Outcome;
+use lengths::outcome::refused;
 use lengths::refusal;
 ghost use Prim.Native.Nat.{_<_};
 ghost use mathlib.Core.Path.{_≡_};
@@ -12,12 +14,6 @@ ghost use Rattle.marks.specs.Fresh.{FreshAs};
 ghost use Rattle.marks.specs.Mark.{openMark};
 ghost use Rattle.marks.specs.Packed.{packed, packedBytes};
 ghost use Rattle.marks.specs.asks.Fresh.{openByte};
-
-// The answer of "fresh marks": every edge is open, or the number of the refusal and its record, always 0.
-pub enum Fresh {
-    Done,
-    Refused { refusal: u8, record: u16 },
-}
 
 // Four open edges in a byte.
 const FOUR_OPEN: u8 = 0b01_01_01_01;
@@ -46,21 +42,15 @@ fn open_all(edges: usize, set: &mut [u8])
 }
 
 // Makes the marks of n points fresh.
-pub fn fresh_marks(n: u32, set: &mut [u8]) -> Fresh
+pub fn fresh_marks(n: u32, set: &mut [u8]) -> Outcome
     ensures { λ r. ⌜ FreshAs n (now (set .entry)) r (now (set .exit)) ⌝ }
 {
     let Admission::Admitted(instance) = Instance::admit(n) else {
-        return Fresh::Refused {
-            refusal: refusal::POINTS,
-            record: refusal::NO_RECORD,
-        };
+        return refused(refusal::POINTS);
     };
     if set.len() != packed::size(instance.points) {
-        return Fresh::Refused {
-            refusal: refusal::MARKS,
-            record: refusal::NO_RECORD,
-        };
+        return refused(refusal::MARKS);
     }
     open_all(edge::count(instance.points), set);
-    Fresh::Done
+    Outcome::Done
 }

@@ -6,6 +6,8 @@ use crate::packed::quarter;
 use crate::packed::well_packed;
 use lengths::instance::Admission;
 use lengths::instance::Instance;
+use lengths::outcome::Outcome;
+use lengths::outcome::refused;
 use lengths::refusal;
 ghost use Prim.Native.Nat.{_≤_};
 ghost use mathlib.Core.Path.{_≡_};
@@ -14,12 +16,6 @@ ghost use Rattle.marks.specs.Mark.{openMark, struckMark};
 ghost use Rattle.marks.specs.Pending.{SettledAs};
 ghost use Rattle.marks.specs.asks.Packed.{PutAsked};
 ghost use Rattle.marks.specs.asks.Pending.{settledByte, SettledQuarter};
-
-// The answer of "confirm" and "withdraw": nothing is pending any more, or the number of the refusal and its record, always 0.
-pub enum Settled {
-    Done,
-    Refused { refusal: u8, record: u16 },
-}
 
 // The mark in quarter j of a byte, with `to` in the place of pending.
 fn settle_quarter(byte: u8, j: usize, to: u8) -> u8
@@ -58,41 +54,32 @@ fn settle_all(set: &mut [u8], to: u8)
 }
 
 // Tests 1, 6 and 21, and then turns every pending mark into this one.
-fn settle(n: u32, set: &mut [u8], to: u8) -> Settled
+fn settle(n: u32, set: &mut [u8], to: u8) -> Outcome
     requires { ⌜ to ≤ openMark ⌝ }
     ensures { λ r. ⌜ SettledAs n to (now (set .entry)) r (now (set .exit)) ⌝ }
 {
     let Admission::Admitted(instance) = Instance::admit(n) else {
-        return Settled::Refused {
-            refusal: refusal::POINTS,
-            record: refusal::NO_RECORD,
-        };
+        return refused(refusal::POINTS);
     };
     if !well_packed(instance.points, set) {
-        return Settled::Refused {
-            refusal: refusal::MARKS,
-            record: refusal::NO_RECORD,
-        };
+        return refused(refusal::MARKS);
     }
     if marks_within(set, mark::OPEN) {
-        return Settled::Refused {
-            refusal: refusal::NOTHING_PENDING,
-            record: refusal::NO_RECORD,
-        };
+        return refused(refusal::NOTHING_PENDING);
     }
     settle_all(set, to);
-    Settled::Done
+    Outcome::Done
 }
 
 // Strikes every pending edge of n points.
-pub fn confirm(n: u32, set: &mut [u8]) -> Settled
+pub fn confirm(n: u32, set: &mut [u8]) -> Outcome
     ensures { λ r. ⌜ SettledAs n struckMark (now (set .entry)) r (now (set .exit)) ⌝ }
 {
     settle(n, set, mark::STRUCK)
 }
 
 // Opens every pending edge of n points again.
-pub fn withdraw(n: u32, set: &mut [u8]) -> Settled
+pub fn withdraw(n: u32, set: &mut [u8]) -> Outcome
     ensures { λ r. ⌜ SettledAs n openMark (now (set .entry)) r (now (set .exit)) ⌝ }
 {
     settle(n, set, mark::OPEN)

@@ -5,7 +5,6 @@ pub mod PageAnswers
 pub mod PageLines
 pub mod PageParts
 pub mod PageReading
-pub mod PlacesTests
 pub mod ReadAnswers
 pub mod RoundTrips
 pub mod Seeking

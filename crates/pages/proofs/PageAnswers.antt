@@ -15,31 +15,30 @@ use Rattle.lengths.specs.Edge.{edgeCount}
 use Rattle.lengths.specs.Instance.{inRange}
 use Rattle.marks.specs.Mark.{areMarks}
 use Rattle.marks.specs.Packed.{marksOf}
-use Rattle.marking.specs.declared.tests.Tested.{Tested}
-use Rattle.marking.specs.declared.tests.Tested.the-variants as tests
+use Rattle.admission.specs.declared.tested.Tested.{Tested}
+use Rattle.admission.specs.declared.tested.Tested.the-variants as tests
 use Rattle.pages.specs.Page.{isPage, firstPlace, pageLines}
 use Rattle.pages.specs.PageOf.{PageOf, WrongPage}
-use Rattle.pages.specs.Reading.{wrongLine, isPageText, placesTested, Tried, readTested, readAnswer, pageAnswer}
+use Rattle.pages.specs.Reading.{wrongLine, isPageText, Tried, readTested, readAnswer, pageAnswer}
+use Rattle.admission.specs.Tested.{firstFailing, markTests}
+use Rattle.admission.specs.Tests.{placeTests, placesTested}
 use Rattle.pages.specs.declared.reading.PageRead.{PageRead}
 use Rattle.pages.specs.declared.reading.PageRead.the-variants.{Done, Refused}
 use Rattle.pages.proofs.PageReading.{page-read, read-page, told-first, one-first-wrong}
-use Rattle.pages.proofs.PlacesTests.{places}
+use Rattle.admission.proofs.Deciding.{refused-number, until-number}
+use Rattle.admission.proofs.Passed.{places}
 use Rattle.pages.proofs.RoundTrips.{part-there}
 
 -- the tests of the table and the marks refuse by a number from 1 to 6
 tests-few : (n size : ℕ) (marks : List ℕ) {k : ℕ} → placesTested n size marks ≡ tests.Refused k → (1 ≤ k) × (k ≤ 6)
 unfolding placesTested
-tests-few n size marks {k} h = by (inRange n) (eqb size (edgeCount n)) (eqb (length marks) (edgeCount n)) (areMarks marks) h
+tests-few n size marks h =
+    until-number few (firstFailing n (placeTests n size)) (markTests marks)
+    (λ j. refused-number few n (placeTests n size) ((omega arith, omega arith), ((omega arith, omega arith), tt)))
+    (λ m. ((omega arith, omega arith), ((omega arith, omega arith), tt))) h
   where
-    number : {a : ℕ} → 1 ≤ a → a ≤ 6 → tests.Refused a ≡ tests.Refused k → (1 ≤ k) × (k ≤ 6)
-    number {a} l g e = let same : a ≡ k = cc in (omega arith, omega arith)
-
-    by : (a b c d : Bool) → unless a (tests.Refused 1) (unless b (tests.Refused 2) (unless c (tests.Refused 6) (unless d (tests.Refused 6) (tests.Points n)))) ≡ tests.Refused k → (1 ≤ k) × (k ≤ 6)
-    by false b c d e = number (omega arith) (omega arith) e
-    by true false c d e = number (omega arith) (omega arith) e
-    by true true false d e = number (omega arith) (omega arith) e
-    by true true true false e = number (omega arith) (omega arith) e
-    by true true true true e = absurd (let z : _≡_ {A = ℕ} 0 1 = cc in omega arith)
+    few : ℕ → Type 0
+    few k = (1 ≤ k) × (k ≤ 6)
 
 -- an answer by its number: 27 names a line, any other refusal line 0
 pub data Numbered : PageRead → Type 0 where

@@ -17,17 +17,18 @@ use Rattle.marks.specs.Mark.{areMarks}
 use Rattle.marks.specs.Packed.{packedBytes, packed, wellPacked, marksOf}
 use Rattle.marks.proofs.PackedMarks.{held-packed}
 use Rattle.marks.proofs.PackedSets.{some-edges, marks-are, whole-well, well-packed}
-use Rattle.marking.specs.declared.tests.Tested.the-variants as tests
+use Rattle.admission.specs.declared.tested.Tested.the-variants as tests
 use Rattle.pages.specs.Line.{lineBytes}
 use Rattle.pages.specs.Page.{firstPlace, pageLines, pageOf}
-use Rattle.pages.specs.Reading.{lengthsRead, marksRead, rightLine, wrongLine, isPageText, placesTested, readAnswer, overlay, ReadAs}
+use Rattle.pages.specs.Reading.{lengthsRead, marksRead, rightLine, wrongLine, isPageText, readAnswer, overlay, ReadAs}
+use Rattle.admission.specs.Tests.{placesTested}
 use Rattle.pages.specs.asks.Page.{PartAsked}
 use Rattle.pages.specs.asks.Reading.{StoreAsked, MarksStored}
 use Rattle.pages.specs.declared.page.Page.the-variants.{OutOfRange}
 use Rattle.pages.specs.declared.reading.PageRead.the-variants.{Done, Refused}
 use Rattle.pages.proofs.Overlays.{overlay-length}
 use Rattle.pages.proofs.PageParts.{Paged, not-paged, paged-part}
-use Rattle.pages.proofs.PlacesTests.{PlacesPassed, places}
+use Rattle.admission.proofs.Passed.{PlacesPassed, places}
 use Rattle.pages.proofs.Storing.{marks-count}
 
 -- the first wrong line is one of the lines, or one past them

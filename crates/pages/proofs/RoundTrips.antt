@@ -34,7 +34,7 @@ use Rattle.pages.proofs.Overlays.{overlay-length, overlay-before, overl
 use Rattle.pages.proofs.PageLines.{place-line}
 use Rattle.pages.proofs.PageParts.{page-part, edge-there}
 use Rattle.pages.proofs.PageReading.{page-line, read-page}
-use Rattle.pages.proofs.PlacesTests.{PlacesPassed, places, places-pass}
+use Rattle.admission.proofs.Passed.{PlacesPassed, places, places-pass}
 use Rattle.pages.proofs.Storing.{lengths-size, marks-count}
 use Rattle.pages.proofs.WholeNumbers.{whole-overlay}
 

@@ -7,9 +7,9 @@ use native.Mathlib.Omega.{arith}
 use lib.ListN.{length}
 use borrow.Author.Tests.{le-leb, lt-leb}
 use Rattle.marks.specs.Packed.{marksOf}
-use Rattle.marking.specs.Tests.{tested}
-use Rattle.marking.specs.declared.tests.Tested.the-variants as tests
-use Rattle.marking.proofs.Tested.{InstancePassed, passed}
+use Rattle.admission.specs.Tests.{tested}
+use Rattle.admission.specs.declared.tested.Tested.the-variants as tests
+use Rattle.admission.proofs.Passed.{InstancePassed, passed}
 use Rattle.text.specs.Words.{Wrote}
 use Rattle.pages.specs.Line.{lineBytes}
 use Rattle.pages.specs.Page.{isPage, firstPlace, pageLines, pageOf, pageText}

@@ -6,14 +6,13 @@ use mathlib.Core.List.{List, [], _∷_, _++_}
 use lib.Dec.{eqb}
 use lib.ListN.{length, take, drop}
 use Rattle.endian.specs.Bytes.{bytes32, whole32}
-use Rattle.lengths.specs.Edge.{Edge, edge, edgeCount}
-use Rattle.lengths.specs.Instance.{inRange}
+use Rattle.lengths.specs.Edge.{Edge, edge}
 use Rattle.lists.specs.FirstFrom.{firstFrom}
 use Rattle.lists.specs.Test.{unless}
-use Rattle.marks.specs.Mark.{areMarks}
 use Rattle.marks.specs.Packed.{packed, marksOf}
-use Rattle.marking.specs.declared.tests.Tested.{Tested}
-use Rattle.marking.specs.declared.tests.Tested.the-variants as tests
+use Rattle.admission.specs.Tests.{placesTested}
+use Rattle.admission.specs.declared.tested.Tested.{Tested}
+use Rattle.admission.specs.declared.tested.Tested.the-variants as tests
 use Rattle.pages.specs.Line.{lineBytes, lengthRead, markRead, isLine}
 use Rattle.pages.specs.Page.{isPage, firstPlace, pageLines, edgeAt, joined}
 use Rattle.pages.specs.declared.reading.PageRead.{PageRead}
@@ -44,15 +43,6 @@ wrongLine n first lines text = suc (firstFrom (λ k. not (rightLine n first text
 -- no line is wrong, and there is nothing behind the last
 unfoldable pub isPageText : (n p : ℕ) → List ℕ → Bool
 isPageText n p text = eqb (wrongLine n (firstPlace p) (pageLines n p) text) (suc (pageLines n p)) && eqb (length text) (lineBytes * pageLines n p)
-
--- 1, 2 and 6, of the number of lengths and of the marks
-unfoldable pub placesTested : ℕ → (size : ℕ) → (marks : List ℕ) → Tested
-placesTested n size marks =
-    unless (inRange n) (tests.Refused 1)
-    (unless (eqb size (edgeCount n)) (tests.Refused 2)
-    (unless (eqb (length marks) (edgeCount n)) (tests.Refused 6)
-    (unless (areMarks marks) (tests.Refused 6)
-    (tests.Points n))))
 
 -- a table and a packed set that pass 1, 2 and 6
 pub record Passes (n : ℕ) (table set : List ℕ) : Type 0 where

@@ -5,9 +5,9 @@ use mathlib.Core.List.{List, _++_}
 use lib.Dec.{leb}
 use lib.ListN.{length, drop}
 use Rattle.lists.specs.Test.{unless}
-use Rattle.marking.specs.Tests.{tested}
-use Rattle.marking.specs.declared.tests.Tested.{Tested}
-use Rattle.marking.specs.declared.tests.Tested.the-variants as tests
+use Rattle.admission.specs.Tests.{tested}
+use Rattle.admission.specs.declared.tested.Tested.{Tested}
+use Rattle.admission.specs.declared.tested.Tested.the-variants as tests
 use Rattle.pages.specs.Page.{isPage, pageText}
 use Rattle.pages.specs.declared.writing.Written.{Written}
 use Rattle.pages.specs.declared.writing.Written.the-variants.{Bytes, Refused}

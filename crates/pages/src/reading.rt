@@ -6,24 +6,19 @@ use crate::line::mark_read;
 use crate::page::Page;
 use crate::page::edge_at;
 use crate::page::page_of;
-use endian::bytes::count32;
+use admission::tested::Tested;
+use admission::tests::test_places;
 use endian::bytes::put32;
-use lengths::edge;
 use lengths::edge::following;
-use lengths::instance::Admission;
-use lengths::instance::Instance;
 use lengths::refusal;
-use marking::tests::Tested;
 use marks::packed::PER_BYTE;
 use marks::packed::put_quarter;
-use marks::packed::well_packed;
 ghost use mathlib.Core.Path.{_≡_};
 ghost use Prim.Native.Nat.{_*_, _/_};
 ghost use lib.ListN.{length};
-ghost use Rattle.endian.specs.Bytes.{bytes32, whole32};
-ghost use Rattle.marks.specs.Packed.{marksOf};
+ghost use Rattle.endian.specs.Bytes.{bytes32};
 ghost use Rattle.pages.specs.Line.{isLine};
-ghost use Rattle.pages.specs.Reading.{lineAt, lengthsRead, overlay, wrongLine, placesTested, ReadAs};
+ghost use Rattle.pages.specs.Reading.{lineAt, lengthsRead, overlay, wrongLine, ReadAs};
 ghost use Rattle.pages.specs.asks.Page.{PartAsked};
 ghost use Rattle.pages.specs.asks.Reading.{LineOfAsked, StoreAsked, MarksStored};
 
@@ -97,22 +92,6 @@ fn store_marks(text: &[u8], first: usize, lines: usize, set: &mut [u8])
         set[byte] = put_quarter(set[byte], place % PER_BYTE, mark);
         i += 1;
     }
-}
-
-// Tests 1, 2 and 6.
-fn test_places(n: u32, table: &[u8], marks: &[u8]) -> Tested
-    ensures { λ r. ⌜ r ≡ placesTested n (length (whole32 (now (table .entry)))) (marksOf n (now (marks .entry))) ⌝ }
-{
-    let Admission::Admitted(instance) = Instance::admit(n) else {
-        return Tested::Refused(refusal::POINTS);
-    };
-    if count32(table) != edge::count(instance.points) {
-        return Tested::Refused(refusal::SIZE);
-    }
-    if !well_packed(instance.points, marks) {
-        return Tested::Refused(refusal::MARKS);
-    }
-    Tested::Points(instance.points)
 }
 
 // Reads page `page` of n points into the table and the marks: only its own edges are changed there, and nothing where it is refused.

@@ -30,10 +30,10 @@ use Rattle.sheets.proofs.Records.{sheet-admitted, sheet-refused}
 use Rattle.sheet_lines.specs.asks.Line.{judgedOf}
 use Rattle.sheet_lines.specs.declared.line.Judged.{Judged}
 use Rattle.sheet_lines.specs.declared.line.Judged.the-variants as judging
-use Rattle.marking.specs.Tests.{tested}
-use Rattle.marking.specs.declared.tests.Tested.{Tested}
-use Rattle.marking.specs.declared.tests.Tested.the-variants as tests
-use Rattle.marking.proofs.Tested.{InstancePassed, passed, both-passed}
+use Rattle.admission.specs.Tests.{tested}
+use Rattle.admission.specs.declared.tested.Tested.{Tested}
+use Rattle.admission.specs.declared.tested.Tested.the-variants as tests
+use Rattle.admission.proofs.Passed.{InstancePassed, passed, both-passed}
 use Rattle.marking.proofs.MarkingSheets.{admits-between}
 use Rattle.reasons.specs.Telling.{lineReasons, splitPoint, lineText, tellJudged, tellTested, tellAnswer, tellLeft, ToldAs}
 use Rattle.reasons.specs.asks.LineText.{FittedWithin, mostText, splitText, TextAsked}

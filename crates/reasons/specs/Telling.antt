@@ -16,9 +16,9 @@ use Rattle.argument.specs.Record.{Record, line, case, visit, other, records, re
 use Rattle.argument.specs.Line.{Struck, judge}
 use Rattle.sheets.specs.Rules.{rulesOf}
 use Rattle.sheets.specs.Sheet.{wholeSheet}
-use Rattle.marking.specs.Tests.{tested}
-use Rattle.marking.specs.declared.tests.Tested.{Tested}
-use Rattle.marking.specs.declared.tests.Tested.the-variants as tests
+use Rattle.admission.specs.Tests.{tested}
+use Rattle.admission.specs.declared.tested.Tested.{Tested}
+use Rattle.admission.specs.declared.tested.Tested.the-variants as tests
 use Rattle.sentences.specs.Reason.{Reason, Told, split}
 use Rattle.sentences.specs.Sentence.{textOf}
 use Rattle.reasons.specs.PairReason.{PairOutcome, shut, stands, pairOutcome}

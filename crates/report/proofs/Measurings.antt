@@ -14,8 +14,8 @@ use Rattle.lengths.specs.Measure.{measured, measuredTable, tableAfter, leftBy, 
 use Rattle.lists.specs.Test.{unless, allAtMost}
 use Rattle.lengths.specs.declared.distance.NamedRule.{NamedRule}
 use Rattle.lengths.specs.declared.distance.NamedRule.the-variants.{Known, Unknown}
-use Rattle.lengths.specs.declared.measure.Measured.{Measured}
-use Rattle.lengths.specs.declared.measure.Measured.the-variants.{Done, Refused}
+use Rattle.lengths.specs.declared.outcome.Outcome.{Outcome}
+use Rattle.lengths.specs.declared.outcome.Outcome.the-variants.{Done, Refused}
 use Rattle.endian.specs.Bytes.{bytes32, whole16, whole32}
 use Rattle.lengths.proofs.Filling.{measured-again}
 use Rattle.lengths.proofs.Limits.{limit-each}
@@ -27,7 +27,7 @@ use Rattle.report.specs.Lines.{lastLine}
 use Rattle.report.specs.Report.{textBy, measuredText, markedText}
 
 -- tests 3 and 4
-abbrev later : NamedRule → Bool → Measured
+abbrev later : NamedRule → Bool → Outcome
 later named ok = unless (known named) (Refused 3 0) (unless ok (Refused 4 0) Done)
 
 refused-by : (named : NamedRule) (cs : List ℕ) (n : ℕ) (records : List ℕ) {k rec : ℕ} → later named (allAtMost mostCoordinate cs) ≡ Refused k rec → textBy named n cs records ≡ lastLine k
@@ -61,19 +61,19 @@ module _ (n rule : ℕ) (cs table : List ℕ) (range : inRange n ≡ true) (loca
   done-text records {left} m =
       done-by (ruleOf rule) cs n records table (sym measured-later ∙ sym (m .answered))
       ∙ ap (λ (t : List ℕ). markedText n (markSheet n (whole32 t) (freshMarks n) records))
-      (sym (m .table-left ∙ ap (λ (a : Measured). leftBy a (ruleOf rule) n cs table) (sym (m .answered))))
+      (sym (m .table-left ∙ ap (λ (a : Outcome). leftBy a (ruleOf rule) n cs table) (sym (m .answered))))
 
 -- what is written once measuring has answered: the last line, or the text of the records
 module _ (n rule : ℕ) (file : List ℕ) {r : ℕ} {cs table left out done : List ℕ} (range : inRange n ≡ true) (read : cs ≡ coordinatesIn n file)
     (located : length cs ≡ 2 * n) (sized : length (whole32 table) ≡ edgeCount n) where
-  pub wrote-refused : {a : Measured} {k rec : ℕ} → MeasuredAs n rule cs table a left → a ≡ Refused k rec → Wrote out 0 (lastLine k) r done
+  pub wrote-refused : {a : Outcome} {k rec : ℕ} → MeasuredAs n rule cs table a left → a ≡ Refused k rec → Wrote out 0 (lastLine k) r done
       → Wrote out 0 (measuredText rule n (coordinatesIn n file) (recordsIn n file)) r done
   wrote-refused m e w = subst (λ (t : List ℕ). Wrote out 0 t r done)
       (sym
       (ap (λ (l : List ℕ). measuredText rule n l (recordsIn n file)) (sym read)
-      ∙ refused-text n rule cs table range located sized (recordsIn n file) (subst (λ (b : Measured). MeasuredAs n rule cs table b left) e m))) w
+      ∙ refused-text n rule cs table range located sized (recordsIn n file) (subst (λ (b : Outcome). MeasuredAs n rule cs table b left) e m))) w
 
-  pub wrote-done : {a : Measured} → MeasuredAs n rule cs table a left → a ≡ Done
+  pub wrote-done : {a : Outcome} → MeasuredAs n rule cs table a left → a ≡ Done
       → Wrote out 0 (markedText n (markSheet n (whole32 left) (freshMarks n) (whole16 (take (length file - (headerBytes + pointBytes * n)) (drop (headerBytes + pointBytes * n) file))))) r done
       → Wrote out 0 (measuredText rule n (coordinatesIn n file) (recordsIn n file)) r done
   unfolding recordsIn
@@ -84,5 +84,5 @@ module _ (n rule : ℕ) (file : List ℕ) {r : ℕ} {cs table left out done : Li
       (ap (λ (l : List ℕ). markedText n (markSheet n (whole32 left) (freshMarks n) (whole16 l))) rest
       ∙ sym
       (ap (λ (l : List ℕ). measuredText rule n l (recordsIn n file)) (sym read)
-      ∙ done-text n rule cs table range located sized (recordsIn n file) (subst (λ (b : Measured). MeasuredAs n rule cs table b left) e m)))
+      ∙ done-text n rule cs table range located sized (recordsIn n file) (subst (λ (b : Outcome). MeasuredAs n rule cs table b left) e m)))
       w

@@ -4,8 +4,8 @@ use crate::lines::put_all;
 use crate::lines::put_refusal;
 use lengths::edge;
 use lengths::instance::Instance;
-use lengths::measure::Measured;
 use lengths::measure::measure;
+use lengths::outcome::Outcome;
 use lengths::refusal;
 use marking::mark::mark_sheet;
 use marks::fresh::fresh_marks;
@@ -69,8 +69,8 @@ fn measure_file(
 {
     let body = Header::BYTES + Header::POINT_BYTES * (n as usize);
     match measure(n as u32, rule, &file[Header::BYTES..body], table) {
-        Measured::Refused { refusal, record: _ } => put_refusal(refusal, out),
-        Measured::Done => mark_records(n, table, &file[body..], marks, out),
+        Outcome::Refused { refusal, record: _ } => put_refusal(refusal, out),
+        Outcome::Done => mark_records(n, table, &file[body..], marks, out),
     }
 }
 

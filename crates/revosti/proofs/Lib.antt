@@ -1,11 +1,8 @@
-pub mod ConvertAnswers
 pub mod DeskAnswers
-pub mod FreshAnswers
 pub mod ListAnswers
 pub mod MarkAnswers
-pub mod MeasureAnswers
+pub mod OutcomeAnswers
 pub mod PageNumbers
-pub mod PendingAnswers
 pub mod ReadAnswers
 pub mod SavedNumbers
 pub mod SlipAnswers

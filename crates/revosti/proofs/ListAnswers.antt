@@ -3,7 +3,7 @@ use Prim.Native.Nat.{ℕ, _*_}
 use mathlib.Core.Path.{_≡_, sym, _∙_, ap}
 use mathlib.Core.List.{List}
 use Rattle.marking.specs.Listing.{ListedAs}
-use Rattle.limits.specs.Listing.{ListedBetweenAs}
+use Rattle.marking.specs.ListBetween.{ListedBetweenAs}
 use Rattle.marking.specs.declared.listing.Listed.{Listed}
 use Rattle.marking.specs.declared.listing.Listed.the-variants.{Pairs, Refused}
 use Rattle.revosti.specs.Between.{ListedBetweenInC}

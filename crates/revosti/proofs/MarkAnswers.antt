@@ -9,7 +9,7 @@ use Rattle.sheets.specs.declared.verdict.Verdict.the-variants as verdict
 use Rattle.endian.specs.Bytes.{whole16, whole32}
 use Rattle.marking.proofs.MarkingSheets.{result-marks}
 use Rattle.marking.specs.Mark.{markPackedBy}
-use Rattle.limits.specs.Mark.{markBetweenPacked}
+use Rattle.marking.specs.MarkBetween.{markBetweenPacked}
 use Rattle.revosti.specs.Between.{MarkedBetweenInC}
 use Rattle.revosti.specs.Mark.{resultNumber, MarkedInC}
 use Rattle.revosti.specs.asks.Mark.{MarkNumber}

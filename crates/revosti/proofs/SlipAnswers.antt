@@ -7,8 +7,9 @@ use native.Mathlib.Omega.{arith}
 use Rattle.slips.specs.Slip.{release, flagOf}
 use Rattle.slips.specs.View.{ViewedAs}
 use Rattle.slips.specs.declared.slip.Slip.{Slip}
-use Rattle.slips.specs.declared.view.Viewed.{Viewed}
-use Rattle.revosti.specs.Slip.{releasedBit, aboveSlip, slipIn, slipNumber, releaseInC, viewedNumber, ViewedInC}
+use Rattle.lengths.specs.declared.outcome.Outcome.{Outcome}
+use Rattle.revosti.specs.Slip.{releasedBit, aboveSlip, slipIn, slipNumber, releaseInC, ViewedInC}
+use Rattle.revosti.specs.Outcome.{outcomeNumber}
 use Rattle.revosti.specs.asks.Slip.{SlipNumber}
 
 -- the number of the first three values, without bit 40 and with it
@@ -26,7 +27,7 @@ module _ (k : ℕ) {s : Slip} (in-k : s ≡ slipIn k) where
   unfolding releaseInC
   release-in-c e n = ap (λ (low : ℕ). low + aboveSlip * (k / aboveSlip)) (n .number ∙ ap slipNumber (e ∙ ap release in-k))
 
-  pub viewed-in-c : (view : Slip → List ℕ) {bytes left : List ℕ} {answer : Viewed} {r : ℕ} → ViewedAs (view s) bytes answer left → r ≡ viewedNumber answer
+  pub viewed-in-c : (view : Slip → List ℕ) {bytes left : List ℕ} {answer : Outcome} {r : ℕ} → ViewedAs (view s) bytes answer left → r ≡ outcomeNumber answer
       → ViewedInC (view (slipIn k)) bytes r left
   viewed-in-c view {bytes} {left} {answer} {r} v e =
-      subst (λ (t : Slip). ViewedInC (view t) bytes r left) in-k (record { answered = e ∙ ap viewedNumber (v .answered); bytes-left = v .bytes-left })
+      subst (λ (t : Slip). ViewedInC (view t) bytes r left) in-k (record { answered = e ∙ ap outcomeNumber (v .answered); bytes-left = v .bytes-left })

@@ -3,9 +3,9 @@ use Prim.Native.Nat.{ℕ, _+_, _*_, _^_, _<_}
 use mathlib.Core.Path.{_≡_}
 use mathlib.Core.Bool.{Bool, true, false}
 use native.Mathlib.Nat.{add-zero}
-use Rattle.marking.specs.Tour.{Countable}
-use Rattle.marking.specs.declared.tour.Checked.{Checked}
-use Rattle.marking.specs.declared.tour.Checked.the-variants as checked
+use Rattle.tour_check.specs.Tour.{Countable}
+use Rattle.tour_check.specs.declared.tour.Checked.{Checked}
+use Rattle.tour_check.specs.declared.tour.Checked.the-variants as checked
 use Rattle.revosti.specs.Tour.{checkedNumber}
 
 -- the number of an answer

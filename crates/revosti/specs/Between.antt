@@ -4,8 +4,8 @@ use mathlib.Core.Path.{_≡_}
 use mathlib.Core.List.{List}
 use Rattle.argument.specs.Sheet.{Result}
 use Rattle.endian.specs.Bytes.{whole16, whole32}
-use Rattle.limits.specs.Mark.{markBetweenPacked}
-use Rattle.limits.specs.Listing.{listedBetween}
+use Rattle.marking.specs.MarkBetween.{markBetweenPacked}
+use Rattle.marking.specs.ListBetween.{listedBetween}
 use Rattle.marking.specs.Listing.{listLeft, placesOf}
 use Rattle.revosti.specs.Listing.{listedNumber}
 use Rattle.revosti.specs.Mark.{resultNumber}

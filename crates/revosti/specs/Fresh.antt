@@ -4,15 +4,9 @@ use mathlib.Core.Path.{_≡_}
 use mathlib.Core.List.{List}
 use lib.ListN.{length}
 use Rattle.marks.specs.Fresh.{freshSetAnswer, freshSetLeft}
-use Rattle.marks.specs.declared.fresh.Fresh.{Fresh}
-use Rattle.marks.specs.declared.fresh.Fresh.the-variants.{Done, Refused}
-
--- the refusal number, or 0
-unfoldable pub freshNumber : Fresh → ℕ
-freshNumber Done = 0
-freshNumber (Refused number rec) = number
+use Rattle.revosti.specs.Outcome.{outcomeNumber}
 
 -- what `revosti_fresh_marks` ensures: its answer, and the packed set that it leaves
 pub record FreshInC (n : ℕ) (set : List ℕ) (r : ℕ) (left : List ℕ) : Type 0 where
-  pub answered : r ≡ freshNumber (freshSetAnswer n (length set))
+  pub answered : r ≡ outcomeNumber (freshSetAnswer n (length set))
   pub set-left : left ≡ freshSetLeft (freshSetAnswer n (length set)) n set

@@ -6,6 +6,7 @@ pub mod Fresh
 pub mod Listing
 pub mod Mark
 pub mod Measure
+pub mod Outcome
 pub mod Page
 pub mod Pending
 pub mod Reading

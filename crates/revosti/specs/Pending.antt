@@ -3,15 +3,9 @@ use Prim.Native.Nat.{ℕ}
 use mathlib.Core.Path.{_≡_}
 use mathlib.Core.List.{List}
 use Rattle.marks.specs.Pending.{settledSetAnswer, settledSet}
-use Rattle.marks.specs.declared.pending.Settled.{Settled}
-use Rattle.marks.specs.declared.pending.Settled.the-variants.{Done, Refused}
-
--- the refusal number, or 0
-unfoldable pub settledNumber : Settled → ℕ
-settledNumber Done = 0
-settledNumber (Refused number rec) = number
+use Rattle.revosti.specs.Outcome.{outcomeNumber}
 
 -- what `revosti_confirm` (with struck) and `revosti_withdraw` (with open) ensure: the answer, and the packed set that is left
 pub record SettledInC (mark n : ℕ) (set : List ℕ) (r : ℕ) (left : List ℕ) : Type 0 where
-  pub answered : r ≡ settledNumber (settledSetAnswer n set)
+  pub answered : r ≡ outcomeNumber (settledSetAnswer n set)
   pub set-left : left ≡ settledSet mark n set

@@ -7,8 +7,7 @@ use lib.ListN.{length}
 use Rattle.slips.specs.Slip.{release, flagOf}
 use Rattle.slips.specs.View.{viewAnswer, viewLeft}
 use Rattle.slips.specs.declared.slip.Slip.{Slip}
-use Rattle.slips.specs.declared.view.Viewed.{Viewed}
-use Rattle.slips.specs.declared.view.Viewed.the-variants.{Done, Refused}
+use Rattle.revosti.specs.Outcome.{outcomeNumber}
 
 -- bit 40, and the bit above it
 abbrev pub releasedBit : ℕ
@@ -28,12 +27,7 @@ slipNumber s = s .refusal + 256 * s .rec + 16777216 * s .lines + releasedBit * f
 unfoldable pub releaseInC : ℕ → ℕ
 releaseInC k = slipNumber (release (slipIn k)) + aboveSlip * (k / aboveSlip)
 
--- the refusal number, or 0
-unfoldable pub viewedNumber : Viewed → ℕ
-viewedNumber Done = 0
-viewedNumber (Refused number at) = number
-
 -- what `revosti_examiner_view` and `revosti_candidate_view` ensure of a view: the answer, and the bytes that are left
 pub record ViewedInC (view bytes : List ℕ) (r : ℕ) (left : List ℕ) : Type 0 where
-  pub answered : r ≡ viewedNumber (viewAnswer (length bytes))
+  pub answered : r ≡ outcomeNumber (viewAnswer (length bytes))
   pub bytes-left : left ≡ viewLeft (viewAnswer (length bytes)) view bytes

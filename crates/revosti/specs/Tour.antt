@@ -4,9 +4,9 @@ use mathlib.Core.Bool.{Bool, true, false}
 use mathlib.Core.List.{List}
 use Rattle.endian.specs.Bytes.{whole16, whole32}
 use Rattle.marks.specs.Packed.{marksOf}
-use Rattle.marking.specs.Tour.{tourChecked}
-use Rattle.marking.specs.declared.tour.Checked.{Checked}
-use Rattle.marking.specs.declared.tour.Checked.the-variants as checked
+use Rattle.tour_check.specs.Tour.{tourChecked}
+use Rattle.tour_check.specs.declared.tour.Checked.{Checked}
+use Rattle.tour_check.specs.declared.tour.Checked.the-variants as checked
 
 -- the refusal number alone, or 65,536 times the length, plus 256 if all edges are open
 abbrev pub openNumber : Bool → ℕ

@@ -1,26 +1,15 @@
 // "Pack marks" and "unpack marks" for C: the answer as one number.
-use marks::converting::Converted;
+use crate::outcome::outcome_number;
 use marks::converting::pack_marks;
 use marks::converting::unpack_marks;
-ghost use mathlib.Core.Path.{_≡_};
-ghost use Rattle.revosti.specs.Converting.{convertedNumber, PackedInC, UnpackedInC};
-
-// The refusal number, or 0.
-fn converted_number(converted: Converted) -> u64
-    ensures { λ r. ⌜ r ≡ convertedNumber converted ⌝ }
-{
-    match converted {
-        Converted::Done => 0,
-        Converted::Refused { refusal, record: _ } => refusal as u64,
-    }
-}
+ghost use Rattle.revosti.specs.Converting.{PackedInC, UnpackedInC};
 
 // Packs a byte set, one byte an edge: the refusal number, or 0.
 #[no_mangle]
 pub extern "C" fn revosti_pack_marks(n: u32, bytes: &[u8], packed: &mut [u8]) -> u64
     ensures { λ r. ⌜ PackedInC n (now (bytes .entry)) (now (packed .entry)) r (now (packed .exit)) ⌝ }
 {
-    converted_number(pack_marks(n, bytes, packed))
+    outcome_number(pack_marks(n, bytes, packed))
 }
 
 // Unpacks a packed set, into one byte an edge: the refusal number, or 0.
@@ -28,5 +17,5 @@ pub extern "C" fn revosti_pack_marks(n: u32, bytes: &[u8], packed: &mut [u8]) ->
 pub extern "C" fn revosti_unpack_marks(n: u32, packed: &[u8], bytes: &mut [u8]) -> u64
     ensures { λ r. ⌜ UnpackedInC n (now (packed .entry)) (now (bytes .entry)) r (now (bytes .exit)) ⌝ }
 {
-    converted_number(unpack_marks(n, packed, bytes))
+    outcome_number(unpack_marks(n, packed, bytes))
 }

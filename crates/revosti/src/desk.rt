@@ -93,7 +93,8 @@ pub extern "C" fn revosti_hand_in(
     marks: &[u8],
     sheet: &[u8],
 ) -> u64
-    ensures { λ r. ⌜ HandedInC (now (desks .entry)) desk n (now (table .entry)) (now (marks .entry)) (now (sheet .entry)) r (now (desks .exit)) ⌝ }
+    ensures { λ r. ⌜ HandedInC (now (desks .entry)) desk n (now (table .entry)) (now (marks .entry))
+        (now (sheet .entry)) r (now (desks .exit)) ⌝ }
 {
     handed_number(hand_in(desks, desk, n, table, marks, sheet))
 }
@@ -115,7 +116,8 @@ pub extern "C" fn revosti_turn(
     marks: &mut [u8],
     sheet: &[u8],
 ) -> u64
-    ensures { λ r. ⌜ TurnedInC (now (desks .entry)) n (now (table .entry)) (now (marks .entry)) (now (sheet .entry)) r (now (desks .exit)) (now (marks .exit)) ⌝ }
+    ensures { λ r. ⌜ TurnedInC (now (desks .entry)) n (now (table .entry)) (now (marks .entry)) (now (sheet .entry))
+        r (now (desks .exit)) (now (marks .exit)) ⌝ }
 {
     turned_number(turn(desks, n, table, marks, sheet))
 }

@@ -1,5 +1,5 @@
 // "Fresh marks" for C: the answer as one number.
-use marks::fresh::Fresh;
+use crate::outcome::outcome_number;
 use marks::fresh::fresh_marks;
 ghost use Rattle.revosti.specs.Fresh.{FreshInC};
 
@@ -8,8 +8,5 @@ ghost use Rattle.revosti.specs.Fresh.{FreshInC};
 pub extern "C" fn revosti_fresh_marks(n: u32, marks: &mut [u8]) -> u64
     ensures { λ r. ⌜ FreshInC n (now (marks .entry)) r (now (marks .exit)) ⌝ }
 {
-    match fresh_marks(n, marks) {
-        Fresh::Done => 0,
-        Fresh::Refused { refusal, record: _ } => refusal as u64,
-    }
+    outcome_number(fresh_marks(n, marks))
 }

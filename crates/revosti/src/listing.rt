@@ -27,7 +27,8 @@ pub extern "C" fn revosti_list_pairs(
     c: u16,
     list: &mut [u8],
 ) -> u64
-    ensures { λ r. ⌜ ListedInC n (whole32 (now (table .entry))) (marksOf n (now (marks .entry))) a b c (now (list .entry)) r (now (list .exit)) ⌝ }
+    ensures { λ r. ⌜ ListedInC n (whole32 (now (table .entry))) (marksOf n (now (marks .entry))) a b c
+        (now (list .entry)) r (now (list .exit)) ⌝ }
 {
     listed_number(list_pairs(n, table, marks, a, b, c, list))
 }

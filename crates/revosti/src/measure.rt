@@ -1,5 +1,5 @@
 // "Measure" for C: the answer as one number.
-use lengths::measure::Measured;
+use crate::outcome::outcome_number;
 use lengths::measure::measure;
 ghost use Rattle.endian.specs.Bytes.{whole32};
 ghost use Rattle.revosti.specs.Measure.{MeasuredInC};
@@ -9,8 +9,5 @@ ghost use Rattle.revosti.specs.Measure.{MeasuredInC};
 pub extern "C" fn revosti_measure(n: u32, rule: u32, coordinates: &[u8], table: &mut [u8]) -> u64
     ensures { λ r. ⌜ MeasuredInC n rule (whole32 (now (coordinates .entry))) (now (table .entry)) r (now (table .exit)) ⌝ }
 {
-    match measure(n, rule, coordinates, table) {
-        Measured::Done => 0,
-        Measured::Refused { refusal, record: _ } => refusal as u64,
-    }
+    outcome_number(measure(n, rule, coordinates, table))
 }

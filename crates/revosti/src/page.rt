@@ -37,7 +37,8 @@ pub extern "C" fn revosti_write_page(
     page: u32,
     text: &mut [u8],
 ) -> u64
-    ensures { λ r. ⌜ WrittenInC n (whole32 (now (table .entry))) (marksOf n (now (marks .entry))) page (now (text .entry)) r (now (text .exit)) ⌝ }
+    ensures { λ r. ⌜ WrittenInC n (whole32 (now (table .entry))) (marksOf n (now (marks .entry))) page
+        (now (text .entry)) r (now (text .exit)) ⌝ }
 {
     written_number(write_page(n, table, marks, page, text))
 }
@@ -51,7 +52,8 @@ pub extern "C" fn revosti_read_page(
     table: &mut [u8],
     marks: &mut [u8],
 ) -> u64
-    ensures { λ r. ⌜ PageReadInC n page (now (text .entry)) (now (table .entry)) (now (marks .entry)) r (now (table .exit)) (now (marks .exit)) ⌝ }
+    ensures { λ r. ⌜ PageReadInC n page (now (text .entry)) (now (table .entry)) (now (marks .entry)) r
+        (now (table .exit)) (now (marks .exit)) ⌝ }
 {
     page_read_number(read_page(n, page, text, table, marks))
 }

@@ -1,13 +1,13 @@
 // Slips for C: a slip is one 64-bit number, the answer of marking, in which bit 40 is set once it is released.
 use crate::mark::number_of;
+use crate::outcome::outcome_number;
 use slips::slip::Slip;
 use slips::slip::release;
-use slips::view::Viewed;
 use slips::view::candidate_view;
 use slips::view::examiner_view;
 ghost use mathlib.Core.Path.{_≡_};
 ghost use Rattle.slips.specs.View.{examinerView, candidateView};
-ghost use Rattle.revosti.specs.Slip.{slipIn, releaseInC, viewedNumber, ViewedInC};
+ghost use Rattle.revosti.specs.Slip.{slipIn, releaseInC, ViewedInC};
 ghost use Rattle.revosti.specs.asks.Slip.{SlipNumber};
 
 // Bit 40, and the bit above it: numbers below that are those of the four values.
@@ -38,16 +38,6 @@ fn slip_number(slip: Slip) -> u64
     marked
 }
 
-// The refusal number, or 0.
-fn viewed_number(viewed: Viewed) -> u64
-    ensures { λ r. ⌜ r ≡ viewedNumber viewed ⌝ }
-{
-    match viewed {
-        Viewed::Done => 0,
-        Viewed::Refused { refusal, record: _ } => refusal as u64,
-    }
-}
-
 // The slip, released; every other bit stays.
 #[no_mangle]
 pub extern "C" fn revosti_release(slip: u64) -> u64
@@ -61,7 +51,7 @@ pub extern "C" fn revosti_release(slip: u64) -> u64
 pub extern "C" fn revosti_examiner_view(slip: u64, bytes: &mut [u8]) -> u64
     ensures { λ r. ⌜ ViewedInC (examinerView (slipIn slip)) (now (bytes .entry)) r (now (bytes .exit)) ⌝ }
 {
-    viewed_number(examiner_view(slip_in(slip), bytes))
+    outcome_number(examiner_view(slip_in(slip), bytes))
 }
 
 // Writes what the candidate sees, six bytes: the refusal number, or 0.
@@ -69,5 +59,5 @@ pub extern "C" fn revosti_examiner_view(slip: u64, bytes: &mut [u8]) -> u64
 pub extern "C" fn revosti_candidate_view(slip: u64, bytes: &mut [u8]) -> u64
     ensures { λ r. ⌜ ViewedInC (candidateView (slipIn slip)) (now (bytes .entry)) r (now (bytes .exit)) ⌝ }
 {
-    viewed_number(candidate_view(slip_in(slip), bytes))
+    outcome_number(candidate_view(slip_in(slip), bytes))
 }

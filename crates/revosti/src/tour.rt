@@ -1,8 +1,8 @@
 // "Check a tour" for C: the answer as one 64-bit number.
-use marking::tour::Checked;
-use marking::tour::check_tour;
+use tour_check::tour::Checked;
+use tour_check::tour::check_tour;
 ghost use mathlib.Core.Path.{_≡_};
-ghost use Rattle.marking.specs.Tour.{Countable};
+ghost use Rattle.tour_check.specs.Tour.{Countable};
 ghost use Rattle.revosti.specs.Tour.{checkedNumber, tourInC};
 
 // The refusal number alone, or 65,536 times the length, plus 256 if all edges are open.

@@ -13,10 +13,10 @@ use Rattle.lengths.proofs.SignedSavings.{saving-small, smaller-small, larger-sm
 use Rattle.rules.specs.Pair.{exchangeSaving, moveSaving}
 use Rattle.rules.specs.PairTest.{every}
 use Rattle.closings.specs.Closing.{firstSaving, secondSaving, labelSaving, crossingSaving}
-use Rattle.marking.specs.TableTests.{testedTable}
-use Rattle.marking.proofs.Tested.{table-passed}
-use Rattle.marking.specs.declared.tests.Tested.{Tested}
-use Rattle.marking.specs.declared.tests.Tested.the-variants as tests
+use Rattle.admission.specs.Tests.{testedTable}
+use Rattle.admission.proofs.Passed.{table-passed}
+use Rattle.admission.specs.declared.tested.Tested.{Tested}
+use Rattle.admission.specs.declared.tested.Tested.the-variants as tests
 use Rattle.savings.specs.Edges.{isEdge}
 use Rattle.savings.specs.Saved.{savedTested, SavedAs}
 use Rattle.savings.specs.declared.saved.Saved.the-variants.{Saving, Refused}

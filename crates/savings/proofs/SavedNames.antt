@@ -17,9 +17,9 @@ use Rattle.lengths.proofs.Tables.{length-symmetric}
 use Rattle.rules.specs.PairTest.{every}
 use Rattle.rules.proofs.SavingNames.{exchange-first, exchange-second, exchange-edges, move-from, move-to}
 use Rattle.closings.proofs.SavingNames.{crossing-edge, crossing-ends-r, crossing-ends-s, crossing-centres}
-use Rattle.marking.specs.TableTests.{testedTable}
-use Rattle.marking.specs.declared.tests.Tested.{Tested}
-use Rattle.marking.specs.declared.tests.Tested.the-variants as tests
+use Rattle.admission.specs.Tests.{testedTable}
+use Rattle.admission.specs.declared.tested.Tested.{Tested}
+use Rattle.admission.specs.declared.tested.Tested.the-variants as tests
 use Rattle.savings.specs.Edges.{isEdge}
 use Rattle.savings.specs.Saved.{savedTested, exchangeSaved, moveSaved, crossingSaved}
 use Rattle.savings.specs.declared.saved.Saved.the-variants.{Saving, Refused}

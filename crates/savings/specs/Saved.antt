@@ -10,9 +10,9 @@ use Rattle.lengths.specs.Table.{lengthOf}
 use Rattle.rules.specs.Pair.{exchangeSaving, moveSaving}
 use Rattle.rules.specs.PairTest.{every}
 use Rattle.closings.specs.Closing.{crossingSaving}
-use Rattle.marking.specs.TableTests.{testedTable}
-use Rattle.marking.specs.declared.tests.Tested.{Tested}
-use Rattle.marking.specs.declared.tests.Tested.the-variants as tests
+use Rattle.admission.specs.Tests.{testedTable}
+use Rattle.admission.specs.declared.tested.Tested.{Tested}
+use Rattle.admission.specs.declared.tested.Tested.the-variants as tests
 use Rattle.savings.specs.Edges.{isEdge}
 use Rattle.savings.specs.declared.saved.Saved.{Saved}
 use Rattle.savings.specs.declared.saved.Saved.the-variants.{Saving, Refused}

@@ -1,10 +1,11 @@
-// The operations "how much is saved": the savings of exchanging two edges, of moving a point and of a crossing, over one table.
+// The operations "how much is saved": the savings of exchanging two edges, of moving a point and of a crossing, over
+// one table.
 use crate::edges::three_edges;
 use crate::edges::two_edges;
+use admission::tested::Tested;
+use admission::tests::test_table;
 use closings::saving::crossing_saving;
 use lengths::refusal;
-use marking::table_tests::test_table;
-use marking::tests::Tested;
 use rules::saving::exchange_saving;
 use rules::saving::move_saving;
 ghost use mathlib.Core.List.{[], _∷_};
@@ -73,7 +74,8 @@ fn crossing_edges(n: u16, p: u16, q: u16, r: u16, s: u16, x: u16, y: u16, z: u16
     three_edges(n, s, w, r, y, s, z)
 }
 
-// A crossing of the edge pq with the centres r and s, x and y the other ends of r, z and w those of s: the best of its four labellings.
+// A crossing of the edge pq with the centres r and s, x and y the other ends of r, z and w those of s: the best of its
+// four labellings.
 pub fn saved_by_crossing(
     n: u32,
     table: &[u8],

@@ -10,8 +10,8 @@ use Rattle.endian.specs.Bytes.{littleEndian, bytesOf}
 use Rattle.slips.specs.Slip.{stopped?, flagOf}
 use Rattle.slips.specs.View.{examinerView, hidden, shown, candidateView, viewBytes, viewAnswer, viewLeft, ViewedAs}
 use Rattle.slips.specs.declared.slip.Slip.{Slip}
-use Rattle.slips.specs.declared.view.Viewed.{Viewed}
-use Rattle.slips.specs.declared.view.Viewed.the-variants.{Done, Refused}
+use Rattle.lengths.specs.declared.outcome.Outcome.{Outcome}
+use Rattle.lengths.specs.declared.outcome.Outcome.the-variants.{Done, Refused}
 
 -- the slip that the candidate is shown
 module _ (s : Slip) where
@@ -58,5 +58,5 @@ unfolding examinerView bytesOf littleEndian
 view-written s {bytes} x h two e = view-done h (e ∙ ap (λ (front : List ℕ). front ++ (littleEndian 2 (s .rec) ++ littleEndian 2 (s .lines)) ++ drop 6 bytes) two)
 
 -- the candidate's view is the examiner's of what is shown
-pub view-shown : (s : Slip) {t : Slip} {bytes left : List ℕ} {answer : Viewed} → t ≡ shown s → ViewedAs (examinerView t) bytes answer left → ViewedAs (candidateView s) bytes answer left
+pub view-shown : (s : Slip) {t : Slip} {bytes left : List ℕ} {answer : Outcome} → t ≡ shown s → ViewedAs (examinerView t) bytes answer left → ViewedAs (candidateView s) bytes answer left
 view-shown s {t} {bytes} {left} {answer} e v = subst (λ (w : Slip). ViewedAs (examinerView w) bytes answer left) e v

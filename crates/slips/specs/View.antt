@@ -9,8 +9,8 @@ use Rattle.endian.specs.Bytes.{littleEndian}
 use Rattle.lists.specs.Test.{unless}
 use Rattle.slips.specs.Slip.{stopped?, flagOf}
 use Rattle.slips.specs.declared.slip.Slip.{Slip}
-use Rattle.slips.specs.declared.view.Viewed.{Viewed}
-use Rattle.slips.specs.declared.view.Viewed.the-variants.{Done, Refused}
+use Rattle.lengths.specs.declared.outcome.Outcome.{Outcome}
+use Rattle.lengths.specs.declared.outcome.Outcome.the-variants.{Done, Refused}
 
 -- "The examiner sees all of it in six little-endian bytes: refusal number, released 0 or 1, then record and lines, two each"
 unfoldable pub examinerView : Slip → List ℕ
@@ -31,14 +31,14 @@ abbrev pub viewBytes : ℕ
 viewBytes = 6
 
 -- the answer over a buffer of so many bytes, and the buffer that is left: the view, and the bytes past it as they were
-unfoldable pub viewAnswer : ℕ → Viewed
+unfoldable pub viewAnswer : ℕ → Outcome
 viewAnswer size = unless (leb viewBytes size) (Refused 22 0) Done
 
-abbrev pub viewLeft : Viewed → List ℕ → List ℕ → List ℕ
+abbrev pub viewLeft : Outcome → List ℕ → List ℕ → List ℕ
 viewLeft Done view bytes = view ++ drop viewBytes bytes
 viewLeft (Refused number at) view bytes = bytes
 
 -- what the functions ensure of a view: the answer, and the bytes that are left
-pub record ViewedAs (view bytes : List ℕ) (answer : Viewed) (left : List ℕ) : Type 0 where
+pub record ViewedAs (view bytes : List ℕ) (answer : Outcome) (left : List ℕ) : Type 0 where
   pub answered : answer ≡ viewAnswer (length bytes)
   pub bytes-left : left ≡ viewLeft (viewAnswer (length bytes)) view bytes

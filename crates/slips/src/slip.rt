@@ -6,7 +6,8 @@ ghost use mathlib.Core.Path.{_≡_};
 ghost use Rattle.sheets.specs.Verdict.{resultOf};
 ghost use Rattle.slips.specs.Slip.{slipOf, release};
 
-// The refusal number or 0, the record (0 where no record is at fault), the lines accepted, and whether the slip is released.
+// The refusal number or 0, the record (0 where no record is at fault), the lines accepted, and whether the slip is
+// released.
 pub struct Slip {
     pub refusal: u8,
     pub rec: u16,

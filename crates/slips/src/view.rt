@@ -1,18 +1,14 @@
 // The two views of a slip, six bytes each: what the examiner sees, and what the candidate sees.
 use crate::slip::Slip;
 use endian::bytes::encode16;
+use lengths::outcome::Outcome;
+use lengths::outcome::refused;
 use lengths::refusal;
 ghost use mathlib.Core.List.{[], _∷_};
 ghost use mathlib.Core.Path.{_≡_};
 ghost use Rattle.endian.specs.Bytes.{littleEndian};
 ghost use Rattle.slips.specs.Slip.{flagOf};
 ghost use Rattle.slips.specs.View.{examinerView, shown, candidateView, ViewedAs};
-
-// The answer of a view: its bytes are written, or the number of the refusal and its record, always 0.
-pub enum Viewed {
-    Done,
-    Refused { refusal: u8, record: u16 },
-}
 
 // The number of 16 bits whose bytes are the refusal number and whether the slip is released, 0 or 1.
 fn first_two(refusal: u8, released: bool) -> u16
@@ -25,18 +21,15 @@ fn first_two(refusal: u8, released: bool) -> u16
 }
 
 // What the examiner sees: the refusal number, whether the slip is released, the record and the lines.
-pub fn examiner_view(slip: Slip, bytes: &mut [u8]) -> Viewed
+pub fn examiner_view(slip: Slip, bytes: &mut [u8]) -> Outcome
     ensures { λ r. ⌜ ViewedAs (examinerView slip) (now (bytes .entry)) r (now (bytes .exit)) ⌝ }
 {
     if bytes.len() < Slip::BYTES {
-        return Viewed::Refused {
-            refusal: refusal::BUFFER,
-            record: refusal::NO_RECORD,
-        };
+        return refused(refusal::BUFFER);
     }
     let numbers = [first_two(slip.refusal, slip.released), slip.rec, slip.lines];
     encode16(&numbers, bytes);
-    Viewed::Done
+    Outcome::Done
 }
 
 // The slip that the candidate is shown: until release, only whether the sheet stopped, and the lines.
@@ -59,7 +52,7 @@ fn shown(slip: Slip) -> Slip
 }
 
 // What the candidate sees: the examiner's bytes of the slip that the candidate is shown.
-pub fn candidate_view(slip: Slip, bytes: &mut [u8]) -> Viewed
+pub fn candidate_view(slip: Slip, bytes: &mut [u8]) -> Outcome
     ensures { λ r. ⌜ ViewedAs (candidateView slip) (now (bytes .entry)) r (now (bytes .exit)) ⌝ }
 {
     examiner_view(shown(slip), bytes)

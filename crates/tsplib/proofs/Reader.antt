@@ -14,8 +14,8 @@ use Rattle.lengths.specs.Edge.{edgeCount}
 use Rattle.lengths.specs.Instance.{inRange, mostLength, mostCoordinate}
 use Rattle.lengths.specs.Measure.{measured, tableAfter, leftBy, known}
 use Rattle.lengths.specs.declared.distance.NamedRule.{NamedRule}
-use Rattle.lengths.specs.declared.measure.Measured.{Measured}
-use Rattle.lengths.specs.declared.measure.Measured.the-variants as measure
+use Rattle.lengths.specs.declared.outcome.Outcome.{Outcome}
+use Rattle.lengths.specs.declared.outcome.Outcome.the-variants as measure
 use Rattle.tsplib_lines.specs.Line.{Line}
 use Rattle.tsplib_lines.specs.declared.line.Weighing.{Weighing}
 use Rattle.tsplib_lines.specs.declared.line.Weighing.the-variants.{Explicit, Rule}
@@ -131,7 +131,7 @@ pub refused-left : {text table left : List ℕ} {number line : ℕ} → ReadAs t
 unfolding readAs leftAs ofMeasured tableAfter
 refused-left {text} {table} {left} {number} {line} r = r .table-left ∙ go (judged text) (r .answered)
   where
-    by-measure : (n : ℕ) (cs : List ℕ) (m : Measured) (rule : NamedRule) → Refused number line ≡ ofMeasured n m → leftBy m rule n cs table ≡ table
+    by-measure : (n : ℕ) (cs : List ℕ) (m : Outcome) (rule : NamedRule) → Refused number line ≡ ofMeasured n m → leftBy m rule n cs table ≡ table
     by-measure n cs measure.Done rule e = let z : _≡_ {A = ℕ} 0 1 = cc in absurd (omega arith)
     by-measure n cs (measure.Refused a b) rule e = refl
 

@@ -17,8 +17,8 @@ use Rattle.lengths.specs.Instance.{admission, mostLength}
 use Rattle.lengths.specs.Measure.{measured, tableAfter, MeasuredAs}
 use Rattle.lengths.specs.declared.instance.Admission.the-variants.{OutOfRange}
 use Rattle.lengths.specs.declared.instance.Instance.{Instance}
-use Rattle.lengths.specs.declared.measure.Measured.{Measured}
-use Rattle.lengths.specs.declared.measure.Measured.the-variants as measure
+use Rattle.lengths.specs.declared.outcome.Outcome.{Outcome}
+use Rattle.lengths.specs.declared.outcome.Outcome.the-variants as measure
 use Rattle.lengths.proofs.Edges.{edgeCount-tri, tri-some}
 use Rattle.lengths.proofs.Instances.{Admits, out-of-range}
 use Rattle.tsplib_lines.specs.declared.line.Weighing.the-variants.{Explicit, Rule}
@@ -88,7 +88,7 @@ module _ {text : List ℕ} {n : ℕ} (rule : ℕ) (table : List ℕ) (a : Coordi
       let d : measured n rule (coordinatesOf (linesOf text)) (length (whole32 table)) ≡ measure.Refused 1 0 = rw (measured, out-of-range n h) in
       record { answered = sym (ap (ofMeasured n) d); table-left = rw (tableAfter, d) }
 
-  module _ {cs left : List ℕ} {answer : Measured} (e : cs ≡ coordinatesOf (linesOf text)) (d : MeasuredAs n rule cs table answer left) where
+  module _ {cs left : List ℕ} {answer : Outcome} (e : cs ≡ coordinatesOf (linesOf text)) (d : MeasuredAs n rule cs table answer left) where
     measured-read : {x : Read} → x ≡ ofMeasured n answer → CoordinatesRead text n rule table x left
     measured-read f = record {
       answered = f ∙ ap (ofMeasured n) (d .answered ∙ ap (λ (ys : List ℕ). measured n rule ys (length (whole32 table))) e);

@@ -9,8 +9,8 @@ use Rattle.endian.specs.Bytes.{bytes32, whole32}
 use Rattle.lengths.specs.Edge.{edgeCount}
 use Rattle.lengths.specs.Instance.{inRange, mostLength}
 use Rattle.lengths.specs.Measure.{measured, tableAfter}
-use Rattle.lengths.specs.declared.measure.Measured as measuring
-use Rattle.lengths.specs.declared.measure.Measured.the-variants as measure
+use Rattle.lengths.specs.declared.outcome.Outcome as measuring
+use Rattle.lengths.specs.declared.outcome.Outcome.the-variants as measure
 use Rattle.tsplib_lines.specs.Line.{Line}
 use Rattle.tsplib_lines.specs.declared.line.Weighing.{Weighing}
 use Rattle.tsplib_lines.specs.declared.line.Weighing.the-variants.{Explicit, Rule}
@@ -30,7 +30,7 @@ abbrev pub weightsOf : List Line → List ℕ
 weightsOf ls = gathered 0 ls
 
 -- the answer of *measure*, with n
-unfoldable pub ofMeasured : ℕ → measuring.Measured → Read
+unfoldable pub ofMeasured : ℕ → measuring.Outcome → Read
 ofMeasured n measure.Done = Points n
 ofMeasured n (measure.Refused number rec) = Refused number 0
 

@@ -6,8 +6,8 @@ use endian::bytes::count32;
 use lengths::edge;
 use lengths::instance::Admission;
 use lengths::instance::Instance;
-use lengths::measure::Measured;
 use lengths::measure::measure;
+use lengths::outcome::Outcome;
 use lengths::refusal;
 use tsplib_lines::line::Weighing;
 ghost use mathlib.Core.Path.{_≡_};
@@ -37,8 +37,8 @@ fn measure_gathered(
 {
     gather(text, 1, coordinates);
     match measure(n, rule, coordinates, table) {
-        Measured::Done => Read::Points(n),
-        Measured::Refused { refusal, record: _ } => Read::Refused {
+        Outcome::Done => Read::Points(n),
+        Outcome::Refused { refusal, record: _ } => Read::Refused {
             refusal: refusal,
             line: 0,
         },

@@ -16,7 +16,7 @@ pub record TurnAdmitted (n : ℕ) (table marks sheet : List ℕ) (count index li
 
 -- and there is room for the rows of lengths
 pub record TurnRows (n : ℕ) (table rows marks sheet : List ℕ) (count index lines : ℕ) : Type 0 where
-  pub asked : RowsAsked struckMark n table rows marks sheet count
+  pub asked : RowsAsked struckMark n table table rows rows marks sheet count
   pub left : lines < index
 
 -- a desk that has a line left

@@ -1,24 +1,15 @@
 -- What functions ask of each other about the subject of `specs/Listing.antt`, and what they ensure.
-use Prim.Native.Nat.{ℕ, _*_, _≤_}
+use Prim.Native.Nat.{ℕ, _*_}
 use mathlib.Core.Path.{_≡_}
 use mathlib.Core.List.{List}
 use lib.Dec.{leb}
 use lib.ListN.{length}
 use Rattle.lists.specs.Test.{unless}
-use Rattle.lengths.specs.Edge.{edgeCount}
-use Rattle.lengths.specs.Instance.{leastPoints}
-use Rattle.lengths.specs.Table.{Limits}
-use Rattle.marking.specs.declared.tests.Tested.the-variants as tests
+use Rattle.admission.specs.declared.tested.Tested.the-variants as tests
 use Rattle.marking.specs.declared.listing.Listed.{Listed}
 use Rattle.marking.specs.declared.listing.Listed.the-variants.{Pairs, Refused}
 use Rattle.enumeration.specs.Find.{pairsAt}
 use Rattle.marking.specs.Listing.{listTested, listLeft, placesOf}
-
--- two tables and marks of n points, as the tests that the operations share leave them: one table may be both
-pub record Listable (n : ℕ) (out put marks : List ℕ) : Type 0 where
-  pub least : leastPoints ≤ n
-  pub limits : Limits n out put
-  pub marked : length marks ≡ edgeCount n
 
 -- what `list_into` ensures: the answer of test 18, and the list's bytes that it leaves
 pub record ListedInto (n : ℕ) (out put marks : List ℕ) (a b c : ℕ) (list : List ℕ) (answer : Listed) (left : List ℕ) : Type 0 where

@@ -10,8 +10,9 @@ pub record AdmittedBy (by n : ℕ) (out put marks sheet : List ℕ) (count : ℕ
   pub admitted : Admitted n out put marks sheet count
   pub is-mark : by ≤ pendingMark
 
--- what marking by rows that are still to be written is asked about: there is room for them
-pub record RowsAsked (by n : ℕ) (table rows marks sheet : List ℕ) (count : ℕ) : Type 0 where
+-- what marking by rows that are still to be written is asked about: there is room for those of each table; one may be both
+pub record RowsAsked (by n : ℕ) (out put outs puts marks sheet : List ℕ) (count : ℕ) : Type 0 where
   pub is-mark : by ≤ pendingMark
-  pub admitted : Admitted n table table marks sheet count
-  pub room : (n + 1) * (n + 1) ≤ length rows
+  pub admitted : Admitted n out put marks sheet count
+  pub out-room : (n + 1) * (n + 1) ≤ length outs
+  pub put-room : (n + 1) * (n + 1) ≤ length puts

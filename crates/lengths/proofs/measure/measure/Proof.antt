@@ -25,19 +25,19 @@ rule-known : (c : tie.After-known-told2) → ruleOf (c .before .before .before .
 rule-known c = sym (c .before .before .before .numbered .ensures) ∙ c .before .known .given .1
 
 returns : tie.Need-returns
-returns c = refused-points (sym (c .before .before .admit .ensures) ∙ c .enum-told .given .1)
+returns c = let b = c .before in rw (c .refused .ensures) (refused-points (sym (b .before .before .admit .ensures) ∙ b .enum-told .given .1))
 
 returns-2 : tie.Need-returns-2
-returns-2 c = refused-coordinates (admits (c .before .before)) (λ e. c .if1 .taken (c .before .count32 .ensures ∙ e))
+returns-2 c = let b = c .before in rw (c .refused2 .ensures) (refused-coordinates (admits (b .before .before)) (λ e. b .if1 .taken (b .before .count32 .ensures ∙ e)))
 
 returns-3 : tie.Need-returns-3
-returns-3 c = refused-table (admits (c .before .before .before .before .before .before)) (sym (c .before .before .before .before .before .count32 .ensures) ∙ c .before .before .before .before .if1 .left) (λ e. c .if2 .taken (c .before .before .count322 .ensures ∙ e ∙ sym (c .before .count .ensures)))
+returns-3 c = let b = c .before in rw (c .refused3 .ensures) (refused-table (admits (b .before .before .before .before .before .before)) (sym (b .before .before .before .before .before .count32 .ensures) ∙ b .before .before .before .before .if1 .left) (λ e. b .if2 .taken (b .before .before .count322 .ensures ∙ e ∙ sym (b .before .count .ensures))))
 
 returns-4 : tie.Need-returns-4
-returns-4 c = refused-rule (sizes (c .before .before .before)) (sym (c .before .before .numbered .ensures) ∙ c .enum-told2 .given .1)
+returns-4 c = let b = c .before in rw (c .refused4 .ensures) (refused-rule (sizes (b .before .before .before)) (sym (b .before .before .numbered .ensures) ∙ b .enum-told2 .given .1))
 
 returns-5 : tie.Need-returns-5
-returns-5 c = refused-limit (sizes (c .before .before .before .before .before .before)) (rule-known (c .before .before)) (sym (c .before .all-at-most .ensures) ∙ not-true _ (c .if3 .taken))
+returns-5 c = let b = c .before in rw (c .refused5 .ensures) (refused-limit (sizes (b .before .before .before .before .before .before)) (rule-known (b .before .before)) (sym (b .before .all-at-most .ensures) ∙ not-true _ (b .if3 .taken)))
 
 fill-requires : tie.Need-fill-requires
 fill-requires c κs = fillable (sizes (c .before .before .before .before .before .before .before)) (sym (c .before .before .all-at-most .ensures) ∙ not-false _ (c .before .if3 .left))
@@ -50,7 +50,9 @@ returns-6 c =
 pub measure-spec : {M : Type 1} → statement M
 measure-spec =
     tie.close
-    (tie.spec (λ c κs. search needs) (λ c. search needs) (λ c. search needs) returns (λ c κs. search needs)
-    (λ c. search needs) (λ c. search needs) returns-2 (λ c κs. search needs) (λ c κs. search needs) (λ c. search needs)
-    returns-3 (λ c κs. search needs) (λ c. search needs) (λ c. search needs) (λ c. search needs) returns-4
-    (λ c κs. search needs) (λ c. search needs) returns-5 fill-requires (λ c. search needs) returns-6)
+    (tie.spec (λ c κs. search needs) (λ c. search needs) (λ c. search needs) (λ c κs. search needs) returns
+    (λ c κs. search needs) (λ c. search needs) (λ c. search needs) (λ c κs. search needs) returns-2
+    (λ c κs. search needs) (λ c κs. search needs) (λ c κs. search needs) (λ c. search needs) returns-3
+    (λ c κs. search needs) (λ c. search needs) (λ c. search needs) (λ c κs. search needs) (λ c. search needs) returns-4
+    (λ c κs. search needs) (λ c κs. search needs) (λ c. search needs) returns-5 fill-requires (λ c. search needs)
+    returns-6)

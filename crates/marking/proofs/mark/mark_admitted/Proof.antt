@@ -1,17 +1,15 @@
 -- `marking::mark::mark_admitted` meets its contract: either array has room for the rows. Assumes nothing.
-use Prim.Native.Nat.{ℕ, _+_, _*_}
-use lib.ListN.{length-replicate}
-use Rattle.lengths.specs.Instance.{fewPoints, mostPoints, pointPlaces}
-use Rattle.marking.proofs.MarkingSheets.{rows-room}
+use Rattle.lengths.specs.Instance.{fewPoints, mostPoints}
+use Rattle.marking.proofs.MarkingSheets.{rows-room, cleared}
 use borrow.Author.Needs.{needs}
 use Rattle.marking.proofs.mark.mark_admitted.Statement.{statement}
 use Rattle.marking.proofs.mark.mark_admitted.Tie as tie
 
 mark-by-rows-requires : tie.Need-mark-by-rows-requires
-mark-by-rows-requires c κs = rows-room fewPoints (c .before .before .before .before .before .before .pre) (c .before .before .if1 .taken) (length-replicate {A = ℕ} ((fewPoints + 1) * (fewPoints + 1)) 0)
+mark-by-rows-requires c κs = rows-room fewPoints (c .before .before .before .before .before .before .pre) (c .before .before .if1 .taken) (cleared fewPoints) (cleared fewPoints)
 
 mark-by-rows-requires-2 : tie.Need-mark-by-rows-requires-2
-mark-by-rows-requires-2 c κs = rows-room mostPoints (c .before .before .before .before .before .before .pre) (c .before .before .before .before .before .before .pre .admitted .limits .out-lengths .few) (length-replicate {A = ℕ} (pointPlaces * pointPlaces) 0)
+mark-by-rows-requires-2 c κs = let p = c .before .before .before .before .before .before .pre in rows-room mostPoints p (p .admitted .limits .out-lengths .few) (cleared mostPoints) (cleared mostPoints)
 
 pub mark-admitted-spec : {M : Type 1} → statement M
 mark-admitted-spec =

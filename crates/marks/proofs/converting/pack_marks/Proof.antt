@@ -12,13 +12,13 @@ admits : (c : tie.After-known-told) → Admits (c .before .before .before .befor
 admits c = admitted (sym (c .before .before .before .admit .ensures) ∙ c .before .instance .given .1)
 
 returns : tie.Need-returns
-returns c = pack-points _ _ (sym (c .before .before .admit .ensures) ∙ c .enum-told .given .1)
+returns c = let b = c .before in rw (c .refused .ensures) (pack-points _ _ (sym (b .before .before .admit .ensures) ∙ b .enum-told .given .1))
 
 returns-2 : tie.Need-returns-2
-returns-2 c = pack-bytes _ _ (admits (c .before .before)) (c .before .is-byte-set .ensures) (not-true _ (c .if1 .taken))
+returns-2 c = let b = c .before in rw (c .refused2 .ensures) (pack-bytes _ _ (admits (b .before .before)) (b .before .is-byte-set .ensures) (not-true _ (b .if1 .taken)))
 
 returns-3 : tie.Need-returns-3
-returns-3 c = let k = c .before .before in pack-size _ _ (admits (k .before .before)) (k .before .is-byte-set .ensures) (not-false _ (k .if1 .left)) (λ e. c .if2 .taken (e ∙ sym (c .before .size .ensures)))
+returns-3 c = let b = c .before in rw (c .refused3 .ensures) (let k = b .before .before in pack-size _ _ (admits (k .before .before)) (k .before .is-byte-set .ensures) (not-false _ (k .if1 .left)) (λ e. b .if2 .taken (e ∙ sym (b .before .size .ensures))))
 
 pack-all-requires : tie.Need-pack-all-requires
 pack-all-requires c κs = let d = c .before in let k = d .before .before in pack-asked _ _ (admits (k .before .before)) (k .before .is-byte-set .ensures) (not-false _ (k .if1 .left)) (d .if2 .left ∙ d .before .size .ensures)
@@ -29,5 +29,6 @@ returns-4 c = let d = c .before .before .before .before in let k = d .before .be
 pub pack-marks-spec : {M : Type 1} → statement M
 pack-marks-spec =
     tie.close
-    (tie.spec (λ c κs. search needs) (λ c. search needs) (λ c. search needs) returns (λ c κs. search needs) returns-2
-    (λ c κs. search needs) returns-3 pack-all-requires (λ c. search needs) returns-4)
+    (tie.spec (λ c κs. search needs) (λ c. search needs) (λ c. search needs) (λ c κs. search needs) returns
+    (λ c κs. search needs) (λ c κs. search needs) returns-2 (λ c κs. search needs) (λ c κs. search needs) returns-3
+    pack-all-requires (λ c. search needs) returns-4)

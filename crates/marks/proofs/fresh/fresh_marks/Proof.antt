@@ -15,10 +15,10 @@ admits : (c : tie.After-known-told) → Admits (c .before .before .before .befor
 admits c = admitted (sym (c .before .before .before .admit .ensures) ∙ c .before .instance .given .1)
 
 returns : tie.Need-returns
-returns c = refused-fresh-points (sym (c .before .before .admit .ensures) ∙ c .enum-told .given .1)
+returns c = let b = c .before in rw (c .refused .ensures) (refused-fresh-points (sym (b .before .before .admit .ensures) ∙ b .enum-told .given .1))
 
 returns-2 : tie.Need-returns-2
-returns-2 c = refused-fresh-size (admits (c .before .before)) (λ e. c .if1 .taken (e ∙ sym (c .before .size .ensures)))
+returns-2 c = let b = c .before in rw (c .refused2 .ensures) (refused-fresh-size (admits (b .before .before)) (λ e. b .if1 .taken (e ∙ sym (b .before .size .ensures))))
 
 open-all-requires : tie.Need-open-all-requires
 open-all-requires c κs = let k = c .before .before in k .if1 .left ∙ k .before .size .ensures ∙ ap packedBytes (sym (c .before .count .ensures))
@@ -29,5 +29,6 @@ returns-3 c = let d = c .before .before .before .before in let k = d .before in 
 pub fresh-marks-spec : {M : Type 1} → statement M
 fresh-marks-spec =
     tie.close
-    (tie.spec (λ c κs. search needs) (λ c. search needs) (λ c. search needs) returns (λ c κs. search needs) returns-2
-    (λ c κs. search needs) open-all-requires (λ c. search needs) returns-3)
+    (tie.spec (λ c κs. search needs) (λ c. search needs) (λ c. search needs) (λ c κs. search needs) returns
+    (λ c κs. search needs) (λ c κs. search needs) returns-2 (λ c κs. search needs) open-all-requires (λ c. search needs)
+    returns-3)

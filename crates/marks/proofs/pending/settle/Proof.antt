@@ -14,16 +14,16 @@ admits : (c : tie.After-known-told) → Admits (c .before .before .before .befor
 admits c = admitted (sym (c .before .before .before .admit .ensures) ∙ c .before .instance .given .1)
 
 returns : tie.Need-returns
-returns c = refused-points _ (sym (c .before .before .admit .ensures) ∙ c .enum-told .given .1)
+returns c = let b = c .before in rw (c .refused .ensures) (refused-points _ (sym (b .before .before .admit .ensures) ∙ b .enum-told .given .1))
 
 well-packed-requires : tie.Need-well-packed-requires
 well-packed-requires c κs = points-edges (admits (c .before))
 
 returns-2 : tie.Need-returns-2
-returns-2 c = refused-set _ (admits (c .before .before .before)) (c .before .well-packed .ensures) (not-true _ (c .if1 .taken))
+returns-2 c = let b = c .before in rw (c .refused2 .ensures) (refused-set _ (admits (b .before .before .before)) (b .before .well-packed .ensures) (not-true _ (b .if1 .taken)))
 
 returns-3 : tie.Need-returns-3
-returns-3 c = let k = c .before .before .before in refused-nothing _ (admits (k .before .before .before)) (k .before .well-packed .ensures) (not-false _ (k .if1 .left)) (c .before .marks-within .ensures) (c .if2 .taken)
+returns-3 c = let b = c .before in rw (c .refused3 .ensures) (let k = b .before .before .before in refused-nothing _ (admits (k .before .before .before)) (k .before .well-packed .ensures) (not-false _ (k .if1 .left)) (b .before .marks-within .ensures) (b .if2 .taken))
 
 settle-all-requires : tie.Need-settle-all-requires
 settle-all-requires c κs = omega (arith, c .before .before .before .before .before .before .before .before .before .before .before .before .pre)
@@ -34,6 +34,6 @@ returns-4 c = let d = c .before .before .before .before in let k = d .before .be
 pub settle-spec : {M : Type 1} → statement M
 settle-spec =
     tie.close
-    (tie.spec (λ c κs. search needs) (λ c. search needs) (λ c. search needs) returns well-packed-requires
-    (λ c. search needs) returns-2 (λ c κs. search needs) (λ c. search needs) returns-3 settle-all-requires
-    (λ c. search needs) returns-4)
+    (tie.spec (λ c κs. search needs) (λ c. search needs) (λ c. search needs) (λ c κs. search needs) returns
+    well-packed-requires (λ c κs. search needs) (λ c. search needs) returns-2 (λ c κs. search needs)
+    (λ c κs. search needs) (λ c. search needs) returns-3 settle-all-requires (λ c. search needs) returns-4)

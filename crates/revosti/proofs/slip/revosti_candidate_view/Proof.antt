@@ -6,7 +6,7 @@ use Rattle.revosti.proofs.slip.revosti_candidate_view.Statement.{statem
 use Rattle.revosti.proofs.slip.revosti_candidate_view.Tie as tie
 
 returns : tie.Need-returns
-returns c = viewed-in-c _ (c .before .before .before .before .before .slip-in .ensures) candidateView (c .before .before .before .candidate-view .ensures) (c .viewed-number .ensures)
+returns c = viewed-in-c _ (c .before .before .before .before .before .slip-in .ensures) candidateView (c .before .before .before .candidate-view .ensures) (c .outcome-number .ensures)
 
 pub revosti-candidate-view-spec : {M : Type 1} → statement M
 revosti-candidate-view-spec =

@@ -6,7 +6,7 @@ use Rattle.revosti.proofs.slip.revosti_examiner_view.Statement.{stateme
 use Rattle.revosti.proofs.slip.revosti_examiner_view.Tie as tie
 
 returns : tie.Need-returns
-returns c = viewed-in-c _ (c .before .before .before .before .before .slip-in .ensures) examinerView (c .before .before .before .examiner-view .ensures) (c .viewed-number .ensures)
+returns c = viewed-in-c _ (c .before .before .before .before .before .slip-in .ensures) examinerView (c .before .before .before .examiner-view .ensures) (c .outcome-number .ensures)
 
 pub revosti-examiner-view-spec : {M : Type 1} → statement M
 revosti-examiner-view-spec =

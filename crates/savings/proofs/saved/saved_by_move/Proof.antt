@@ -7,9 +7,9 @@ use Rattle.endian.specs.Bytes.{whole32}
 use Rattle.lengths.specs.Table.{lengthOf}
 use Rattle.lengths.proofs.SignedSavings.{kept}
 use Rattle.lengths.proofs.Tables.{length-small}
-use Rattle.marking.proofs.Tested.{table-passed, table-lengths}
-use Rattle.marking.specs.TableTests.{testedTable}
-use Rattle.marking.specs.declared.tests.Tested.the-variants as tests
+use Rattle.admission.proofs.Passed.{table-passed, table-lengths}
+use Rattle.admission.specs.Tests.{testedTable}
+use Rattle.admission.specs.declared.tested.Tested.the-variants as tests
 use Rattle.rules.specs.Pair.{moveSaving}
 use Rattle.savings.specs.Saved.{moveSaved}
 use Rattle.savings.proofs.EdgeSpans.{three-spans}

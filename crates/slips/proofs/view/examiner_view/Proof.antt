@@ -5,7 +5,7 @@ use Rattle.slips.proofs.view.examiner_view.Statement.{statement}
 use Rattle.slips.proofs.view.examiner_view.Tie as tie
 
 returns : tie.Need-returns
-returns c = view-refused (c .if1 .taken)
+returns c = rw (c .refused .ensures) (view-refused (c .before .if1 .taken))
 
 returns-2 : tie.Need-returns-2
 returns-2 c =
@@ -15,4 +15,5 @@ returns-2 c =
 pub examiner-view-spec : {M : Type 1} → statement M
 examiner-view-spec =
     tie.close
-    (tie.spec returns (λ c κs. search needs) (λ c. search needs) (λ c κs. search needs) (λ c. search needs) returns-2)
+    (tie.spec (λ c κs. search needs) returns (λ c κs. search needs) (λ c. search needs) (λ c κs. search needs)
+    (λ c. search needs) returns-2)

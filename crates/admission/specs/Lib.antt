@@ -1,0 +1,3 @@
+pub mod asks
+pub mod Tested
+pub mod Tests

@@ -1,3 +1,0 @@
-pub mod BetweenLists
-pub mod BetweenSheets
-pub mod LimitWays

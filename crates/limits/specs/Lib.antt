@@ -1,4 +1,0 @@
-pub mod asks
-pub mod Listing
-pub mod Mark
-pub mod Tests

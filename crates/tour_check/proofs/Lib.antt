@@ -1,0 +1,5 @@
+pub mod TourAnswers
+pub mod TourCounts
+pub mod TourExact
+pub mod TourLoops
+pub mod TourSeen

@@ -1,0 +1,2 @@
+pub mod asks
+pub mod Tour

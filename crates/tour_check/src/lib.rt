@@ -1,0 +1,2 @@
+// The operation "check a tour".
+pub mod tour;
