@@ -2,11 +2,12 @@
 //! all edges in a list, marks as a byte set that is packed again at the end, K as a vector, degrees by counting, cycles by walking every way, all pairs
 //! filtered by the five tests as they stand.
 //!
-//! A `Slip` builds in one mistake, to show that the comparison finds it.
+//! A `Mistake` builds in one mistake, to show that the comparison finds it.
 
 mod desks;
 pub mod language;
 mod limits;
+mod mistake;
 mod pages;
 mod reader;
 mod reasons;
@@ -14,20 +15,19 @@ mod rules;
 mod savings;
 mod segments;
 mod sets;
-mod slip;
 pub mod texts;
 mod views;
 
 use super::checker::Checker;
+pub use mistake::Mistake;
 use reader::Reader;
 use rules::{all_edges, pending_read_as, Board, Edge};
 use sets::{byte_set, packed_size};
-pub use slip::Slip;
 use views::Viewer;
 
 #[derive(Default)]
 pub struct Naive {
-    pub slip: Option<Slip>,
+    pub mistake: Option<Mistake>,
 }
 
 fn little_endian(bytes: &[u8]) -> u64 {
@@ -38,9 +38,9 @@ fn numbers(bytes: &[u8], width: usize) -> Vec<u64> {
     bytes.chunks(width).map(little_endian).collect()
 }
 
-/// A limit, or one less by a slip.
-fn limit(number: u64, slip: Option<Slip>, wrong: Slip) -> u64 {
-    number - u64::from(slip == Some(wrong))
+/// A limit, or one less by a mistake.
+fn limit(number: u64, mistake: Option<Mistake>, wrong: Mistake) -> u64 {
+    number - u64::from(mistake == Some(wrong))
 }
 
 /// The number of edges, or 1.
@@ -52,11 +52,11 @@ fn edge_count(n: u32) -> Result<usize, u64> {
 }
 
 /// Tests 1, 2, 5; the number of edges if all pass.
-fn table_tests(slip: Option<Slip>, n: u32, table: &[u32], table_whole: bool) -> Result<usize, u64> {
+fn table_tests(mistake: Option<Mistake>, n: u32, table: &[u32], table_whole: bool) -> Result<usize, u64> {
     let edges = edge_count(n)?;
     if !table_whole || table.len() != edges {
         Err(2)
-    } else if table.iter().any(|&l| u64::from(l) > limit(2_000_000, slip, Slip::LengthLimit)) {
+    } else if table.iter().any(|&l| u64::from(l) > limit(2_000_000, mistake, Mistake::LengthLimit)) {
         Err(5)
     } else {
         Ok(edges)
@@ -64,9 +64,15 @@ fn table_tests(slip: Option<Slip>, n: u32, table: &[u32], table_whole: bool) -> 
 }
 
 /// Tests 1, 2, 5, 6; the byte set if all pass.
-fn first_tests(slip: Option<Slip>, n: u32, table: &[u32], table_whole: bool, marks: &[u8]) -> Result<Vec<u8>, u64> {
-    let edges = table_tests(slip, n, table, table_whole)?;
-    byte_set(slip, edges, marks)
+fn first_tests(
+    mistake: Option<Mistake>,
+    n: u32,
+    table: &[u32],
+    table_whole: bool,
+    marks: &[u8],
+) -> Result<Vec<u8>, u64> {
+    let edges = table_tests(mistake, n, table, table_whole)?;
+    byte_set(mistake, edges, marks)
 }
 
 /// The refusal number, or the answer.
@@ -103,38 +109,38 @@ fn least(test: impl Fn(u64) -> bool) -> u64 {
 }
 
 /// The length from S by the inequalities of EUC_2D, CEIL_2D and ATT; rule is 1, 2 or 3.
-pub fn from_squares(slip: Option<Slip>, rule: u32, s: u64) -> u64 {
-    let ten = if slip == Some(Slip::AttNine) { 9 } else { 10 };
+pub fn from_squares(mistake: Option<Mistake>, rule: u32, s: u64) -> u64 {
+    let ten = if mistake == Some(Mistake::AttNine) { 9 } else { 10 };
     match rule {
         1 => least(|d| 4 * s < (2 * d + 1) * (2 * d + 1)),
         2 => least(|d| d * d >= s),
-        _ if slip == Some(Slip::AttNearest) => least(|d| 4 * s < 10 * (2 * d + 1) * (2 * d + 1)),
+        _ if mistake == Some(Mistake::AttNearest) => least(|d| 4 * s < 10 * (2 * d + 1) * (2 * d + 1)),
         _ => least(|d| ten * d * d >= s),
     }
 }
 
 /// The length by a rule, 1 to 5, from the two differences.
-pub fn distance(slip: Option<Slip>, rule: u32, dx: i64, dy: i64) -> u64 {
+pub fn distance(mistake: Option<Mistake>, rule: u32, dx: i64, dy: i64) -> u64 {
     let (x, y) = (dx.abs() as u64, dy.abs() as u64);
     match rule {
-        1..=3 => from_squares(slip, rule, (dx * dx + dy * dy) as u64),
-        4 if slip != Some(Slip::ManIsMax) => x + y,
-        _ if slip == Some(Slip::MaxIsFirst) => x,
+        1..=3 => from_squares(mistake, rule, (dx * dx + dy * dy) as u64),
+        4 if mistake != Some(Mistake::ManIsMax) => x + y,
+        _ if mistake == Some(Mistake::MaxIsFirst) => x,
         _ => least(|d| d >= x && d >= y),
     }
 }
 
 impl Naive {
-    fn slips(&self, slip: Slip) -> bool {
-        self.slip == Some(slip)
+    fn makes(&self, mistake: Mistake) -> bool {
+        self.mistake == Some(mistake)
     }
 
     /// Tests 20 and 7 of a sheet.
     fn sheet_tests(&self, marks: &[u8], sheet: &[u8], asked: bool) -> Result<(), u64> {
-        let pending = marks.contains(&2) && (asked || !self.slips(Slip::PendingMarked));
-        let most = limit(4_000, self.slip, Slip::RecordLimit);
+        let pending = marks.contains(&2) && (asked || !self.makes(Mistake::PendingMarked));
+        let most = limit(4_000, self.mistake, Mistake::RecordLimit);
         let records = !sheet.is_empty() && sheet.len() % 16 == 0 && sheet.len() as u64 / 16 <= most;
-        if pending && (records || !self.slips(Slip::PendingAfterRecords)) {
+        if pending && (records || !self.makes(Mistake::PendingAfterRecords)) {
             Err(20)
         } else if !records {
             Err(7)
@@ -146,8 +152,8 @@ impl Naive {
     /// *Mark a sheet*, directly or asked.
     fn mark_or_ask(&self, n: u32, table: &[u8], set: &mut [u8], sheet: &[u8], asked: bool) -> Result<u64, u64> {
         let (table, whole) = table_of(table);
-        let marks = first_tests(self.slip, n, &table, whole, set)?;
-        self.mark_or_ask_on(Board::new(n as usize, &table, self.slip), marks, set, sheet, asked)
+        let marks = first_tests(self.mistake, n, &table, whole, set)?;
+        self.mark_or_ask_on(Board::new(n as usize, &table, self.mistake), marks, set, sheet, asked)
     }
 
     /// The same on a board, past the tests of the table and of the marks.
@@ -161,7 +167,7 @@ impl Naive {
     ) -> Result<u64, u64> {
         self.sheet_tests(&marks, sheet, asked)?;
         let answer = self.mark_or_ask_bytes(board, &mut marks, sheet, asked);
-        sets::write(self.slip, &marks, set);
+        sets::write(self.mistake, &marks, set);
         Ok(answer)
     }
 
@@ -171,10 +177,11 @@ impl Naive {
         let mut accepted = 0;
         let strike = if asked { 2 } else { 0 };
         let stop = Reader { board, records: records(sheet), entered: vec![], strike }.lines(marks, &mut accepted);
-        if stop.is_err() && (self.slips(Slip::StrikesGivenBack) || asked && self.slips(Slip::StoppedAskGivenBack)) {
+        if stop.is_err() && (self.makes(Mistake::StrikesGivenBack) || asked && self.makes(Mistake::StoppedAskGivenBack))
+        {
             marks.copy_from_slice(&before);
         }
-        if stop.is_err() && asked && self.slips(Slip::StoppedAskStrikes) {
+        if stop.is_err() && asked && self.makes(Mistake::StoppedAskStrikes) {
             marks.copy_from_slice(&pending_read_as(0, marks));
         }
         let (number, record) = stop.err().unwrap_or((0, 0));
@@ -183,11 +190,11 @@ impl Naive {
 
     /// *Confirm* and *withdraw*: 1, 6, 21; then `becomes` stands for each 2.
     fn settle(&self, n: u32, set: &mut [u8], becomes: u8) -> Result<u64, u64> {
-        let marks = byte_set(self.slip, edge_count(n)?, set)?;
-        if !marks.contains(&2) && !self.slips(Slip::NothingPendingUntold) {
+        let marks = byte_set(self.mistake, edge_count(n)?, set)?;
+        if !marks.contains(&2) && !self.makes(Mistake::NothingPendingUntold) {
             return Err(21);
         }
-        sets::write(self.slip, &pending_read_as(becomes, &marks), set);
+        sets::write(self.mistake, &pending_read_as(becomes, &marks), set);
         Ok(0)
     }
 
@@ -196,8 +203,8 @@ impl Naive {
         if set.len() != packed_size(edges) {
             return Err(6);
         }
-        sets::write(self.slip, &vec![1; edges], set);
-        if self.slips(Slip::FreshUnused) {
+        sets::write(self.mistake, &vec![1; edges], set);
+        if self.makes(Mistake::FreshUnused) {
             set.fill(85);
         }
         Ok(0)
@@ -206,58 +213,58 @@ impl Naive {
     /// 1; 6, the byte set; 6, the size of the packed set.
     fn pack(&self, n: u32, bytes: &[u8], set: &mut [u8]) -> Result<u64, u64> {
         let edges = edge_count(n)?;
-        let known = |&mark: &u8| mark < 3 || self.slips(Slip::ByteModuloFour) && mark % 4 < 3;
+        let known = |&mark: &u8| mark < 3 || self.makes(Mistake::ByteModuloFour) && mark % 4 < 3;
         let good = bytes.len() == edges && bytes.iter().all(known);
-        if self.slips(Slip::PackedBeforeTest) && bytes.len() == edges && set.len() == packed_size(edges) {
+        if self.makes(Mistake::PackedBeforeTest) && bytes.len() == edges && set.len() == packed_size(edges) {
             sets::write(None, &bytes.iter().map(|mark| mark % 4).collect::<Vec<u8>>(), set);
         }
         if !good || set.len() != packed_size(edges) {
             return Err(6);
         }
-        if self.slips(Slip::WrittenSetTested) {
+        if self.makes(Mistake::WrittenSetTested) {
             byte_set(None, edges, set)?;
         }
-        let pending = if self.slips(Slip::PendingPackedOpen) { 1 } else { 2 };
+        let pending = if self.makes(Mistake::PendingPackedOpen) { 1 } else { 2 };
         let bytes: Vec<u8> = bytes.iter().map(|mark| mark % 4).collect();
-        sets::write(self.slip, &pending_read_as(pending, &bytes), set);
+        sets::write(self.mistake, &pending_read_as(pending, &bytes), set);
         Ok(0)
     }
 
     /// 1; 6, the packed set; 6, the size of the byte set.
     fn unpack(&self, n: u32, set: &[u8], bytes: &mut [u8]) -> Result<u64, u64> {
         let edges = edge_count(n)?;
-        let marks = byte_set(self.slip, edges, set)?;
+        let marks = byte_set(self.mistake, edges, set)?;
         if bytes.len() != edges {
             return Err(6);
         }
-        let last = if self.slips(Slip::LastMarkDropped) { edges - 1 } else { edges };
+        let last = if self.makes(Mistake::LastMarkDropped) { edges - 1 } else { edges };
         bytes[..last].copy_from_slice(&marks[..last]);
         Ok(0)
     }
 
     fn tour(&self, n: u32, table: &[u8], set: &[u8], tour: &[u8]) -> Result<u64, u64> {
         let (table, whole) = table_of(table);
-        let marks = first_tests(self.slip, n, &table, whole, set)?;
+        let marks = first_tests(self.mistake, n, &table, whole, set)?;
         let points: Vec<usize> = numbers(tour, 2).iter().map(|&v| v as usize).collect();
         let mut sorted = points.clone();
         sorted.sort();
         if tour.len() % 2 != 0 || sorted != (1..=n as usize).collect::<Vec<_>>() {
             return Err(17);
         }
-        let board = Board::new(n as usize, &table, self.slip);
-        let closing = if self.slip == Some(Slip::OpenTour) { 1 } else { 0 };
+        let board = Board::new(n as usize, &table, self.mistake);
+        let closing = if self.makes(Mistake::OpenTour) { 1 } else { 0 };
         let edges: Vec<Edge> =
             (closing..points.len()).map(|i| (points[i], points[(i + points.len() - 1) % points.len()])).collect();
         let length: i64 = edges.iter().map(|&(a, b)| board.out(a, b)).sum();
-        let marks = pending_read_as(if self.slips(Slip::PendingStruckInTour) { 0 } else { 1 }, &marks);
+        let marks = pending_read_as(if self.makes(Mistake::PendingStruckInTour) { 0 } else { 1 }, &marks);
         let open = edges.iter().filter(|&&(a, b)| marks[board.place(a, b)] == 0).count() == 0;
         Ok(length as u64 * 65_536 + if open { 256 } else { 0 })
     }
 
     fn list(&self, n: u32, table: &[u8], set: &[u8], abc: [u16; 3], list: &mut [u8]) -> Result<u64, u64> {
         let (table, whole) = table_of(table);
-        let marks = first_tests(self.slip, n, &table, whole, set)?;
-        self.list_on(Board::new(n as usize, &table, self.slip), &marks, abc, list)
+        let marks = first_tests(self.mistake, n, &table, whole, set)?;
+        self.list_on(Board::new(n as usize, &table, self.mistake), &marks, abc, list)
     }
 
     /// The same on a board, past the tests of the table and of the marks.
@@ -266,13 +273,13 @@ impl Naive {
         if [a, b, c].iter().any(|&v| v == 0 || v > board.n) || a == b {
             return Err(11);
         }
-        let marks = pending_read_as(if self.slips(Slip::PendingStruckInList) { 0 } else { 1 }, marks);
+        let marks = pending_read_as(if self.makes(Mistake::PendingStruckInList) { 0 } else { 1 }, marks);
         if marks[board.place(a, b)] == 0 {
             return Err(12);
         }
         let pairs = board.standing(&marks, &[(a, b)], c);
         let fits = list.len() >= 4 * pairs.len();
-        if fits || self.slip == Some(Slip::ListWrittenOnRefusal) {
+        if fits || self.makes(Mistake::ListWrittenOnRefusal) {
             for (i, &(x, y)) in pairs.iter().take(list.len() / 4).enumerate() {
                 for (j, point) in [x, y].into_iter().enumerate() {
                     list[4 * i + 2 * j] = (point % 256) as u8;
@@ -302,17 +309,17 @@ impl Checker for Naive {
         if !whole || coordinates.len() as u64 != 2 * u64::from(n) || places.len() != 4 * edges.len() {
             return 2;
         }
-        let rules = if self.slip == Some(Slip::RuleSix) { 6 } else { 5 };
+        let rules = if self.makes(Mistake::RuleSix) { 6 } else { 5 };
         if rule == 0 || rule > rules {
             return 3;
         }
-        if coordinates.iter().any(|&v| u64::from(v) > limit(1_000_000, self.slip, Slip::CoordinateLimit)) {
+        if coordinates.iter().any(|&v| u64::from(v) > limit(1_000_000, self.mistake, Mistake::CoordinateLimit)) {
             return 4;
         }
         for (place, (a, b)) in edges.into_iter().enumerate() {
             let dx = i64::from(coordinates[2 * a - 2]) - i64::from(coordinates[2 * b - 2]);
             let dy = i64::from(coordinates[2 * a - 1]) - i64::from(coordinates[2 * b - 1]);
-            let length = distance(self.slip, rule, dx, dy);
+            let length = distance(self.mistake, rule, dx, dy);
             for byte in 0..4 {
                 places[4 * place + byte] = (length >> (8 * byte)) as u8;
             }
@@ -341,11 +348,11 @@ impl Checker for Naive {
     }
 
     fn confirm(&self, n: u32, marks: &mut [u8]) -> u64 {
-        number(self.settle(n, marks, if self.slips(Slip::ConfirmOpens) { 1 } else { 0 }))
+        number(self.settle(n, marks, if self.makes(Mistake::ConfirmOpens) { 1 } else { 0 }))
     }
 
     fn withdraw(&self, n: u32, marks: &mut [u8]) -> u64 {
-        number(self.settle(n, marks, if self.slips(Slip::WithdrawStrikes) { 0 } else { 1 }))
+        number(self.settle(n, marks, if self.makes(Mistake::WithdrawStrikes) { 0 } else { 1 }))
     }
 
     fn check_tour(&self, n: u32, table: &[u8], marks: &[u8], tour: &[u8]) -> u64 {
@@ -434,7 +441,7 @@ impl Checker for Naive {
             return refused(1);
         }
         let sheet_start = 8 + 8 * n as usize;
-        if file.len() < sheet_start || file.len() as u64 > limit(65_448, self.slip, Slip::FileLimit) {
+        if file.len() < sheet_start || file.len() as u64 > limit(65_448, self.mistake, Mistake::FileLimit) {
             return refused(7);
         }
         let edges = all_edges(n as usize);
@@ -447,7 +454,7 @@ impl Checker for Naive {
         let sheet = &file[sheet_start..];
         let table = table_of(&table).0;
         let answer = match self.sheet_tests(&marks, sheet, false) {
-            Ok(()) => self.mark_or_ask_bytes(Board::new(n as usize, &table, self.slip), &mut marks, sheet, false),
+            Ok(()) => self.mark_or_ask_bytes(Board::new(n as usize, &table, self.mistake), &mut marks, sheet, false),
             Err(refusal) => refusal,
         };
         let mut text = format!("points {} edges {}\n", n, edges.len());

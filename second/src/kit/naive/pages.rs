@@ -1,8 +1,8 @@
 //! Edge pages, by writing out the whole wall list as Paper 12 says; a page is read by writing it out again.
 
+use super::mistake::Mistake;
 use super::rules::all_edges;
 use super::sets::{self, byte_set};
-use super::slip::Slip;
 use super::{edge_count, first_tests, table_of, Naive};
 
 /// What stands on the wall for one edge.
@@ -16,7 +16,7 @@ impl Naive {
     /// The places of a page, or 26.
     fn on_page(&self, edges: usize, page: u32) -> Result<Vec<usize>, u64> {
         let pages: Vec<Vec<usize>> = (0..edges).collect::<Vec<_>>().chunks(60).map(<[usize]>::to_vec).collect();
-        let index = if self.slips(Slip::PageZeroFirst) { page.max(1) } else { page };
+        let index = if self.makes(Mistake::PageZeroFirst) { page.max(1) } else { page };
         if index == 0 || index as usize > pages.len() {
             return Err(26);
         }
@@ -33,7 +33,7 @@ impl Naive {
         text: &mut [u8],
     ) -> Result<u64, u64> {
         let (table, whole) = table_of(table);
-        let marks = first_tests(self.slip, n, &table, whole, set)?;
+        let marks = first_tests(self.mistake, n, &table, whole, set)?;
         let every = all_edges(n as usize);
         let list: String = self
             .on_page(every.len(), page)?
@@ -41,12 +41,12 @@ impl Naive {
             .map(|&i| line(every[i].0, every[i].1, &table[i].to_string(), WORDS[usize::from(marks[i])]))
             .collect();
         if text.len() < list.len() {
-            if self.slips(Slip::ShortPageWritten) {
+            if self.makes(Mistake::ShortPageWritten) {
                 text.copy_from_slice(&list.as_bytes()[..text.len()]);
             }
             return Err(22);
         }
-        if self.slips(Slip::PastPageCleared) {
+        if self.makes(Mistake::PastPageCleared) {
             text.fill(0);
         }
         text[..list.len()].copy_from_slice(list.as_bytes());
@@ -58,8 +58,8 @@ impl Naive {
         let text = std::str::from_utf8(bytes).ok().filter(|text| text.len() == 25)?;
         let length: u64 =
             text.get(8..15)?.trim_start_matches(' ').parse().ok().filter(|&length| length <= 9_999_999)?;
-        let limit = if self.slips(Slip::LongLengthRead) { 9_999_999 } else { 2_000_000 };
-        let shown = if self.slips(Slip::LeadingZeroRead) { text[8..15].trim_start() } else { &length.to_string() };
+        let limit = if self.makes(Mistake::LongLengthRead) { 9_999_999 } else { 2_000_000 };
+        let shown = if self.makes(Mistake::LeadingZeroRead) { text[8..15].trim_start() } else { &length.to_string() };
         let mark = WORDS.iter().position(|&word| line(a, b, shown, word) == text)?;
         (length <= limit).then_some((length, mark as u8))
     }
@@ -77,7 +77,7 @@ impl Naive {
         if table.len() != 4 * edges {
             return Err(2);
         }
-        let mut marks = byte_set(self.slip, edges, set)?;
+        let mut marks = byte_set(self.mistake, edges, set)?;
         let every = all_edges(n as usize);
         let places = self.on_page(edges, page)?;
         let mut lengths: Vec<u64> = table_of(table).0.iter().map(|&length| u64::from(length)).collect();
@@ -86,17 +86,17 @@ impl Naive {
             let Some((length, mark)) = self.line_told(every[place].0, every[place].1, &bytes) else {
                 return Err(27 + 256 * (i as u64 + 1));
             };
-            let at = if self.slips(Slip::NextEdgeChanged) { (place + 1) % edges } else { place };
+            let at = if self.makes(Mistake::NextEdgeChanged) { (place + 1) % edges } else { place };
             lengths[at] = length;
             marks[at] = mark;
         }
-        if text.len() > 25 * places.len() && !self.slips(Slip::SurplusPassed) {
-            return Err(27 + 256 * (places.len() as u64 + if self.slips(Slip::SurplusAsLast) { 0 } else { 1 }));
+        if text.len() > 25 * places.len() && !self.makes(Mistake::SurplusPassed) {
+            return Err(27 + 256 * (places.len() as u64 + if self.makes(Mistake::SurplusAsLast) { 0 } else { 1 }));
         }
         for (i, length) in lengths.iter().enumerate() {
             table[4 * i..4 * i + 4].copy_from_slice(&(*length as u32).to_le_bytes());
         }
-        sets::write(self.slip, &marks, set);
+        sets::write(self.mistake, &marks, set);
         Ok(0)
     }
 }

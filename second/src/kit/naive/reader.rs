@@ -1,7 +1,7 @@
 //! The walk through a sheet, record by record.
 
+use super::mistake::Mistake;
 use super::rules::{has, pending_read_as, with, Board, Edge};
-use super::slip::Slip;
 
 /// A refusal number with its record.
 pub type Stop = (u64, usize);
@@ -18,7 +18,7 @@ pub struct Reader<'a> {
 impl Reader<'_> {
     /// Tests 8 and 9 on an index that is not 0.
     pub fn enter(&mut self, holder: usize, index: usize) -> Result<(), Stop> {
-        let named = if self.board.slip == Some(Slip::IndexNamesTarget) { index } else { holder };
+        let named = if self.board.makes(Mistake::IndexNamesTarget) { index } else { holder };
         let above = index > self.records.len();
         let low = self.entered.iter().any(|&e| index <= e);
         if above {
@@ -41,7 +41,7 @@ impl Reader<'_> {
         let (kind, a, b, u, v, c, d) = (record[0], record[1], record[2], record[3], record[4], record[5], record[6]);
         let unused = match kind {
             3 => vec![],
-            4 if self.board.slip == Some(Slip::CentreUnread) => vec![],
+            4 if self.board.makes(Mistake::CentreUnread) => vec![],
             4 => vec![c],
             _ => vec![u, v],
         };
@@ -50,7 +50,7 @@ impl Reader<'_> {
         }
         let fields = match kind {
             3 => vec![a, b, u, v, c, d],
-            4 if self.board.slip == Some(Slip::EndsUnread) => vec![a, b],
+            4 if self.board.makes(Mistake::EndsUnread) => vec![a, b],
             4 => vec![a, b, u, v],
             _ => vec![a, b, c],
         };
@@ -60,7 +60,7 @@ impl Reader<'_> {
         Ok(record)
     }
 
-    /// 14 and 13, in 01's order or a slip's; `next` is the next standing pair.
+    /// 14 and 13, in 01's order or a mistake's; `next` is the next standing pair.
     pub fn case_tests(
         &self,
         index: usize,
@@ -70,17 +70,17 @@ impl Reader<'_> {
         depth: usize,
     ) -> Result<(), Stop> {
         let record = &self.records[index - 1];
-        let most = if self.board.slip == Some(Slip::SevenSplits) { 7 } else { 6 };
-        let splits = record[0] == 2 || record[0] == 4 && self.board.slip == Some(Slip::ReorderingDeeper);
+        let most = if self.board.makes(Mistake::SevenSplits) { 7 } else { 6 };
+        let splits = record[0] == 2 || record[0] == 4 && self.board.makes(Mistake::ReorderingDeeper);
         let too_deep = splits && depth + 1 > most;
-        if self.board.slip == Some(Slip::SplitBeforePair) && too_deep {
+        if self.board.makes(Mistake::SplitBeforePair) && too_deep {
             return Err((13, index));
         }
         let more = with(&with(k, (c, record[1])), (c, record[2]));
-        if self.board.slip == Some(Slip::CrossingBeforePair) && record[0] == 3 && !has(&more, (record[3], record[4])) {
+        if self.board.makes(Mistake::CrossingBeforePair) && record[0] == 3 && !has(&more, (record[3], record[4])) {
             return Err((15, index));
         }
-        if self.board.slip == Some(Slip::SegmentBeforePair) && record[0] == 4 && self.no_segment(&more, index) {
+        if self.board.makes(Mistake::SegmentBeforePair) && record[0] == 4 && self.no_segment(&more, index) {
             return Err((23, index));
         }
         if next != Some(&(record[1], record[2])) {
@@ -123,7 +123,7 @@ impl Reader<'_> {
             index = record[7];
         }
         if named < pairs.len() {
-            return Err((14, if self.board.slip == Some(Slip::OwnerNamed) { owner } else { last }));
+            return Err((14, if self.board.makes(Mistake::OwnerNamed) { owner } else { last }));
         }
         Ok(())
     }
@@ -148,13 +148,13 @@ impl Reader<'_> {
         let record = self.first_tests(index, &[1])?;
         let (a, b) = (record[1], record[2]);
         let place = self.board.place(a, b);
-        let wrong = self.board.slip == Some(Slip::PendingOpenInSheet);
+        let wrong = self.board.makes(Mistake::PendingOpenInSheet);
         let now = pending_read_as(if wrong { 1 } else { 0 }, marks);
         if now[place] == 0 {
             return Err((12, index));
         }
-        let mut seen = if self.board.slip == Some(Slip::StaleMarks) { at_first.to_vec() } else { now };
-        if self.board.slip == Some(Slip::EarlyStrike) {
+        let mut seen = if self.board.makes(Mistake::StaleMarks) { at_first.to_vec() } else { now };
+        if self.board.makes(Mistake::EarlyStrike) {
             seen[place] = 0;
         }
         if record[6] != 0 || !self.board.waved_on(marks, (a, b)) {

@@ -1,9 +1,9 @@
 //! Reasons in words, sentence by sentence from Paper 6: everything that shuts a pair out is written down, and what
 //! comes first by test, point and edge is told.
 
+use super::mistake::Mistake;
 use super::reader::Reader;
 use super::rules::{other_ends, pending_read_as, short_cycle_from, with, Board, Edge};
-use super::slip::Slip;
 use super::{first_tests, records, table_of, Naive};
 
 /// Something that shuts a pair out: the test, what is the lowest in it, and the words.
@@ -36,12 +36,8 @@ fn dashes(points: &[usize]) -> String {
 }
 
 impl Board<'_> {
-    fn wrong(&self, slip: Slip) -> bool {
-        self.slip == Some(slip)
-    }
-
     fn edge_told(&self, edge: Edge) -> String {
-        let (a, b) = if self.wrong(Slip::EdgeAsGiven) { edge } else { low_high(edge) };
+        let (a, b) = if self.makes(Mistake::EdgeAsGiven) { edge } else { low_high(edge) };
         format!("{a}-{b}")
     }
 
@@ -60,7 +56,7 @@ impl Board<'_> {
             }
             let mut cycle = vec![v];
             if short_cycle_from(more, &mut cycle, self.n) {
-                if !self.wrong(Slip::LoopAsWalked) {
+                if !self.makes(Mistake::LoopAsWalked) {
                     cycle.sort();
                 }
                 all.push(found(3, vec![v], format!("Loop {}", dashes(&cycle))));
@@ -72,7 +68,7 @@ impl Board<'_> {
     /// What an exchange is said to save.
     fn exchange_told(&self, (p, q): Edge, (x, y): Edge, saving: i64) -> i64 {
         let smaller = self.sum(&[(p, x), (q, y)]).min(self.sum(&[(p, y), (q, x)]));
-        if self.wrong(Slip::SmallerExchangeTold) {
+        if self.makes(Mistake::SmallerExchangeTold) {
             self.sum(&[(p, q), (x, y)]) - smaller
         } else {
             saving
@@ -88,7 +84,7 @@ impl Board<'_> {
                 if saving > 0 {
                     let lowest = vec![self.place(leg.0, leg.1), self.place(edge.0, edge.1)];
                     let mut told = [self.edge_told(low_high(leg)), self.edge_told(edge)];
-                    if self.wrong(Slip::LineEdgeFirst) {
+                    if self.makes(Mistake::LineEdgeFirst) {
                         told.reverse();
                     }
                     let saving = self.exchange_told(edge, leg, saving);
@@ -120,18 +116,18 @@ impl Board<'_> {
     fn first_of(&self, mut all: Vec<Found>) -> Option<String> {
         all.sort();
         let last = all.last()?.test;
-        let test = if self.wrong(Slip::LaterTestTold) { last } else { all[0].test };
+        let test = if self.makes(Mistake::LaterTestTold) { last } else { all[0].test };
         all.retain(|found| found.test == test);
         let higher = match test {
-            1 => self.wrong(Slip::HigherStruckTold),
-            4 => self.wrong(Slip::HigherLegTold),
-            5 => self.wrong(Slip::HigherPointTold),
+            1 => self.makes(Mistake::HigherStruckTold),
+            4 => self.makes(Mistake::HigherLegTold),
+            5 => self.makes(Mistake::HigherPointTold),
             _ => false,
         };
         if higher {
             all.reverse();
         }
-        if self.wrong(Slip::LargerSavingTold) {
+        if self.makes(Mistake::LargerSavingTold) {
             all.sort_by_key(|found| -found.saving);
         }
         Some(all[0].words.clone())
@@ -182,7 +178,7 @@ fn closing(board: &Board, records: &[Vec<usize>], line: usize, (x, y): Edge) -> 
         _ => vec![],
     };
     Some(match case[0] {
-        2 if board.wrong(Slip::OwnSplitTold) => format!("Further split at {c} settles"),
+        2 if board.makes(Mistake::OwnSplitTold) => format!("Further split at {c} settles"),
         2 => format!("Further split at {} settles", case[5]),
         3 => board.crossing_told(&more, case),
         _ => board.order_told(&more, (case[3], case[4]), &points),
@@ -192,13 +188,13 @@ fn closing(board: &Board, records: &[Vec<usize>], line: usize, (x, y): Edge) -> 
 impl Naive {
     /// The number of the record asked for, or 8 with record 0.
     fn asked_record(&self, record: u32, count: usize) -> Result<usize, u64> {
-        let index = match self.slip {
-            Some(Slip::RecordZeroFirst) => record.max(1) as usize,
-            Some(Slip::RecordByLowBits) => record as usize % 65_536,
+        let index = match self.mistake {
+            Some(Mistake::RecordZeroFirst) => record.max(1) as usize,
+            Some(Mistake::RecordByLowBits) => record as usize % 65_536,
             _ => record as usize,
         };
         if index == 0 || index > count {
-            return Err(8 + if self.slips(Slip::AskedRecordNamed) { 256 * (record as u64 % 65_536) } else { 0 });
+            return Err(8 + if self.makes(Mistake::AskedRecordNamed) { 256 * (record as u64 % 65_536) } else { 0 });
         }
         Ok(index)
     }
@@ -208,7 +204,7 @@ impl Naive {
         let mut left = marks.to_vec();
         let judged = reader.line(&mut left, marks, index).and_then(|next| match next {
             0 => Ok(()),
-            _ if self.slips(Slip::NextIndexTold) => reader.enter(index, next),
+            _ if self.makes(Mistake::NextIndexTold) => reader.enter(index, next),
             _ => Ok(()),
         });
         judged.map(|()| left).map_err(|(number, record)| number + 256 * record as u64)
@@ -218,12 +214,12 @@ impl Naive {
     fn sentences(&self, reader: &Reader, marks: &[u8], index: usize) -> String {
         let record = &reader.records[index - 1];
         let (ab, c) = ((record[1], record[2]), record[5]);
-        let marks = pending_read_as(if self.slips(Slip::PendingToldOpen) { 1 } else { 0 }, marks);
+        let marks = pending_read_as(if self.makes(Mistake::PendingToldOpen) { 1 } else { 0 }, marks);
         let mut text = String::new();
         for x in (1..=reader.board.n).filter(|&x| x != c) {
             for y in (x + 1..=reader.board.n).filter(|&y| y != c) {
                 let shut_out = reader.board.shut_out(&marks, ab, c, (x, y));
-                let told = if shut_out.is_some() || self.slips(Slip::StandingUntold) {
+                let told = if shut_out.is_some() || self.makes(Mistake::StandingUntold) {
                     shut_out
                 } else {
                     closing(&reader.board, &reader.records, index, (x, y))
@@ -247,30 +243,30 @@ impl Naive {
         text: &mut [u8],
     ) -> Result<u64, u64> {
         let (table, whole) = table_of(table);
-        let marks = first_tests(self.slip, n, &table, whole, set)?;
-        let tested = if self.slips(Slip::ToldPendingRefused) { marks.clone() } else { pending_read_as(0, &marks) };
+        let marks = first_tests(self.mistake, n, &table, whole, set)?;
+        let tested = if self.makes(Mistake::ToldPendingRefused) { marks.clone() } else { pending_read_as(0, &marks) };
         self.sheet_tests(&tested, sheet, false)?;
         let records = records(sheet);
         let index = self.asked_record(record, records.len())?;
-        if text.is_empty() && self.slips(Slip::BufferBeforeLine) {
+        if text.is_empty() && self.makes(Mistake::BufferBeforeLine) {
             return Err(22);
         }
-        let entered = vec![if self.slips(Slip::FirstIsOne) { 1 } else { index }];
-        let mut reader = Reader { board: Board::new(n as usize, &table, self.slip), records, entered, strike: 0 };
+        let entered = vec![if self.makes(Mistake::FirstIsOne) { 1 } else { index }];
+        let mut reader = Reader { board: Board::new(n as usize, &table, self.mistake), records, entered, strike: 0 };
         let left = self.line_judged(&mut reader, &marks, index)?;
-        let seen = if self.slips(Slip::LineToldStruck) { &left } else { &marks };
+        let seen = if self.makes(Mistake::LineToldStruck) { &left } else { &marks };
         let told = self.sentences(&reader, seen, index);
         self.write_told(told.as_bytes(), text)
     }
 
     fn write_told(&self, told: &[u8], text: &mut [u8]) -> Result<u64, u64> {
         if told.len() > text.len() {
-            if self.slips(Slip::ShortTextWritten) {
+            if self.makes(Mistake::ShortTextWritten) {
                 text.copy_from_slice(&told[..text.len()]);
             }
             return Err(22);
         }
-        if self.slips(Slip::PastTextCleared) {
+        if self.makes(Mistake::PastTextCleared) {
             text.fill(0);
         }
         text[..told.len()].copy_from_slice(told);

@@ -1,6 +1,6 @@
 //! The five tests and the crossing as 01 writes them, over two tables as Paper 11 says.
 
-use super::slip::Slip;
+use super::mistake::Mistake;
 
 pub type Edge = (usize, usize);
 
@@ -13,7 +13,7 @@ pub struct Board<'a> {
     high: &'a [u32],
     /// The place of a-b at a × (n + 1) + b.
     places: Vec<usize>,
-    pub slip: Option<Slip>,
+    pub mistake: Option<Mistake>,
 }
 
 pub fn all_edges(n: usize) -> Vec<Edge> {
@@ -90,18 +90,23 @@ pub fn short_cycle(k: &[Edge], limit: usize) -> bool {
 }
 
 impl<'a> Board<'a> {
-    pub fn new(n: usize, table: &'a [u32], slip: Option<Slip>) -> Self {
-        Board::between(n, table, table, slip)
+    pub fn new(n: usize, table: &'a [u32], mistake: Option<Mistake>) -> Self {
+        Board::between(n, table, table, mistake)
     }
 
-    pub fn between(n: usize, low: &'a [u32], high: &'a [u32], slip: Option<Slip>) -> Self {
+    pub fn between(n: usize, low: &'a [u32], high: &'a [u32], mistake: Option<Mistake>) -> Self {
         let edges = all_edges(n);
         let mut places = vec![usize::MAX; (n + 1) * (n + 1)];
         for (place, &(a, b)) in edges.iter().enumerate() {
             places[a * (n + 1) + b] = place;
             places[b * (n + 1) + a] = place;
         }
-        Board { n, edges, low, high, places, slip }
+        Board { n, edges, low, high, places, mistake }
+    }
+
+    /// Whether this mistake is built in.
+    pub fn makes(&self, mistake: Mistake) -> bool {
+        self.mistake == Some(mistake)
     }
 
     pub fn place(&self, a: usize, b: usize) -> usize {
@@ -117,18 +122,18 @@ impl<'a> Board<'a> {
 
     /// "Whatever a rule takes out counts low."
     pub fn out(&self, a: usize, b: usize) -> i64 {
-        self.l(if self.slip == Some(Slip::OutHigh) { self.high } else { self.low }, a, b)
+        self.l(if self.makes(Mistake::OutHigh) { self.high } else { self.low }, a, b)
     }
 
     /// "Whatever it puts in counts high."
     pub fn put(&self, a: usize, b: usize) -> i64 {
-        self.l(if self.slip == Some(Slip::PutLow) { self.low } else { self.high }, a, b)
+        self.l(if self.makes(Mistake::PutLow) { self.low } else { self.high }, a, b)
     }
 
     pub fn compatible(&self, (p, q): Edge, (x, y): Edge) -> bool {
         let straight = self.put(p, x) + self.put(q, y);
         let crossed = self.put(p, y) + self.put(q, x);
-        let larger = if self.slip == Some(Slip::OneExchange) { straight } else { straight.max(crossed) };
+        let larger = if self.makes(Mistake::OneExchange) { straight } else { straight.max(crossed) };
         larger >= self.out(p, q) + self.out(x, y)
     }
 
@@ -136,31 +141,31 @@ impl<'a> Board<'a> {
     pub fn moves_between(&self, (u, v): Edge, w: usize, (s, t): Edge, ties: bool) -> bool {
         let new = self.put(s, t) + self.put(u, w) + self.put(v, w);
         let old = self.out(u, v) + self.out(s, w) + self.out(t, w);
-        let stays = if self.slip == Some(Slip::BothCountsOnce) { self.stays_between((u, v), w, (s, t)) } else { 0 };
+        let stays = if self.makes(Mistake::BothCountsOnce) { self.stays_between((u, v), w, (s, t)) } else { 0 };
         new - stays < old || (ties && new == old)
     }
 
-    /// What a slip takes off: an edge that is taken out and put in again, sw where s is u or v, tw where t is.
+    /// What a mistake takes off: an edge that is taken out and put in again, sw where s is u or v, tw where t is.
     fn stays_between(&self, (u, v): Edge, w: usize, (s, t): Edge) -> i64 {
         [s, t].iter().filter(|&&e| e == u || e == v).map(|&e| self.put(e, w) - self.out(e, w)).sum()
     }
 
-    /// Whether a slip forgets to move w.
-    fn stays_by_slip(&self, w: usize, [c, x, y]: [usize; 3]) -> bool {
-        match self.slip {
-            Some(Slip::SplitMovedOnly) => w != c,
-            Some(Slip::LowerStays) => w == x,
-            Some(Slip::HigherStays) => w == y,
-            Some(Slip::OthersStay) => ![c, x, y].contains(&w),
+    /// Whether a mistake forgets to move w.
+    fn stays_by_mistake(&self, w: usize, [c, x, y]: [usize; 3]) -> bool {
+        match self.mistake {
+            Some(Mistake::SplitMovedOnly) => w != c,
+            Some(Mistake::LowerStays) => w == x,
+            Some(Mistake::HigherStays) => w == y,
+            Some(Mistake::OthersStay) => ![c, x, y].contains(&w),
             _ => false,
         }
     }
 
     /// Whether uv is one of "each edge of that set without the point"; s and t are the neighbours of w.
     fn without(&self, (u, v): Edge, w: usize, (s, t): Edge) -> bool {
-        match self.slip {
-            Some(Slip::EdgeAtPoint) => !same((u, v), (w, s)),
-            Some(Slip::TouchingLeft) => ![w, s, t].contains(&u) && ![w, s, t].contains(&v),
+        match self.mistake {
+            Some(Mistake::EdgeAtPoint) => !same((u, v), (w, s)),
+            Some(Mistake::TouchingLeft) => ![w, s, t].contains(&u) && ![w, s, t].contains(&v),
             _ => u != w && v != w,
         }
     }
@@ -168,14 +173,14 @@ impl<'a> Board<'a> {
     /// Test 5 for w, "each point that has two edges in K with the pair added": x and y at c, K being the first of the edges.
     fn moves(&self, more: &[Edge], k: usize, w: usize, cxy: [usize; 3]) -> bool {
         let Some(st) = two_ends(more, w) else { return false };
-        let ties = match self.slip {
-            Some(Slip::EqualShutsOut) => true,
-            Some(Slip::SettledTies) => w != cxy[0],
+        let ties = match self.mistake {
+            Some(Mistake::EqualShutsOut) => true,
+            Some(Mistake::SettledTies) => w != cxy[0],
             _ => false,
         };
-        let edges = if self.slip == Some(Slip::PairsEdgesLeft) { &more[..k] } else { more };
+        let edges = if self.makes(Mistake::PairsEdgesLeft) { &more[..k] } else { more };
         let moves = |&uv: &Edge| self.without(uv, w, st) && self.moves_between(uv, w, st, ties);
-        !self.stays_by_slip(w, cxy) && edges.iter().any(moves)
+        !self.stays_by_mistake(w, cxy) && edges.iter().any(moves)
     }
 
     pub fn stands(&self, marks: &[u8], k: &[Edge], c: usize, x: usize, y: usize) -> bool {
@@ -183,12 +188,12 @@ impl<'a> Board<'a> {
         if !(open((c, x)) && open((c, y))) {
             return false;
         }
-        let compared = if self.slip == Some(Slip::FirstEdgeOnly) { &k[..1] } else { k };
+        let compared = if self.makes(Mistake::FirstEdgeOnly) { &k[..1] } else { k };
         if !compared.iter().all(|&e| self.compatible(e, (c, x)) && self.compatible(e, (c, y))) {
             return false;
         }
         let more = with(&with(k, (c, x)), (c, y));
-        let limit = if self.slip == Some(Slip::FullCycleShort) { self.n + 1 } else { self.n };
+        let limit = if self.makes(Mistake::FullCycleShort) { self.n + 1 } else { self.n };
         let mut points = more.iter().rev().flat_map(|e| [e.0, e.1]);
         points.clone().all(|v| ends_at(&more, v).count() < 3)
             && !points.any(|w| self.moves(&more, k.len(), w, [c, x, y]))
@@ -202,7 +207,7 @@ impl<'a> Board<'a> {
 
     /// What the two moves of a labelling save.
     pub fn two_savings(&self, [p, q, r, s]: [usize; 4], (x, y): Edge, (z, w): Edge) -> [i64; 2] {
-        let put = |a, b| if self.slip == Some(Slip::CrossingLow) { self.out(a, b) } else { self.put(a, b) };
+        let put = |a, b| if self.makes(Mistake::CrossingLow) { self.out(a, b) } else { self.put(a, b) };
         let first = self.out(p, q) + self.out(r, x) + self.out(s, w) - put(r, s) - put(p, x) - put(q, w);
         let second = self.out(p, q) + self.out(r, y) + self.out(s, z) - put(r, s) - put(p, z) - put(q, y);
         [first, second]
@@ -210,9 +215,9 @@ impl<'a> Board<'a> {
 
     pub fn labelling_saves(&self, pqrs: [usize; 4], xy: Edge, zw: Edge) -> bool {
         let [first, second] = self.two_savings(pqrs, xy, zw);
-        match self.slip {
-            Some(Slip::EqualSaves) => first >= 0 && second >= 0,
-            Some(Slip::OneMove) => first > 0,
+        match self.mistake {
+            Some(Mistake::EqualSaves) => first >= 0 && second >= 0,
+            Some(Mistake::OneMove) => first > 0,
             _ => first > 0 && second > 0,
         }
     }
@@ -227,7 +232,7 @@ impl<'a> Board<'a> {
             return 15;
         }
         let labellings = labellings((xy[0], xy[1]), (zw[0], zw[1]));
-        let tried = if self.slip == Some(Slip::OneLabelling) { 1 } else { 4 };
+        let tried = if self.makes(Mistake::OneLabelling) { 1 } else { 4 };
         if labellings[..tried].iter().any(|&(xy, zw)| self.labelling_saves(pqrs, xy, zw)) {
             0
         } else {
@@ -252,12 +257,12 @@ impl<'a> Board<'a> {
         self.n <= 9 && self.l(table, a, b) + self.shortest_rest(table, &[a, b]) > self.shortest_rest(table, &[a])
     }
 
-    /// Whether a slip accepts a line for ab that has no cases.
+    /// Whether a mistake accepts a line for ab that has no cases.
     pub fn waved_on(&self, marks: &[u8], (a, b): Edge) -> bool {
-        match self.slip {
-            Some(Slip::LastEdges) => [a, b].iter().any(|&v| self.open_edges(marks, v) <= 2),
-            Some(Slip::ShortestOnly) => self.in_no_shortest(self.low, (a, b)),
-            Some(Slip::EndsOnly) => {
+        match self.mistake {
+            Some(Mistake::LastEdges) => [a, b].iter().any(|&v| self.open_edges(marks, v) <= 2),
+            Some(Mistake::ShortestOnly) => self.in_no_shortest(self.low, (a, b)),
+            Some(Mistake::EndsOnly) => {
                 self.low != self.high && [self.low, self.high].iter().all(|table| self.in_no_shortest(table, (a, b)))
             }
             _ => false,

@@ -1,7 +1,7 @@
 //! Savings, sentence by sentence from Paper 5.
 
+use super::mistake::Mistake;
 use super::rules::{labellings, Board, Edge};
-use super::slip::Slip;
 use super::{edge_count, table_of, table_tests, Naive};
 
 impl Board<'_> {
@@ -13,7 +13,7 @@ impl Board<'_> {
     pub fn exchange_saving(&self, (p, q): Edge, (x, y): Edge) -> i64 {
         let mut exchanges = [self.sum(&[(p, x), (q, y)]), self.sum(&[(p, y), (q, x)])];
         exchanges.sort();
-        let larger = if self.slip == Some(Slip::SmallerExchange) { exchanges[0] } else { exchanges[1] };
+        let larger = if self.makes(Mistake::SmallerExchange) { exchanges[0] } else { exchanges[1] };
         self.sum(&[(p, q), (x, y)]) - larger
     }
 
@@ -28,14 +28,14 @@ impl Board<'_> {
     pub fn crossing_saving(&self, pqrs: [usize; 4], xy: Edge, zw: Edge) -> i64 {
         let mut savings = labellings(xy, zw).map(|(xy, zw)| {
             let [one, other] = self.two_savings(pqrs, xy, zw);
-            let larger = self.slip == Some(Slip::LargerMove);
+            let larger = self.makes(Mistake::LargerMove);
             if (one < other) != larger {
                 one
             } else {
                 other
             }
         });
-        if self.slip != Some(Slip::FirstLabelling) {
+        if !self.makes(Mistake::FirstLabelling) {
             savings.sort_by_key(|saving| -saving);
         }
         savings[0]
@@ -47,17 +47,17 @@ impl Naive {
     fn saving(&self, n: u32, table: &[u8], out: &[[u16; 2]], saving: impl Fn(&Board) -> i64) -> Result<i64, u64> {
         let (table, whole) = table_of(table);
         let point = |v: u16| v != 0 && u32::from(v) <= n;
-        let edge = |&[a, b]: &[u16; 2]| point(a) && point(b) && (a != b || self.slips(Slip::EndsTheSame));
+        let edge = |&[a, b]: &[u16; 2]| point(a) && point(b) && (a != b || self.makes(Mistake::EndsTheSame));
         let edges = out.iter().all(edge);
-        if self.slips(Slip::EdgesBeforeLengths) && !edges {
+        if self.makes(Mistake::EdgesBeforeLengths) && !edges {
             return edge_count(n).and(Err(11));
         }
-        table_tests(self.slip, n, &table, whole)?;
+        table_tests(self.mistake, n, &table, whole)?;
         if !edges {
             return Err(11);
         }
-        let saved = saving(&Board::new(n as usize, &table, self.slip));
-        Ok(65_536 * if self.slips(Slip::LossIsNothing) { saved.max(0) } else { saved })
+        let saved = saving(&Board::new(n as usize, &table, self.mistake));
+        Ok(65_536 * if self.makes(Mistake::LossIsNothing) { saved.max(0) } else { saved })
     }
 
     pub fn exchange(&self, n: u32, table: &[u8], pqxy: [u16; 4]) -> Result<i64, u64> {

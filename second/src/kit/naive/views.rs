@@ -1,6 +1,6 @@
 //! What examiner and candidate see of a slip, sentence by sentence from Paper 13.
 
-use super::slip::Slip;
+use super::mistake::Mistake;
 use super::Naive;
 
 /// Bit 40.
@@ -27,10 +27,10 @@ impl Naive {
     /// "Releasing changes nothing else."
     pub fn released(&self, slip: u64) -> u64 {
         let [_, _, _, released] = values(slip);
-        let slip = if self.slips(Slip::ReleaseCutsAbove) { slip % (2 * RELEASED) } else { slip };
+        let slip = if self.makes(Mistake::ReleaseCutsAbove) { slip % (2 * RELEASED) } else { slip };
         match released {
             0 => slip + RELEASED,
-            _ if self.slips(Slip::ReleaseTakenBack) => slip - RELEASED,
+            _ if self.makes(Mistake::ReleaseTakenBack) => slip - RELEASED,
             _ => slip,
         }
     }
@@ -38,15 +38,15 @@ impl Naive {
     /// The six bytes, one after the other, each as a number.
     fn seen(&self, viewer: Viewer, slip: u64) -> Vec<u64> {
         let [mut refusal, mut record, mut lines, released] = values(slip);
-        let hides = released == 0 || self.slips(Slip::HiddenAfterRelease);
+        let hides = released == 0 || self.makes(Mistake::HiddenAfterRelease);
         if viewer == Viewer::Candidate && hides {
-            if refusal != 0 && !self.slips(Slip::NumberShownEarly) {
+            if refusal != 0 && !self.makes(Mistake::NumberShownEarly) {
                 refusal = 255;
             }
-            if !self.slips(Slip::RecordShownEarly) {
+            if !self.makes(Mistake::RecordShownEarly) {
                 record = 0;
             }
-            if self.slips(Slip::LinesHidden) {
+            if self.makes(Mistake::LinesHidden) {
                 lines = 0;
             }
         }
@@ -57,12 +57,12 @@ impl Naive {
     pub fn view(&self, viewer: Viewer, slip: u64, bytes: &mut [u8]) -> u64 {
         let seen = self.seen(viewer, slip);
         if bytes.len() < seen.len() {
-            if self.slips(Slip::ShortViewWritten) {
+            if self.makes(Mistake::ShortViewWritten) {
                 bytes.iter_mut().zip(seen).for_each(|(place, byte)| *place = byte as u8);
             }
             return 22;
         }
-        if self.slips(Slip::BytesPastCleared) {
+        if self.makes(Mistake::BytesPastCleared) {
             bytes.fill(0);
         }
         bytes.iter_mut().zip(seen).for_each(|(place, byte)| *place = byte as u8);
