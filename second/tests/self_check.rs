@@ -1,11 +1,11 @@
 //! The second program against the naive one, and the comparison against mistakes on purpose.
 
-use second::kit::checker::{Checker, Second};
 use second::kit::compare::Comparison;
-use second::kit::coverage::Coverage;
-use second::kit::naive::{Mistake, Naive};
-use second::kit::segment_faults::SegmentFault;
-use second::kit::sets_met::READERS;
+use second::kit::damage::segments::SegmentFault;
+use second::kit::met::coverage::Coverage;
+use second::kit::met::sets::READERS;
+use second::kit::programs::checker::{Checker, Second};
+use second::kit::programs::naive::{Mistake, Naive};
 
 #[test]
 fn alike_and_everything_met() {

@@ -5,8 +5,8 @@ mod common;
 
 use common::*;
 use second::bytes;
-use second::kit::completions::Completions;
-use second::kit::naive::language::Line;
+use second::kit::oracle::completions::Completions;
+use second::kit::programs::naive::language::Line;
 use second::lengths::{edge_count, measure};
 use second::refusal::Refusal;
 use second::tsplib::{read_tsplib, tsplib_points, TextFault};

@@ -2,13 +2,13 @@
 //! equal, and with every fault, alone or beside another.
 
 use super::{hex, Checked, Comparison, Difference, Hex};
-use crate::kit::between_calls::{good_listing, Between, BetweenCall};
-use crate::kit::drafts::sheet_bytes;
-use crate::kit::limit_faults::LimitFault;
-use crate::kit::limits::Limited;
-use crate::kit::limits_met::LimitEvent;
-use crate::kit::rng::Rng;
-use crate::kit::sets;
+use crate::kit::damage::limits::LimitFault;
+use crate::kit::generate::between::{good_listing, Between, BetweenCall};
+use crate::kit::generate::drafts::sheet_bytes;
+use crate::kit::generate::limits::Limited;
+use crate::kit::generate::rng::Rng;
+use crate::kit::generate::sets;
+use crate::kit::met::limits::LimitEvent;
 use crate::sheet::Sheet;
 
 /// Calls with one fault of each operation, and calls with two.

@@ -6,12 +6,14 @@ use super::turns::verdict;
 use super::{hex, hex_call, Checked, Comparison, Difference};
 use crate::bytes::{entries, numbers, read_desks, write_desk, DESKS_BYTES};
 use crate::desks::{Desks, Lent};
-use crate::kit::checker::Checker;
-use crate::kit::coverage::Operation;
-use crate::kit::desks_met::Met;
-use crate::kit::halls::{damaged_state, desk_numbers, desks, line_left, short_size, Change, Folder, Hall, NO_DESKS};
-use crate::kit::rng::Rng;
-use crate::kit::sets::{self, old_bytes};
+use crate::kit::generate::halls::{
+    damaged_state, desk_numbers, desks, line_left, short_size, Change, Folder, Hall, NO_DESKS,
+};
+use crate::kit::generate::rng::Rng;
+use crate::kit::generate::sets::{self, old_bytes};
+use crate::kit::met::coverage::Operation;
+use crate::kit::met::desks::Met;
+use crate::kit::programs::checker::Checker;
 
 /// Halls in a case, and calls in a hall before it is served to its end.
 const HALLS: u64 = 4;

@@ -19,16 +19,16 @@ mod turns;
 use std::fmt::{self, Debug, Write};
 use std::path::PathBuf;
 
-use super::boards::{self, Board};
-use super::checker::Checker;
-use super::completions::Completions;
-use super::coverage::{Coverage, Event, Operation};
-use super::drafts::{sheet_bytes, Draft};
-use super::rng::Rng;
-use super::sets::old_bytes;
-use super::sheets::{self, Plan};
-use super::spoil;
 use crate::intervals::Intervals;
+use crate::kit::damage::spoil;
+use crate::kit::generate::boards::{self, Board};
+use crate::kit::generate::drafts::{sheet_bytes, Draft};
+use crate::kit::generate::rng::Rng;
+use crate::kit::generate::sets::old_bytes;
+use crate::kit::generate::sheets::{self, Plan};
+use crate::kit::met::coverage::{Coverage, Event, Operation};
+use crate::kit::oracle::completions::Completions;
+use crate::kit::programs::checker::Checker;
 use steps::Run;
 
 /// A difference or a lost edge, with what is needed to see it again.

@@ -3,11 +3,11 @@
 
 use super::{Checked, Comparison, Difference, Hex};
 use crate::bytes::slip_of;
-use crate::kit::checker::Checker;
-use crate::kit::coverage::Operation;
-use crate::kit::rng::Rng;
-use crate::kit::slips::{near, random};
-use crate::kit::slips_met::Met;
+use crate::kit::generate::rng::Rng;
+use crate::kit::generate::slips::{near, random};
+use crate::kit::met::coverage::Operation;
+use crate::kit::met::slips::Met;
+use crate::kit::programs::checker::Checker;
 use crate::slip::{Slip, View};
 
 /// Random slips in a case, each beside one that differs in a part.

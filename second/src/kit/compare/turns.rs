@@ -6,14 +6,14 @@ use super::slips::{seen, VIEWS};
 use super::{Checked, Comparison, Difference};
 use crate::bytes::{entries, numbers, turn_number, write_turn};
 use crate::desks::{Desks, Lent};
-use crate::kit::checker::Checker;
-use crate::kit::coverage::Operation;
-use crate::kit::desks_met::Met;
-use crate::kit::halls::{desk_numbers, desks, without, Change, Folder, RECORD};
-use crate::kit::kept::{has_reordering, RunMarks};
-use crate::kit::rng::Rng;
-use crate::kit::segments_met::SegmentEvent;
-use crate::kit::sets;
+use crate::kit::generate::halls::{desk_numbers, desks, without, Change, Folder, RECORD};
+use crate::kit::generate::rng::Rng;
+use crate::kit::generate::sets;
+use crate::kit::met::coverage::Operation;
+use crate::kit::met::desks::Met;
+use crate::kit::met::segments::SegmentEvent;
+use crate::kit::oracle::kept::{has_reordering, RunMarks};
+use crate::kit::programs::checker::Checker;
 use crate::marks::{OPEN, STRUCK};
 
 /// The turns in which a desk with a line left is served.
