@@ -11,7 +11,8 @@ import time
 import unittest
 from concurrent.futures import ThreadPoolExecutor
 
-from support import ANSWER, LIMIT, ROOT, SIGNALS, Tree, eventually
+from tests.support import ROOT
+from tests.support.build import ANSWER, LIMIT, SIGNALS, Tree, eventually
 
 
 class Proves(Tree):
@@ -335,7 +336,3 @@ class Readme(unittest.TestCase):
         for _, total, name in lines:
             self.assertEqual(int(total), len(wanted))
             self.assertIn(name, wanted)
-
-
-if __name__ == "__main__":
-    unittest.main()

@@ -9,7 +9,8 @@ import shutil
 import subprocess
 import unittest
 
-from support import EXAMPLES, NINE, PROGRAM, ROOT, Folder, Run
+from tests.support import EXAMPLES, ROOT
+from tests.support.command import NINE, PROGRAM, Folder, Run
 
 from revosti_command.commands import GROUPS, every_command
 from revosti_command.main import STATUS, parser
@@ -186,7 +187,3 @@ class Anywhere(Folder):
         self.assertEqual((run.returncode, run.stderr), (0, b""))
         self.assertEqual(run.stdout.decode(), Run("explain", EXAMPLES / "square.bin").text)
         self.assertEqual(sorted(tree.rglob("*")), before)
-
-
-if __name__ == "__main__":
-    unittest.main()

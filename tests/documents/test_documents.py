@@ -2,12 +2,11 @@
 
 import re
 import unittest
-from pathlib import Path
 
-from reading import COMMANDED, LINK, beside, blocks, defining, rows, spans, within, words
-from tree import OTHERS, Tree
+from tests.support import ROOT as TOP
+from tests.support.documents.reading import COMMANDED, LINK, beside, blocks, defining, rows, spans, within, words
+from tests.support.documents.tree import OTHERS, Tree
 
-TOP = Path(__file__).resolve().parents[2]
 TREE = Tree(TOP)
 COMMANDS = set().union(*(names for path, names in TREE.declared.items() if TOP / "tools" in path.parents))
 PROGRAM = next(program for program in COMMANDED if (TOP / program).exists())
@@ -154,7 +153,3 @@ class Told(unittest.TestCase):
     def test_a_bare_file_is_of_a_folder_before(self):
         self.assertEqual(faults("# A\n`lengths/specs/Edge.antt`, then `Table.antt`"), [])
         self.assertEqual(faults("# A\n`lengths/specs/Edge.antt`\n# B\n`Table.antt`"), ["no path Table.antt"])
-
-
-if __name__ == "__main__":
-    unittest.main()

@@ -5,7 +5,7 @@ import sys
 import tempfile
 import unittest
 
-from support import ROOT
+from tests.support import ROOT
 
 OPEN = "1-2 is open, length 10\n1-4 is open, length 10\n2-3 is open, length 10\n3-4 is open, length 10\n"
 
@@ -20,7 +20,3 @@ class Example(unittest.TestCase):
     def test_readme_has_it(self):
         program = (ROOT / "examples/open_edges.py").read_text(encoding="utf-8")
         self.assertIn(program, (ROOT / "README.md").read_text(encoding="utf-8"))
-
-
-if __name__ == "__main__":
-    unittest.main()

@@ -1,19 +1,17 @@
-"""What the tests share: a small tree with the real bin/mark and tools/build, and a kit whose `rt` is the real one and
+"""A small tree with the real bin/mark and tools/build, and a kit whose `rt` is the real one and
 whose prover is not."""
 
 import os
 import shutil
 import signal
 import subprocess
-import sys
 import tempfile
 import time
 import unittest
 from pathlib import Path
 
-ROOT = Path(__file__).resolve().parents[2]
-sys.dont_write_bytecode = True
-sys.path.insert(0, str(ROOT / "tools"))
+from tests.support import ROOT
+
 signal.signal(signal.SIGINT, signal.default_int_handler)  # what is started takes it, even where the tests ignore it
 
 REAL_RT = Path(shutil.which("rt") or "/opt/rattle/bin/rt")

@@ -1,28 +1,23 @@
-"""What the tests share: the path of the tools, runs of the command, sheets."""
+"""Runs of the command, sheets, and tests that have a folder."""
 
 import io
 import struct
 import subprocess
-import sys
 import tempfile
 import unittest
 from contextlib import ExitStack
 from pathlib import Path
 from unittest import mock
 
-HERE = Path(__file__).resolve().parent
-ROOT = HERE.parent.parent
-TOOLS = ROOT / "tools"
-sys.dont_write_bytecode = True
-sys.path[:0] = [str(TOOLS), str(HERE.parent)]
+from tests.support import ROOT
 
-from revosti.library import library  # noqa: E402
+from revosti.library import library
 
 library()  # built, where it has to be, before a test looks at what a command says
 
+TOOLS = ROOT / "tools"
 PROGRAM = ROOT / "bin/revosti"
-EXAMPLES = ROOT / "examples"
-NINE = HERE / "nine.txt"  # a board of nine points; its sheet strikes 27 edges
+NINE = ROOT / "tests/command/nine.txt"  # a board of nine points; its sheet strikes 27 edges
 UNKNOWN = "the set is of unknown origin"
 
 SQUARE_POINTS = [(0, 0), (10, 0), (10, 10), (0, 10)]

@@ -1,12 +1,6 @@
-"""What the tests share: the path of the tools, 01's square."""
+"""01's square."""
 
-import sys
 from array import array
-from pathlib import Path
-
-ROOT = Path(__file__).resolve().parents[2]
-sys.dont_write_bytecode = True
-sys.path[:0] = [str(ROOT / "tools"), str(ROOT / "tests")]
 
 N = 4
 POINTS = [(0, 0), (10, 0), (10, 10), (0, 10)]

@@ -6,11 +6,9 @@ import time
 from functools import cache
 from pathlib import Path
 
-from support import ROOT, PageTest, page
+from tests.support.page.driver import Browser
+from tests.support.page.opened import PageTest, page
 
-from driver import Browser
-
-EXAMPLES, DOCS = ROOT / "examples", ROOT / "docs"
 SIX = "strike 2-3, split at 6\n  pair 2-5: split at 1\n  pair 3-5: split at 1\n    pair 2-4: crossing 1-4, centres 2 6\n"
 WAIT = 20  # seconds until something has to be seen
 

@@ -1,15 +1,13 @@
 """Boards of many sizes with what calls on them are made of: tables, sets of marks, sheets, tours, texts, pages."""
 
 from itertools import combinations
-from pathlib import Path
 from struct import pack, unpack_from
 
-import texts
-from packing import packed
-from plain import RULES
-from sheet_maker import Maker, sheet_bytes
+from tests.support import EXAMPLES, texts
+from tests.support.packing import packed
+from tests.support.page.sheet_maker import Maker, sheet_bytes
+from tests.support.plain import RULES
 
-ROOT = Path(__file__).resolve().parents[2]
 MADE = (4, 4, 5, 5, 5, 6, 6, 6, 7, 7, 7, 8, 8, 8, 8, 9, 9, 9, 9, 10, 10, 12, 12)  # boards with sheets of every kind
 WIDE = (30, 59, 60, 61, 62, 97, 179)  # marking and listing have smaller arrays up to 60 points
 QUESTIONS = 2000  # for the sheet of a board
@@ -98,10 +96,10 @@ class Board:
 
 
 class Largest(Board):
-    """The board of docs/board-180.sheet, whose sheet has 4,000 records."""
+    """The board of examples/board-180.sheet, whose sheet has 4,000 records."""
 
     def __init__(self, native, rng):
-        data = (ROOT / "docs/board-180.sheet").read_bytes()
+        data = (EXAMPLES / "board-180.sheet").read_bytes()
         self.native, self.rng = native, rng
         self.rule, self.n = unpack_from("<2I", data)
         self.edges = self.n * (self.n - 1) // 2

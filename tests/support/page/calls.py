@@ -3,10 +3,10 @@
 import random
 from struct import pack_into
 
-import texts
-from boards import boards, nodes_text, weights_text
-from header import BUFFER
-from recording import Recording
+from tests.support import texts
+from tests.support.page.boards import boards, nodes_text, weights_text
+from tests.support.page.header import BUFFER
+from tests.support.page.recording import Recording
 
 WIDE_SHARE, GOOD_SHARE = 0.01, 0.4  # of the calls
 POINTS = set("abcpqrsuvwxyz")

@@ -1,10 +1,11 @@
 """The functions of include/revosti.h: their names, and what they take."""
 
 import re
-from pathlib import Path
 from typing import NamedTuple
 
-HEADER = Path(__file__).resolve().parents[2] / "include/revosti.h"
+from tests.support import ROOT
+
+HEADER = ROOT / "include/revosti.h"
 PROTOTYPE = re.compile(r"^(u?int64_t) (revosti_\w+)\(([^)]*)\);", re.M)
 INLINE = re.compile(r"^static inline \w+ (revosti_\w+)\(", re.M)
 CONSTANT = re.compile(r"^    REVOSTI_(\w+) = (\d+)", re.M)

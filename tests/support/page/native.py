@@ -2,7 +2,8 @@
 
 import ctypes
 
-from header import BUFFER, functions
+from tests.support.page.header import BUFFER, functions
+
 from revosti.library import shared_object
 
 GUARD = b"\x5a" * 64

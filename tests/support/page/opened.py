@@ -1,17 +1,12 @@
-"""What the tests share: the page, built once, and a browser that has opened it. At the end of each test nothing stands
+"""The page, built once, and a browser that has opened it. At the end of each test nothing stands
 in the browser's log, and no address but the page's own was asked for."""
 
 import subprocess
-import sys
 import unittest
 from functools import cache
-from pathlib import Path
 
-ROOT = Path(__file__).resolve().parents[2]
-sys.dont_write_bytecode = True
-sys.path[:0] = [str(ROOT / "tools"), str(ROOT / "tests")]
-
-from driver import Browser
+from tests.support import ROOT
+from tests.support.page.driver import Browser
 
 PAGE, WASM = ROOT / "target/revosti.html", ROOT / "target/revosti.wasm"
 

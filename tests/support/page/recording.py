@@ -11,8 +11,8 @@ import sys
 from array import array
 from collections import Counter
 
-from header import in_script
-from native import Native
+from tests.support.page.header import in_script
+from tests.support.page.native import Native
 
 LOW = 0xffffffff
 
@@ -92,7 +92,7 @@ def turned(answer, number, record, lines):
 
 
 def refused(answer, record=0, lines=0, line=0):
-    """A refusal, as tests/page/replay.js says it."""
+    """A refusal, as tests/support/page/replay.js says it."""
     return f"refused {answer & 0xff} {record} {lines} {line} {answer & 0xffffffffffffffff}"
 
 

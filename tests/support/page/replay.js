@@ -1,4 +1,4 @@
-// Replays the calls of a file that tests/page/recording.py describes, each twice: by page/lending.js, for the answer as
+// Replays the calls of a file that tests/support/page/recording.py describes, each twice: by page/lending.js, for the answer as
 // it is, and by page/revosti.js. given: the signatures. The file is the one chosen in the input #recorded. It returns how
 // many calls of each function there were, and the first that differ.
 const [signatures] = given;
