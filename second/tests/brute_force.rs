@@ -1,5 +1,5 @@
-//! Runs from fresh marks on boards up to thirty points, of sheets marked and asked, confirmed and withdrawn: no shortest tour
-//! has an edge struck or pending, nor has one that three exchanges cannot shorten.
+//! Runs from fresh marks on boards up to thirty points, of sheets marked and asked, confirmed and withdrawn: no
+//! shortest tour has an edge struck or pending, nor has one that three exchanges cannot shorten.
 
 use second::bytes::{ask_sheet, confirm, fresh_marks, mark_sheet, withdraw};
 use second::intervals::Intervals;

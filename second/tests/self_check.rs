@@ -398,8 +398,8 @@ fn reasons_alike_and_everything_met() {
     assert!(comparison.coverage.missing_reasons().is_empty(), "{:?}", comparison.coverage.missing_reasons());
 }
 
-/// Sheets until the comparison finds a mistake in what is told, and what it finds, in the second program against the naive
-/// one or in both.
+/// Sheets until the comparison finds a mistake in what is told, and what it finds, in the second program against the
+/// naive one or in both.
 fn found_in_reasons(mistake: Mistake, both: bool) -> String {
     let naive = Naive { mistake: Some(mistake) };
     let one: &dyn Checker = if both { &naive } else { &Second };
@@ -475,7 +475,8 @@ fn mistakes_of_both_are_found_by_the_damage_to_segments() {
     }
 }
 
-/// Halls until the comparison finds a mistake at desks, and what it finds, in the second program against the naive one or in both.
+/// Halls until the comparison finds a mistake at desks, and what it finds, in the second program against the naive one
+/// or in both.
 fn found_at_desks(mistake: Mistake, both: bool) -> String {
     let naive = Naive { mistake: Some(mistake) };
     let one: &dyn Checker = if both { &naive } else { &Second };
@@ -524,7 +525,7 @@ fn found_after(mistake: Mistake) -> Option<u64> {
 
 #[test]
 fn mistakes_are_found() {
-    for mistake in Mistake::ALL {
+    for mistake in Mistake::SHEETS {
         let found = found_after(mistake);
         println!("{mistake:?}: {found:?}");
         assert!(found.is_some(), "{mistake:?} is not found");
@@ -639,8 +640,8 @@ fn mistakes_of_both_are_found_by_the_laws_of_slips() {
     }
 }
 
-/// Paper 11's laws: whatever stands over a table between the two stands over both, a crossing saves by three low lengths
-/// against three high ones, and one set of marks serves all tables between.
+/// Paper 11's laws: whatever stands over a table between the two stands over both, a crossing saves by three low
+/// lengths against three high ones, and one set of marks serves all tables between.
 #[test]
 fn mistakes_of_both_are_found_by_the_tables_between() {
     let laws = ["list between from a table between", "crossing between"];
@@ -697,8 +698,8 @@ fn mistakes_of_both_are_found_by_the_laws_of_pages() {
     assert_eq!(found_in_both(Mistake::NextEdgeChanged), "read a page, its own edges");
 }
 
-/// Paper 14's laws, where both programs make the mistake: what a turn tells and leaves, what handing in tests, what a change
-/// of a folder comes to; and the queues, which live through a hall.
+/// Paper 14's laws, where both programs make the mistake: what a turn tells and leaves, what handing in tests, what a
+/// change of a folder comes to; and the queues, which live through a hall.
 #[test]
 fn mistakes_of_both_are_found_by_the_laws_of_desks() {
     let laws: [(&[Mistake], &[&str]); 13] = [
@@ -722,8 +723,8 @@ fn mistakes_of_both_are_found_by_the_laws_of_desks() {
     assert_eq!(others, []);
 }
 
-/// Paper 6's laws, where all programs make the mistake: a text is the one due, a refused line is refused as marked alone,
-/// and bytes past a text stay.
+/// Paper 6's laws, where all programs make the mistake: a text is the one due, a refused line is refused as marked
+/// alone, and bytes past a text stay.
 #[test]
 fn mistakes_of_both_are_found_by_the_laws_of_reasons() {
     let refusals = [

@@ -1,5 +1,5 @@
-//! The search for tours that three exchanges cannot shorten, against all tours up to nine points and against all exchanges
-//! of three edges up to thirty.
+//! The search for tours that three exchanges cannot shorten, against all tours up to nine points and against all
+//! exchanges of three edges up to thirty.
 
 use second::kit::generate::boards::{self, Board};
 use second::kit::generate::rng::Rng;

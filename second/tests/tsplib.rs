@@ -312,8 +312,8 @@ const LINES: [&str; 17] = [
     "",
 ];
 
-/// Each text of fewer than so many of these lines that has a completion, followed by each line: the reader goes past that
-/// line exactly if there is a completion again.
+/// Each text of fewer than so many of these lines that has a completion, followed by each line: the reader goes past
+/// that line exactly if there is a completion again.
 fn held(completions: &Completions, text: &str, said: &mut Vec<Line>, most: usize) -> u64 {
     let mut texts = 0;
     for next in LINES {

@@ -3,6 +3,7 @@
 pub mod compare;
 pub mod damage;
 pub mod generate;
+mod listed;
 pub mod met;
 pub mod oracle;
 pub mod programs;

@@ -1,6 +1,6 @@
 //! Halls of eight desks (02, Paper 14): sheets handed in, turns, and folders changed between turns. Three programs are
-//! compared call by call, in every byte of state and marks, and each call is held against the laws of the page and against
-//! queues that live through the hall.
+//! compared call by call, in every byte of state and marks, and each call is held against the laws of the page and
+//! against queues that live through the hall.
 
 use super::turns::verdict;
 use super::{hex, hex_call, Checked, Comparison, Difference};
@@ -256,7 +256,8 @@ impl Comparison<'_> {
         }
     }
 
-    /// Hands a sheet in, now and then a faulty one: 28, 29, or what its tests answer. It changes the desk's numbers alone.
+    /// Hands a sheet in, now and then a faulty one: 28, 29, or what its tests answer. It changes the desk's numbers
+    /// alone.
     fn hand_in(&mut self, rng: &mut Rng, hall: &mut Watched, desk: u32) -> Checked {
         let at = desks().find(|&other| other as u32 == desk);
         let mut folder = hall.next_folder(rng, at);

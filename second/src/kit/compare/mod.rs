@@ -40,8 +40,8 @@ type Checked = Result<(), Difference>;
 pub struct Comparison<'a> {
     one: &'a dyn Checker,
     other: &'a dyn Checker,
-    /// A third program, for savings, slips, texts, pages, new orders, desks, reasons and packed sets, which it reads into
-    /// byte sets.
+    /// A third program, for savings, slips, texts, pages, new orders, desks, reasons and packed sets, which it reads
+    /// into byte sets.
     naive: &'a dyn Checker,
     seed: u64,
     case: u64,
@@ -101,8 +101,8 @@ impl<'a> Comparison<'a> {
         Ok(())
     }
 
-    /// One instance with its sheets, listings, tours, files and savings; one whose lengths are known within limits; slips;
-    /// texts; the pages of a board; new orders of segments; halls of eight desks; and lines told.
+    /// One instance with its sheets, listings, tours, files and savings; one whose lengths are known within limits;
+    /// slips; texts; the pages of a board; new orders of segments; halls of eight desks; and lines told.
     pub fn run_case(&mut self, case: u64) -> Checked {
         self.case = case;
         let mut rng = Rng::new(self.seed, case);

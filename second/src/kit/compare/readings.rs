@@ -1,5 +1,5 @@
-//! Operations that read a packed set, for chosen numbers of points: on good sets, where the naive checker answers by the byte
-//! set, and on sets with one fault, alone or beside another fault of the call.
+//! Operations that read a packed set, for chosen numbers of points: on good sets, where the naive checker answers by
+//! the byte set, and on sets with one fault, alone or beside another fault of the call.
 
 use super::steps::Step;
 use super::{hex, hex_call, Checked, Comparison, Difference, Hex};

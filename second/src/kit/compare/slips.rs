@@ -1,5 +1,5 @@
-//! Slips: random ones, and that of every sheet that is asked or is marked, over one table or two. Three programs show them, and
-//! what two slips tell is held against what they keep.
+//! Slips: random ones, and that of every sheet that is asked or is marked, over one table or two. Three programs show
+//! them, and what two slips tell is held against what they keep.
 
 use super::{Checked, Comparison, Difference, Hex};
 use crate::bytes::slip_of;
@@ -114,8 +114,8 @@ impl Comparison<'_> {
         Ok(())
     }
 
-    /// "Two unreleased slips read the same to the candidate, byte for byte, exactly when alike in those two facts"; and the
-    /// examiner sees all of a slip.
+    /// "Two unreleased slips read the same to the candidate, byte for byte, exactly when alike in those two facts"; and
+    /// the examiner sees all of a slip.
     fn two_slips(&mut self, one: u64, other: u64) -> Checked {
         let same = VIEWS.map(|operation| seen(self.one, operation, one) == seen(self.one, operation, other));
         let told = || format!("slips {one} and {other}\n");

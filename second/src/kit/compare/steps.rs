@@ -193,8 +193,8 @@ impl Comparison<'_> {
         }
     }
 
-    /// Paper 3 on a sheet that was asked: "the verdict of direct marking"; from marks with nothing pending, confirming leaves
-    /// "exactly its marks", and withdrawing those from before.
+    /// Paper 3 on a sheet that was asked: "the verdict of direct marking"; from marks with nothing pending, confirming
+    /// leaves "exactly its marks", and withdrawing those from before.
     fn asked(&mut self, before: &Lent, asked: &Lent, answer: u64, sheet: &[u8]) -> Checked {
         let mut direct = before.clone();
         let verdict = self.both(Step::Mark, &mut direct, sheet)?;

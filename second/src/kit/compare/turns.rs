@@ -1,5 +1,5 @@
-//! Turns at desks (02, Paper 14): each is held against the laws of the page and against the queues, and each sheet, at its
-//! end and before, against itself marked alone.
+//! Turns at desks (02, Paper 14): each is held against the laws of the page and against the queues, and each sheet, at
+//! its end and before, against itself marked alone.
 
 use super::halls::{told, Left, Watched};
 use super::slips::{seen, VIEWS};
@@ -148,8 +148,8 @@ impl Comparison<'_> {
         Ok(())
     }
 
-    /// "Its verdict and marks are those of its sheet marked alone, if nothing but turns alters n, the table, its sheet or
-    /// its marks"; with a line left, those of the sheet cut behind its last accepted line.
+    /// "Its verdict and marks are those of its sheet marked alone, if nothing but turns alters n, the table, its sheet
+    /// or its marks"; with a line left, those of the sheet cut behind its last accepted line.
     fn as_alone(&mut self, rng: &mut Rng, hall: &mut Watched, desk: usize, left: &Left) -> Checked {
         let seat = &mut hall.seats[desk - 1];
         seat.turns += 1;

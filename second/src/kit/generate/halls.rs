@@ -108,8 +108,8 @@ fn lines(records: &[Record]) -> Vec<u16> {
     std::iter::successors(Some(1), next).collect()
 }
 
-/// The records of a draft, with the next index of one of its lines above the record count, or not above the records that
-/// are entered.
+/// The records of a draft, with the next index of one of its lines above the record count, or not above the records
+/// that are entered.
 fn wrong_next(rng: &mut Rng, draft: &Draft, above: bool) -> Vec<Record> {
     let mut records = draft.records.clone();
     let (line, count) = (rng.pick(&lines(&records)), records.len() as u16);

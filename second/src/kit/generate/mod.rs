@@ -1,4 +1,5 @@
-//! What is made to be compared: boards, sets of marks, sheets, texts, slips, halls, calls, and the inputs of the benchmark.
+//! What is made to be compared: boards, sets of marks, sheets, texts, slips, halls, calls, and the inputs of the
+//! benchmark.
 
 pub mod between;
 pub mod boards;

@@ -71,8 +71,8 @@ pub struct SavingCall {
 }
 
 impl SavingCall {
-    /// A call that is not refused, now and then with an entry at its limit; half of them with different points, if there
-    /// are so many.
+    /// A call that is not refused, now and then with an entry at its limit; half of them with different points, if
+    /// there are so many.
     pub fn new(rng: &mut Rng, board: &Board, saving: Saving) -> SavingCall {
         let Lent { n, mut table, .. } = Lent::new(board, &[]);
         if rng.chance(5) {

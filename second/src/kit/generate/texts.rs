@@ -2,39 +2,30 @@
 
 use crate::instance::Instance;
 use crate::kit::generate::rng::Rng;
+use crate::kit::listed::listed;
 use crate::kit::programs::naive::language::NAMES;
 
-/// What a line of a text is.
-#[derive(Clone, Copy, Debug, PartialEq, Eq)]
-pub enum Kind {
-    Name,
-    Comment,
-    Type,
-    Dimension,
-    WeightType,
-    Format,
-    NodeSection,
-    WeightSection,
-    Node,
-    Weights,
-    Eof,
+listed! {
+    /// What a line of a text is.
+    #[derive(Clone, Copy, Debug, PartialEq, Eq)]
+    pub enum Kind {
+        ALL: [
+            Name,
+            Comment,
+            Type,
+            Dimension,
+            WeightType,
+            Format,
+            NodeSection,
+            WeightSection,
+            Node,
+            Weights,
+            Eof,
+        ]
+    }
 }
 
 impl Kind {
-    pub const ALL: [Kind; 11] = [
-        Kind::Name,
-        Kind::Comment,
-        Kind::Type,
-        Kind::Dimension,
-        Kind::WeightType,
-        Kind::Format,
-        Kind::NodeSection,
-        Kind::WeightSection,
-        Kind::Node,
-        Kind::Weights,
-        Kind::Eof,
-    ];
-
     pub fn is_item(self) -> bool {
         (self as usize) < Kind::NodeSection as usize
     }
@@ -45,74 +36,45 @@ impl Kind {
     }
 }
 
-/// How a good text looks.
-#[derive(Clone, Copy, Debug, PartialEq, Eq)]
-pub enum Shape {
-    /// EDGE_WEIGHT_TYPE before DIMENSION, and EDGE_WEIGHT_FORMAT before EDGE_WEIGHT_TYPE.
-    TypeFirst,
-    FormatFirst,
-    FormatLater,
-    NoName,
-    EmptyName,
-    /// Bytes that are at fault elsewhere: a tab, a carriage return, 0, above 127.
-    AnyBytes,
-    ColonInName,
-    /// A value that is a whole line of another kind.
-    EofInName,
-    NoComment,
-    SeveralComments,
-    EmptyComment,
-    NoType,
-    NoBlanks,
-    BlanksBeforeKeyword,
-    BlanksBeforeColon,
-    BlanksAfterColon,
-    BlanksAfterValue,
-    BlanksAtSection,
-    BlanksAtEof,
-    BlanksAtBothEnds,
-    SeveralBlanksBetween,
-    ZerosInDimension,
-    ZerosInNumbers,
-    /// More digits than a number of 32 bits has.
-    ManyZeros,
-    WeightsOnOneLine,
-    OneWeightALine,
-    RowsByLine,
-    LinesAcrossRows,
-}
-
-impl Shape {
-    pub const ALL: [Shape; 28] = [
-        Shape::TypeFirst,
-        Shape::FormatFirst,
-        Shape::FormatLater,
-        Shape::NoName,
-        Shape::EmptyName,
-        Shape::AnyBytes,
-        Shape::ColonInName,
-        Shape::EofInName,
-        Shape::NoComment,
-        Shape::SeveralComments,
-        Shape::EmptyComment,
-        Shape::NoType,
-        Shape::NoBlanks,
-        Shape::BlanksBeforeKeyword,
-        Shape::BlanksBeforeColon,
-        Shape::BlanksAfterColon,
-        Shape::BlanksAfterValue,
-        Shape::BlanksAtSection,
-        Shape::BlanksAtEof,
-        Shape::BlanksAtBothEnds,
-        Shape::SeveralBlanksBetween,
-        Shape::ZerosInDimension,
-        Shape::ZerosInNumbers,
-        Shape::ManyZeros,
-        Shape::WeightsOnOneLine,
-        Shape::OneWeightALine,
-        Shape::RowsByLine,
-        Shape::LinesAcrossRows,
-    ];
+listed! {
+    /// How a good text looks.
+    #[derive(Clone, Copy, Debug, PartialEq, Eq)]
+    pub enum Shape {
+        ALL: [
+            /// EDGE_WEIGHT_TYPE before DIMENSION, and EDGE_WEIGHT_FORMAT before EDGE_WEIGHT_TYPE.
+            TypeFirst,
+            FormatFirst,
+            FormatLater,
+            NoName,
+            EmptyName,
+            /// Bytes that are at fault elsewhere: a tab, a carriage return, 0, above 127.
+            AnyBytes,
+            ColonInName,
+            /// A value that is a whole line of another kind.
+            EofInName,
+            NoComment,
+            SeveralComments,
+            EmptyComment,
+            NoType,
+            NoBlanks,
+            BlanksBeforeKeyword,
+            BlanksBeforeColon,
+            BlanksAfterColon,
+            BlanksAfterValue,
+            BlanksAtSection,
+            BlanksAtEof,
+            BlanksAtBothEnds,
+            SeveralBlanksBetween,
+            ZerosInDimension,
+            ZerosInNumbers,
+            /// More digits than a number of 32 bits has.
+            ManyZeros,
+            WeightsOnOneLine,
+            OneWeightALine,
+            RowsByLine,
+            LinesAcrossRows,
+        ]
+    }
 }
 
 /// What a text holds.

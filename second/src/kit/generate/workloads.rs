@@ -181,8 +181,8 @@ const TURNS: &str = "turns 180 deep";
 /// The first line of the shallow sheet of 180 points, told.
 const TELLING: &str = "tell 180";
 
-/// The timed inputs: marking and listing at 30, 90 and 180 points, measuring 180, marking and listing over two tables, reading
-/// a text of 180, a sheet of 180 by turns, a sheet of 90 with new orders of segments, and a line of 180 told.
+/// The timed inputs: marking and listing at 30, 90 and 180 points, measuring 180, marking and listing over two tables,
+/// reading a text of 180, a sheet of 180 by turns, a sheet of 90 with new orders of segments, and a line of 180 told.
 pub fn names() -> Vec<String> {
     let marking = SIZES.iter().flat_map(|n| ["shallow", "deep"].map(|kind| format!("mark {n} {kind}")));
     let listing = SIZES.iter().map(|n| format!("list {n}"));
@@ -342,8 +342,8 @@ fn listing_between() -> Workload {
     }
 }
 
-/// The deep sheet of 180 points, cut at its first split under K of 11 edges: before it, where its record is a closing that
-/// does not cross, or after the last case of its chain.
+/// The deep sheet of 180 points, cut at its first split under K of 11 edges: before it, where its record is a closing
+/// that does not cross, or after the last case of its chain.
 fn under_eleven(after: bool) -> Workload {
     let board = random_board(180);
     let draft = lines(&Intervals::exact(board.n, &board.table), true);

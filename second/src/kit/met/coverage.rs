@@ -132,8 +132,8 @@ pub enum Event {
     /// Points and marks with the fewest open edges that Paper 9 allows.
     TwoOpen,
     LeastOpen,
-    /// Tours that three exchanges cannot shorten, held against such marks: on boards up to nine points and up to thirty,
-    /// and those that are longer than a tour that is known.
+    /// Tours that three exchanges cannot shorten, held against such marks: on boards up to nine points and up to
+    /// thirty, and those that are longer than a tour that is known.
     ThreeOptSmall,
     ThreeOptLarge,
     ThreeOptLonger,
@@ -143,7 +143,8 @@ pub enum Event {
     AskStopped,
     /// 12 for an edge that an earlier line of the same asked sheet has made pending.
     AskedTwice,
-    /// An asked sheet with strikes: on copies, confirming left the marks of direct marking and withdrawing the old ones.
+    /// An asked sheet with strikes: on copies, confirming left the marks of direct marking and withdrawing the old
+    /// ones.
     AskSettled,
     /// Lists over pending marks: with other pairs than if these were struck; for a pending edge.
     PendingPairs,

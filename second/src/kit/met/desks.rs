@@ -8,8 +8,9 @@ use crate::kit::generate::halls::Change;
 /// What a comparison has to meet of desks, beside each desk and each change.
 #[derive(Clone, Copy, Debug, PartialEq, Eq)]
 pub enum Met {
-    /// Sheets that ended as marked alone: with one line and with several, stopped at the first line and at a later one, by 8
-    /// and by 9 at the next index of an accepted line; with other desks served and sheets handed in between the turns.
+    /// Sheets that ended as marked alone: with one line and with several, stopped at the first line and at a later one,
+    /// by 8 and by 9 at the next index of an accepted line; with other desks served and sheets handed in between the
+    /// turns.
     OneLine,
     SeveralLines,
     StoppedFirst,
@@ -42,14 +43,14 @@ pub enum Met {
     /// Turns with no line left: of desks just opened, and after sheets have ended.
     NothingYet,
     NothingLeft,
-    /// Turns that served a desk after seven of others, that went round behind desk 8, that passed over desks without a line,
-    /// and that served the same desk again.
+    /// Turns that served a desk after seven of others, that went round behind desk 8, that passed over desks without a
+    /// line, and that served the same desk again.
     EighthTurn,
     Round,
     PassedOver,
     SameAgain,
-    /// States of any bytes: a last desk served above 8; desks without a line left for their lines; 8 by the owner that the
-    /// state tells; lines accepted from such a state.
+    /// States of any bytes: a last desk served above 8; desks without a line left for their lines; 8 by the owner that
+    /// the state tells; lines accepted from such a state.
     LastAboveEight,
     LinesNotBelow,
     AnyOwner,

@@ -15,7 +15,8 @@ pub enum LimitEvent {
     EqualMarked,
     EqualRefused,
     EqualListed,
-    /// Pairs that stand over two tables and would not over the low one alone, over the high one alone, over either alone.
+    /// Pairs that stand over two tables and would not over the low one alone, over the high one alone, over either
+    /// alone.
     NotByLow,
     NotByHigh,
     ByNeither,
@@ -36,7 +37,8 @@ pub enum LimitEvent {
     StrikesInside,
     /// The same held against tours that three exchanges cannot shorten, on boards of more than nine points.
     StrikesThreeOpt,
-    /// Tables between the two whose shortest tours have edges that no shortest tour over all low or all high lengths has.
+    /// Tables between the two whose shortest tours have edges that no shortest tour over all low or all high lengths
+    /// has.
     OtherTours,
     /// Accepted crossings over two different tables.
     Crossings,

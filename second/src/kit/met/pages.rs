@@ -22,8 +22,8 @@ pub enum Met {
     PagePast,
     PagePastFull,
     PageLargest,
-    /// 27 for no text, for a text without its last line or without an earlier one, for one that ends within a line or before its
-    /// last newline, for a line too many and for a byte too many.
+    /// 27 for no text, for a text without its last line or without an earlier one, for one that ends within a line or
+    /// before its last newline, for a line too many and for a byte too many.
     NoText,
     LineMissing,
     LineLeftOut,

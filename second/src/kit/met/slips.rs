@@ -25,7 +25,8 @@ pub enum Met {
     FiveBytes,
     SixBytes,
     BytesPast,
-    /// Two unreleased slips: alike to the candidate though different, of sheets, too; not alike for one of the two facts.
+    /// Two unreleased slips: alike to the candidate though different, of sheets, too; not alike for one of the two
+    /// facts.
     AlikeNumbers,
     AlikeRecords,
     AlikeSheets,

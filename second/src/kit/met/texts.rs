@@ -4,22 +4,23 @@ use std::fmt;
 
 use crate::kit::damage::texts::Damage;
 use crate::kit::generate::texts::{Kind, Shape, Text};
+use crate::kit::listed::listed;
 
 /// The refusal numbers of reading a text, in their order; 5 has the place of 4.
 const NUMBERS: [u64; 4] = [19, 1, 2, 4];
 
-/// What is wrong with a table's size.
-#[derive(Clone, Copy, Debug, PartialEq, Eq)]
-pub enum Size {
-    None,
-    ByteLess,
-    EntryLess,
-    ByteMore,
-    EntryMore,
-}
-
-impl Size {
-    pub const ALL: [Size; 5] = [Size::None, Size::ByteLess, Size::EntryLess, Size::ByteMore, Size::EntryMore];
+listed! {
+    /// What is wrong with a table's size.
+    #[derive(Clone, Copy, Debug, PartialEq, Eq)]
+    pub enum Size {
+        ALL: [
+            None,
+            ByteLess,
+            EntryLess,
+            ByteMore,
+            EntryMore,
+        ]
+    }
 }
 
 /// The line that 19 tells.
@@ -39,40 +40,30 @@ impl Told {
     }
 }
 
-/// Texts that are made in turn, each with coordinates and with weights.
-#[derive(Clone, Copy, Debug, PartialEq, Eq)]
-pub enum Special {
-    CutAtEveryByte,
-    EachDamageAtEachLine,
-    EachByteChanged,
-    /// DIMENSION is this, and so many points are there; the last two have fewer.
-    Points0,
-    Points1,
-    Points3,
-    Points180,
-    Points181,
-    Points260,
-    Points4294967295,
-    Points4294967296,
+listed! {
+    /// Texts that are made in turn, each with coordinates and with weights.
+    #[derive(Clone, Copy, Debug, PartialEq, Eq)]
+    pub enum Special {
+        ALL: [
+            CutAtEveryByte,
+            EachDamageAtEachLine,
+            EachByteChanged,
+            /// DIMENSION is this, and so many points are there; the last two have fewer.
+            Points0,
+            Points1,
+            Points3,
+            Points180,
+            Points181,
+            Points260,
+            Points4294967295,
+            Points4294967296,
+        ]
+    }
 }
 
 use Special::*;
 
 impl Special {
-    pub const ALL: [Special; 11] = [
-        CutAtEveryByte,
-        EachDamageAtEachLine,
-        EachByteChanged,
-        Points0,
-        Points1,
-        Points3,
-        Points180,
-        Points181,
-        Points260,
-        Points4294967295,
-        Points4294967296,
-    ];
-
     /// The value of DIMENSION.
     pub fn dimension(self) -> Option<u64> {
         match self {

@@ -1,8 +1,9 @@
-//! Tours that cannot be made shorter by taking out at most three edges and putting in as many (02, Paper 9), by a search
-//! from a random order.
+//! Tours that cannot be made shorter by taking out at most three edges and putting in as many (02, Paper 9), by a
+//! search from a random order.
 //!
-//! Three edges taken out leave three paths. One of them stays where it is; the two others, the stretches, are put back in
-//! either order, each as it was or turned. These are all tours with all other edges, those with two edges changed too.
+//! Three edges taken out leave three paths. One of them stays where it is; the two others, the stretches, are put back
+//! in either order, each as it was or turned. These are all tours with all other edges, those with two edges changed
+//! too.
 
 use crate::kit::generate::rng::Rng;
 use crate::lengths::Lengths;

@@ -1,5 +1,5 @@
-//! Eight desks by the 25 numbers of their state: the last desk served, then of desk d its next index, the record that has
-//! it and its lines, at 3d − 2, 3d − 1 and 3d.
+//! Eight desks by the 25 numbers of their state: the last desk served, then of desk d its next index, the record that
+//! has it and its lines, at 3d − 2, 3d − 1 and 3d.
 
 use super::mistake::Mistake;
 use super::reader::{Reader, Stop};
@@ -147,7 +147,8 @@ impl Naive {
         Ok(next)
     }
 
-    /// 22; 0 where no desk has a line left; else the answer of marking so far, the desk, and whether it has a line left.
+    /// 22; 0 where no desk has a line left; else the answer of marking so far, the desk, and whether it has a line
+    /// left.
     pub(super) fn turned(
         &self,
         desks: &mut [u8],

@@ -1,6 +1,6 @@
-//! A slow checker written straight from documents 01 and 02, sharing no code with the second program:
-//! all edges in a list, marks as a byte set that is packed again at the end, K as a vector, degrees by counting, cycles by walking every way, all pairs
-//! filtered by the five tests as they stand.
+//! A slow checker written straight from documents 01 and 02, sharing no code with the second program: all edges in a
+//! list, marks as a byte set that is packed again at the end, K as a vector, degrees by counting, cycles by walking
+//! every way, all pairs filtered by the five tests as they stand.
 //!
 //! A `Mistake` builds in one mistake, to show that the comparison finds it.
 

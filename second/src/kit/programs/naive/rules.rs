@@ -137,7 +137,8 @@ impl<'a> Board<'a> {
         larger >= self.out(p, q) + self.out(x, y)
     }
 
-    /// Whether "moving the point between the edge's ends makes the sum smaller": w, from between s and t, and the edge uv.
+    /// Whether "moving the point between the edge's ends makes the sum smaller": w, from between s and t, and the edge
+    /// uv.
     pub fn moves_between(&self, (u, v): Edge, w: usize, (s, t): Edge, ties: bool) -> bool {
         let new = self.put(s, t) + self.put(u, w) + self.put(v, w);
         let old = self.out(u, v) + self.out(s, w) + self.out(t, w);
@@ -170,7 +171,8 @@ impl<'a> Board<'a> {
         }
     }
 
-    /// Test 5 for w, "each point that has two edges in K with the pair added": x and y at c, K being the first of the edges.
+    /// Test 5 for w, "each point that has two edges in K with the pair added": x and y at c, K being the first of the
+    /// edges.
     fn moves(&self, more: &[Edge], k: usize, w: usize, cxy: [usize; 3]) -> bool {
         let Some(st) = two_ends(more, w) else { return false };
         let ties = match self.mistake {
