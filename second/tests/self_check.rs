@@ -1,6 +1,6 @@
 //! The second program against the naive one, and the comparison against mistakes on purpose.
 
-use second::kit::compare::Comparison;
+use second::kit::compare::{Checked, Comparison};
 use second::kit::damage::segments::SegmentFault;
 use second::kit::met::coverage::Coverage;
 use second::kit::met::sets::READERS;
@@ -398,16 +398,19 @@ fn reasons_alike_and_everything_met() {
     assert!(comparison.coverage.missing_reasons().is_empty(), "{:?}", comparison.coverage.missing_reasons());
 }
 
-/// Sheets until the comparison finds a mistake in what is told, and what it finds, in the second program against the
-/// naive one or in both.
-fn found_in_reasons(mistake: Mistake, both: bool) -> String {
+/// What a run of the comparison finds of a mistake, in the second program against the naive one or in both.
+fn found_by(mistake: Mistake, both: bool, run: impl FnOnce(&mut Comparison) -> Checked) -> String {
     let naive = Naive { mistake: Some(mistake) };
     let one: &dyn Checker = if both { &naive } else { &Second };
     let mut comparison = Comparison::new(one, &naive, &naive, 7);
-    let Err(difference) = comparison.run_reasons(3_000) else { panic!("{mistake:?} is not found") };
+    let Err(difference) = run(&mut comparison) else { panic!("{mistake:?} is not found") };
     let what = difference.0.split(" differs").next().unwrap();
-    println!("{mistake:?}: {what} after {} sheets", comparison.coverage.reasons.sheets);
+    println!("{mistake:?}: {what}, {}", difference.0.lines().next().unwrap());
     what.to_string()
+}
+
+fn found_in_reasons(mistake: Mistake, both: bool) -> String {
+    found_by(mistake, both, |comparison| comparison.run_reasons(3_000))
 }
 
 #[test]
@@ -447,16 +450,8 @@ fn segments_are_demanded() {
     }
 }
 
-/// Cases until the comparison finds a mistake in new orders, and what it finds, in the second program against the naive
-/// one or in both.
 fn found_in_segments(mistake: Mistake, both: bool) -> String {
-    let naive = Naive { mistake: Some(mistake) };
-    let one: &dyn Checker = if both { &naive } else { &Second };
-    let mut comparison = Comparison::new(one, &naive, &naive, 7);
-    let Err(difference) = comparison.run_segments(2_000) else { panic!("{mistake:?} is not found") };
-    let what = difference.0.split(" differs").next().unwrap();
-    println!("{mistake:?}: {what}, {}", difference.0.lines().next().unwrap());
-    what.to_string()
+    found_by(mistake, both, |comparison| comparison.run_segments(2_000))
 }
 
 #[test]
@@ -475,16 +470,8 @@ fn mistakes_of_both_are_found_by_the_damage_to_segments() {
     }
 }
 
-/// Halls until the comparison finds a mistake at desks, and what it finds, in the second program against the naive one
-/// or in both.
 fn found_at_desks(mistake: Mistake, both: bool) -> String {
-    let naive = Naive { mistake: Some(mistake) };
-    let one: &dyn Checker = if both { &naive } else { &Second };
-    let mut comparison = Comparison::new(one, &naive, &naive, 7);
-    let Err(difference) = comparison.run_halls(2_000) else { panic!("{mistake:?} is not found") };
-    let what = difference.0.split(" differs").next().unwrap();
-    println!("{mistake:?}: {what} after {} halls", comparison.coverage.desks.halls);
-    what.to_string()
+    found_by(mistake, both, |comparison| comparison.run_halls(2_000))
 }
 
 #[test]
@@ -504,31 +491,21 @@ fn texts_alike_and_everything_met() {
     assert!(comparison.coverage.missing_texts().is_empty(), "{:?}", comparison.coverage.missing_texts());
 }
 
+fn found_in_texts(mistake: Mistake, both: bool) -> String {
+    found_by(mistake, both, |comparison| comparison.run_texts(20_000))
+}
+
 #[test]
 fn mistakes_in_texts_are_found() {
     for mistake in Mistake::TEXTS {
-        let naive = Naive { mistake: Some(mistake) };
-        let mut comparison = Comparison::new(&Second, &naive, &naive, 7);
-        let found = comparison.run_texts(20_000).is_err();
-        println!("{mistake:?}: {} texts", comparison.coverage.texts.texts);
-        assert!(found, "{mistake:?} is not found");
+        found_in_texts(mistake, false);
     }
-}
-
-/// Sheets until the comparison finds the mistake.
-fn found_after(mistake: Mistake) -> Option<u64> {
-    let naive = Naive { mistake: Some(mistake) };
-    let mut comparison = Comparison::new(&Second, &naive, &naive, 7);
-    let outcome = comparison.run(10_000);
-    outcome.is_err().then_some(comparison.sheets)
 }
 
 #[test]
 fn mistakes_are_found() {
     for mistake in Mistake::SHEETS {
-        let found = found_after(mistake);
-        println!("{mistake:?}: {found:?}");
-        assert!(found.is_some(), "{mistake:?} is not found");
+        found_by(mistake, false, |comparison| comparison.run(10_000));
     }
 }
 
@@ -540,15 +517,12 @@ fn found_in_both(mistake: Mistake) -> String {
 /// What the comparison finds where both make the mistake, over two tables too or over one alone; no hall, where queues
 /// tell it, and no line told, where what is due does.
 fn found(mistake: Mistake, two_tables: bool) -> String {
-    let naive = Naive { mistake: Some(mistake) };
-    let mut comparison = Comparison::new(&naive, &naive, &naive, 7);
-    comparison.two_tables = two_tables;
-    comparison.eight_desks = false;
-    comparison.told_lines = false;
-    let Err(difference) = comparison.run(20_000) else { panic!("{mistake:?} is not found") };
-    let what = difference.0.split(" differs").next().unwrap();
-    println!("{mistake:?}: {what} after {} sheets", comparison.sheets);
-    what.to_string()
+    found_by(mistake, true, |comparison| {
+        comparison.two_tables = two_tables;
+        comparison.eight_desks = false;
+        comparison.told_lines = false;
+        comparison.run(20_000)
+    })
 }
 
 /// The first leaves a point one open edge; the second strikes no edge of a shortest tour.
@@ -679,15 +653,8 @@ fn mistakes_of_both_are_found() {
 /// the table, and the first number that is for a call is told.
 #[test]
 fn mistakes_of_both_in_texts_are_found() {
-    for mistake in Mistake::TEXTS {
-        let naive = Naive { mistake: Some(mistake) };
-        let mut comparison = Comparison::new(&naive, &naive, &naive, 7);
-        let Err(difference) = comparison.run_texts(20_000) else { panic!("{mistake:?} is not found") };
-        let what = difference.0.split(" differs").next().unwrap();
-        println!("{mistake:?}: {what} after {} texts", comparison.coverage.texts.texts);
-        let laws = ["text as its numbers", "text by its completions", "text, refused", "text and its points"];
-        assert!(laws.contains(&what), "{mistake:?}: {what}");
-    }
+    let laws = ["text as its numbers", "text by its completions", "text, refused", "text and its points"];
+    assert_eq!(found_otherwise(&Mistake::TEXTS, &laws, |mistake| found_in_texts(mistake, true)), []);
 }
 
 /// Paper 12's laws: what a page leaves, and that it is read again.

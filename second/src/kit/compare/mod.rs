@@ -35,7 +35,7 @@ use steps::Run;
 #[derive(Debug)]
 pub struct Difference(pub String);
 
-type Checked = Result<(), Difference>;
+pub type Checked = Result<(), Difference>;
 
 pub struct Comparison<'a> {
     one: &'a dyn Checker,
