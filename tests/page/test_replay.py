@@ -5,6 +5,7 @@
 
 import os
 import tempfile
+from pathlib import Path
 
 from tests.support import ROOT
 from tests.support.page.calls import Calls

@@ -96,6 +96,12 @@ def beside(found, i):
     return names
 
 
+def anchors(text):
+    """What a link names the headings of a document by."""
+    headings = re.findall(r"^#+ (.*)$", FENCED.sub("", text), re.M)
+    return {re.sub(r"[^\w -]", "", heading.lower()).replace(" ", "-") for heading in headings}
+
+
 def rows(text):
     """The rows of a document's tables, each as (heading of the column, cell) in order."""
     head = None

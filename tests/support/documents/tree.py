@@ -7,7 +7,7 @@ from pathlib import Path
 
 CODE = (".antt", ".rt", ".h", ".py", ".js", ".edit")
 FOLDERS = ("crates", "tools", "tests", "include", "examples", "page")
-OTHERS = {"rt", "diff", "grep", "requires", "--help"}  # programs, a word of the language, the option that every program has
+OTHERS = {"rt", "diff", "grep", "requires", "--help", "--allow-holes", "--check", "-s"}  # programs, a word of the language, options of others
 
 # a definition or a theorem, a constructor or a field: what a colon follows at the front of a line
 DEFINED = re.compile(r"^\s*(?:(?:unfoldable|abbrev|pub)\s+)*(?:(?:record|data)\s+([^\s({:]+)|([^\s(){}:,]+)\s+:\s)", re.M)
