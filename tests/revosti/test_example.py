@@ -1,4 +1,4 @@
-"""examples/open_edges.py runs from any folder and prints the four sides of the square, and README shows it."""
+"""examples/open_edges.py runs from any folder and prints the four sides of the square, and docs/USE.md shows it."""
 
 import subprocess
 import sys
@@ -17,6 +17,6 @@ class Example(unittest.TestCase):
                                  check=False)
         self.assertEqual((run.returncode, run.stderr, run.stdout), (0, "", OPEN))
 
-    def test_readme_has_it(self):
+    def test_the_document_has_it(self):
         program = (ROOT / "examples/open_edges.py").read_text(encoding="utf-8")
-        self.assertIn(program, (ROOT / "README.md").read_text(encoding="utf-8"))
+        self.assertIn(program, (ROOT / "docs/USE.md").read_text(encoding="utf-8"))
