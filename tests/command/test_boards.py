@@ -121,7 +121,7 @@ class Limits(Sets):
         self.assertGreater(len(seen), 2)
 
     def test_page(self):
-        commands = re.findall(r"`bin/revosti (\w+ [^`]*examples/wide_weights.tsp[^`]*)`", PAGE)
+        commands = re.findall(r"bin/revosti (\w+ [^`\n]*examples/wide_weights.tsp[^`\n]*)", PAGE)
         words = [[str(ROOT / word) if "/" in word else word for word in command.replace("board.marks", str(self.marks)).split()]
                  for command in commands]
         self.assertEqual([self.call(*given) for given in words], [(0, BOTH, ""), (0, "No pair stands at 2 under 1-3.\n", "")])
