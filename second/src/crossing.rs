@@ -44,7 +44,8 @@ impl Crossing {
     }
 
     /// l(pq) + l(rx) + l(sw) > l(rs) + l(px) + l(qw), and
-    /// l(pq) + l(ry) + l(sz) > l(rs) + l(pz) + l(qy). That is, `labelling_saving` is above 0; the second is often spared.
+    /// l(pq) + l(ry) + l(sz) > l(rs) + l(pz) + l(qy).
+    /// That is, `labelling_saving` is above 0; the second is often spared.
     pub fn labelling_saves(&self, l: &Intervals, (x, y): Ends, (z, w): Ends) -> bool {
         let Crossing { p, q, r, s } = *self;
         let (pq, rs) = (l.taken_out(p, q), l.put_in(r, s));

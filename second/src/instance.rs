@@ -31,7 +31,8 @@ impl Instance {
         Ok(n)
     }
 
-    /// Tests 1, 2, 5 and 25 of two tables: "tests 2 and 5 read both", then no low length is above its high one. Answers n.
+    /// Tests 1, 2, 5 and 25 of two tables: "tests 2 and 5 read both", then no low length is above its high one. Answers
+    /// n.
     pub fn limit_tests(n: u32, low: &[u32], high: &[u32]) -> Result<u16, Refusal> {
         let n = Self::point_count(n)?;
         table_size(n, low)?;

@@ -1,4 +1,5 @@
-//! Marks as operations read them, in a packed set, and the operations on marks alone (01, Points, lengths, marks; 02, Papers 3 and 4).
+//! Marks as operations read them, in a packed set, and the operations on marks alone (01, Points, lengths, marks; 02,
+//! Papers 3 and 4).
 
 use crate::instance::Instance;
 use crate::packed::{last_byte, mark, packed_size, some_pending, HIGH, LOW};

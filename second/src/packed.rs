@@ -1,5 +1,5 @@
-//! A packed set: a mark in two bits, four edges a byte, the first edge in the lowest bits, unused bits 0; and the byte set
-//! of before, one byte an edge, from which and to which it is converted (02, Paper 4).
+//! A packed set: a mark in two bits, four edges a byte, the first edge in the lowest bits, unused bits 0; and the byte
+//! set of before, one byte an edge, from which and to which it is converted (02, Paper 4).
 
 use crate::instance::Instance;
 use crate::lengths::edge_count;

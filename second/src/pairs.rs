@@ -81,8 +81,8 @@ struct Leg {
 struct End {
     /// The y that would close a short cycle with x, or 0.
     barred: u16,
-    /// l(ex) + l(cx), taken out, less l(ec) + l(cx), put in: cx "counts as each". x does not move from between e and c onto
-    /// the pair's other edge cy if l(xy) ≥ l(cy) + gain.
+    /// l(ex) + l(cx), taken out, less l(ec) + l(cx), put in: cx "counts as each". x does not move from between e and c
+    /// onto the pair's other edge cy if l(xy) ≥ l(cy) + gain.
     gain: i32,
 }
 
@@ -128,7 +128,8 @@ impl<'a> View<'a> {
         self.far().iter().fold(NO_BOUND, |least, edge| least.min(edge.from_p + edge.from_q - edge.length))
     }
 
-    /// l(cx), taken out, if cx is open and compatible with K (tests 1 and 4) and no point of K moves onto it (5); cx is not in K.
+    /// l(cx), taken out, if cx is open and compatible with K (tests 1 and 4) and no point of K moves onto it (5); cx is
+    /// not in K.
     #[inline]
     fn leg(&self, x: u16) -> Option<i32> {
         let l = self.lengths;

@@ -8,8 +8,8 @@ use crate::sheet::points;
 
 type Edge = (u16, u16);
 
-/// The exchange of pq and xy: "their sum less the larger of the two exchanges". pq and xy are compatible exactly when it
-/// is at most 0.
+/// The exchange of pq and xy: "their sum less the larger of the two exchanges". pq and xy are compatible exactly when
+/// it is at most 0.
 pub fn exchange(l: &Intervals, (p, q): Edge, (x, y): Edge) -> i64 {
     let straight = l.put_in(p, x) + l.put_in(q, y);
     let crossed = l.put_in(p, y) + l.put_in(q, x);

@@ -43,8 +43,8 @@ impl Slip {
         [self.refusal, u8::from(self.released), r, s, l, m]
     }
 
-    /// "Until release the candidate sees the lines and whether the sheet stopped: the first byte is 0 or 255, the record
-    /// 0. After release the candidate sees the examiner's bytes."
+    /// "Until release the candidate sees the lines and whether the sheet stopped: the first byte is 0 or 255, the
+    /// record 0. After release the candidate sees the examiner's bytes."
     pub fn candidate_view(self) -> View {
         if self.released {
             return self.examiner_view();

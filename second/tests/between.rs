@@ -7,13 +7,13 @@ use common::*;
 use second::crossing::Crossing;
 use second::edge_set::EdgeSet;
 use second::intervals::Intervals;
-use second::kit::boards;
-use second::kit::brute::Shortest;
-use second::kit::checker::Second;
-use second::kit::limits::{Limited, Width};
-use second::kit::rng::Rng;
-use second::kit::sheets::{self, Plan};
-use second::kit::workloads::{named, names, Call};
+use second::kit::generate::boards;
+use second::kit::generate::limits::{Limited, Width};
+use second::kit::generate::rng::Rng;
+use second::kit::generate::sheets::{self, Plan};
+use second::kit::generate::workloads::{named, names, Call};
+use second::kit::oracle::brute::Shortest;
+use second::kit::programs::checker::Second;
 use second::lengths::{EdgeOrder, Lengths};
 use second::listing::{list_between, list_pairs};
 use second::marking::{mark_between, mark_sheet};
@@ -60,8 +60,8 @@ fn compatible_by_limits() {
     }
 }
 
-/// The larger exchange decides, and it counts high: one side that may be longer is enough. (1,4) is still shut out, since
-/// moving 2 to between 1 and 3 takes out 38 and puts in 30; for (3,4) it puts in 38.
+/// The larger exchange decides, and it counts high: one side that may be longer is enough. (1,4) is still shut out,
+/// since moving 2 to between 1 and 3 takes out 38 and puts in 30; for (3,4) it puts in 38.
 #[test]
 fn one_side_known_within_limits() {
     assert_eq!(pairs(&square(), &with(&square(), 4, &[(3, 4, 17)]), (1, 3), 2), []);
@@ -99,8 +99,8 @@ fn a_crossing_within_limits() {
     assert!(!saves(&with(&board, 8, &[(p, q, 7)]), &with(&board, 8, &[(p, q, 40)])), "pq counts low");
 }
 
-/// One fault a letter: n; the size, an entry of the low and of the high table; low above high; a mark of 3, a pending mark;
-/// the sheet's size; a point field, a struck edge, the list's size.
+/// One fault a letter: n; the size, an entry of the low and of the high table; low above high; a mark of 3, a pending
+/// mark; the sheet's size; a point field, a struck edge, the list's size.
 fn tables_with(faults: &str) -> (u32, Vec<u32>, Vec<u32>, Vec<u8>) {
     let has = |fault| faults.contains(fault);
     let (mut low, mut high) = (square(), higher(&square(), 1));

@@ -1,17 +1,17 @@
-//! Runs from fresh marks on boards up to thirty points, of sheets marked and asked, confirmed and withdrawn: no shortest tour
-//! has an edge struck or pending, nor has one that three exchanges cannot shorten.
+//! Runs from fresh marks on boards up to thirty points, of sheets marked and asked, confirmed and withdrawn: no
+//! shortest tour has an edge struck or pending, nor has one that three exchanges cannot shorten.
 
 use second::bytes::{ask_sheet, confirm, fresh_marks, mark_sheet, withdraw};
 use second::intervals::Intervals;
-use second::kit::boards::{self, Board};
-use second::kit::brute::Shortest;
-use second::kit::coverage::Coverage;
-use second::kit::drafts::sheet_bytes;
-use second::kit::kept::{Kept, RunMarks};
-use second::kit::rng::Rng;
-use second::kit::sets::packed;
-use second::kit::sheets::{self, Plan};
-use second::kit::three_opt::MOST_POINTS;
+use second::kit::generate::boards::{self, Board};
+use second::kit::generate::drafts::sheet_bytes;
+use second::kit::generate::rng::Rng;
+use second::kit::generate::sets::packed;
+use second::kit::generate::sheets::{self, Plan};
+use second::kit::met::coverage::Coverage;
+use second::kit::oracle::brute::Shortest;
+use second::kit::oracle::kept::{Kept, RunMarks};
+use second::kit::oracle::three_opt::MOST_POINTS;
 use second::lengths::Lengths;
 use second::packed::packed_size;
 

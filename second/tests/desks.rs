@@ -188,8 +188,8 @@ fn tests_repeated() {
     }
 }
 
-/// Any bytes are a state: the last desk served counts modulo 8, a line is left where the lines are below the next index,
-/// and an index above the record count names its owner.
+/// Any bytes are a state: the last desk served counts modulo 8, a line is left where the lines are below the next
+/// index, and an index above the record count names its owner.
 #[test]
 fn any_bytes() {
     let mut marks = fresh(4);

@@ -3,7 +3,7 @@
 mod common;
 
 use common::*;
-use second::kit::naive::{distance, from_squares};
+use second::kit::programs::naive::{distance, from_squares};
 use second::lengths::{att, ceil_2d, euc_2d, man_2d, max_2d, measure};
 
 /// The largest S and the largest coordinate of an instance.

@@ -5,12 +5,12 @@ mod common;
 use common::*;
 use second::edge_set::EdgeSet;
 use second::intervals::Intervals;
-use second::kit::boards;
-use second::kit::checker::Checker;
-use second::kit::moved;
-use second::kit::naive::{Naive, Slip};
-use second::kit::rng::Rng;
-use second::kit::spoil;
+use second::kit::damage::spoil;
+use second::kit::generate::boards;
+use second::kit::generate::rng::Rng;
+use second::kit::met::moved;
+use second::kit::programs::checker::Checker;
+use second::kit::programs::naive::{Mistake, Naive};
 use second::lengths::{edge_count, measure};
 use second::listing::list_pairs;
 use second::marks::Marks;
@@ -79,7 +79,7 @@ fn second_splits() {
 fn verdict_before(records: &[[u16; 8]]) -> (u64, u64, u64) {
     let table: Vec<u8> = six().iter().flat_map(|l| l.to_le_bytes()).collect();
     let sheet: Vec<u8> = records.concat().iter().flat_map(|v| v.to_le_bytes()).collect();
-    let answer = Naive { slip: Some(Slip::SplitMovedOnly) }.mark_sheet(6, &table, &mut fresh(6), &sheet);
+    let answer = Naive { mistake: Some(Mistake::SplitMovedOnly) }.mark_sheet(6, &table, &mut fresh(6), &sheet);
     (answer % 256, answer / 256 % 65_536, answer / 16_777_216)
 }
 

@@ -217,7 +217,8 @@ fn broken_bytes() {
     assert_eq!(second::bytes::check_tour(4, &table, &fresh(4), &tour), 65_536 * 40 + 256);
 }
 
-/// The same for what is written: 2 for coordinates and table. A list may have any length: its places are the whole entries.
+/// The same for what is written: 2 for coordinates and table. A list may have any length: its places are the whole
+/// entries.
 #[test]
 fn broken_bytes_written() {
     let table: Vec<u8> = square().iter().flat_map(|l| l.to_le_bytes()).collect();

@@ -64,7 +64,8 @@ fn crossings() {
     }
 }
 
-/// The four labellings of the crossing with rs 9: one saves 3, those with one swap lose on either move, both swaps on both.
+/// The four labellings of the crossing with rs 9: one saves 3, those with one swap lose on either move, both swaps on
+/// both.
 #[test]
 fn labellings() {
     let table = crossing_board(9);

@@ -1,11 +1,11 @@
 //! The second program against the naive one, and the comparison against mistakes on purpose.
 
-use second::kit::checker::{Checker, Second};
-use second::kit::compare::Comparison;
-use second::kit::coverage::Coverage;
-use second::kit::naive::{Naive, Slip};
-use second::kit::segment_faults::SegmentFault;
-use second::kit::sets_met::READERS;
+use second::kit::compare::{Checked, Comparison};
+use second::kit::damage::segments::SegmentFault;
+use second::kit::met::coverage::Coverage;
+use second::kit::met::sets::READERS;
+use second::kit::programs::checker::{Checker, Second};
+use second::kit::programs::naive::{Mistake, Naive};
 
 #[test]
 fn alike_and_everything_met() {
@@ -398,22 +398,25 @@ fn reasons_alike_and_everything_met() {
     assert!(comparison.coverage.missing_reasons().is_empty(), "{:?}", comparison.coverage.missing_reasons());
 }
 
-/// Sheets until the comparison finds a slip in what is told, and what it finds, in the second program against the naive
-/// one or in both.
-fn found_in_reasons(slip: Slip, both: bool) -> String {
-    let naive = Naive { slip: Some(slip) };
+/// What a run of the comparison finds of a mistake, in the second program against the naive one or in both.
+fn found_by(mistake: Mistake, both: bool, run: impl FnOnce(&mut Comparison) -> Checked) -> String {
+    let naive = Naive { mistake: Some(mistake) };
     let one: &dyn Checker = if both { &naive } else { &Second };
     let mut comparison = Comparison::new(one, &naive, &naive, 7);
-    let Err(difference) = comparison.run_reasons(3_000) else { panic!("{slip:?} is not found") };
+    let Err(difference) = run(&mut comparison) else { panic!("{mistake:?} is not found") };
     let what = difference.0.split(" differs").next().unwrap();
-    println!("{slip:?}: {what} after {} sheets", comparison.coverage.reasons.sheets);
+    println!("{mistake:?}: {what}, {}", difference.0.lines().next().unwrap());
     what.to_string()
 }
 
+fn found_in_reasons(mistake: Mistake, both: bool) -> String {
+    found_by(mistake, both, |comparison| comparison.run_reasons(3_000))
+}
+
 #[test]
-fn slips_in_reasons_are_found() {
-    for slip in Slip::REASONS {
-        found_in_reasons(slip, false);
+fn mistakes_in_reasons_are_found() {
+    for mistake in Mistake::REASONS {
+        found_in_reasons(mistake, false);
     }
 }
 
@@ -447,49 +450,34 @@ fn segments_are_demanded() {
     }
 }
 
-/// Cases until the comparison finds a slip in new orders, and what it finds, in the second program against the naive
-/// one or in both.
-fn found_in_segments(slip: Slip, both: bool) -> String {
-    let naive = Naive { slip: Some(slip) };
-    let one: &dyn Checker = if both { &naive } else { &Second };
-    let mut comparison = Comparison::new(one, &naive, &naive, 7);
-    let Err(difference) = comparison.run_segments(2_000) else { panic!("{slip:?} is not found") };
-    let what = difference.0.split(" differs").next().unwrap();
-    println!("{slip:?}: {what}, {}", difference.0.lines().next().unwrap());
-    what.to_string()
+fn found_in_segments(mistake: Mistake, both: bool) -> String {
+    found_by(mistake, both, |comparison| comparison.run_segments(2_000))
 }
 
 #[test]
-fn slips_in_segments_are_found() {
-    for slip in Slip::SEGMENTS {
-        assert_eq!(found_in_segments(slip, false), "new order", "{slip:?}");
+fn mistakes_in_segments_are_found() {
+    for mistake in Mistake::SEGMENTS {
+        assert_eq!(found_in_segments(mistake, false), "new order", "{mistake:?}");
     }
 }
 
-/// Paper 10's law, where both programs make the slip: each damage gets its refusal, and an order is accepted exactly
+/// Paper 10's law, where both programs make the mistake: each damage gets its refusal, and an order is accepted exactly
 /// where it is shorter.
 #[test]
-fn slips_of_both_are_found_by_the_damage_to_segments() {
-    for slip in Slip::SEGMENTS {
-        assert_eq!(found_in_segments(slip, true), "new order by its damage", "{slip:?}");
+fn mistakes_of_both_are_found_by_the_damage_to_segments() {
+    for mistake in Mistake::SEGMENTS {
+        assert_eq!(found_in_segments(mistake, true), "new order by its damage", "{mistake:?}");
     }
 }
 
-/// Halls until the comparison finds a slip at desks, and what it finds, in the second program against the naive one or in both.
-fn found_at_desks(slip: Slip, both: bool) -> String {
-    let naive = Naive { slip: Some(slip) };
-    let one: &dyn Checker = if both { &naive } else { &Second };
-    let mut comparison = Comparison::new(one, &naive, &naive, 7);
-    let Err(difference) = comparison.run_halls(2_000) else { panic!("{slip:?} is not found") };
-    let what = difference.0.split(" differs").next().unwrap();
-    println!("{slip:?}: {what} after {} halls", comparison.coverage.desks.halls);
-    what.to_string()
+fn found_at_desks(mistake: Mistake, both: bool) -> String {
+    found_by(mistake, both, |comparison| comparison.run_halls(2_000))
 }
 
 #[test]
-fn slips_at_desks_are_found() {
-    for slip in Slip::DESKS {
-        found_at_desks(slip, false);
+fn mistakes_at_desks_are_found() {
+    for mistake in Mistake::DESKS {
+        found_at_desks(mistake, false);
     }
 }
 
@@ -503,238 +491,224 @@ fn texts_alike_and_everything_met() {
     assert!(comparison.coverage.missing_texts().is_empty(), "{:?}", comparison.coverage.missing_texts());
 }
 
-#[test]
-fn slips_in_texts_are_found() {
-    for slip in Slip::TEXTS {
-        let naive = Naive { slip: Some(slip) };
-        let mut comparison = Comparison::new(&Second, &naive, &naive, 7);
-        let found = comparison.run_texts(20_000).is_err();
-        println!("{slip:?}: {} texts", comparison.coverage.texts.texts);
-        assert!(found, "{slip:?} is not found");
-    }
-}
-
-/// Sheets until the comparison finds the slip.
-fn found_after(slip: Slip) -> Option<u64> {
-    let naive = Naive { slip: Some(slip) };
-    let mut comparison = Comparison::new(&Second, &naive, &naive, 7);
-    let outcome = comparison.run(10_000);
-    outcome.is_err().then_some(comparison.sheets)
+fn found_in_texts(mistake: Mistake, both: bool) -> String {
+    found_by(mistake, both, |comparison| comparison.run_texts(20_000))
 }
 
 #[test]
-fn slips_are_found() {
-    for slip in Slip::ALL {
-        let found = found_after(slip);
-        println!("{slip:?}: {found:?}");
-        assert!(found.is_some(), "{slip:?} is not found");
+fn mistakes_in_texts_are_found() {
+    for mistake in Mistake::TEXTS {
+        found_in_texts(mistake, false);
     }
 }
 
-/// What the comparison over one table finds where both programs make the slip: the marks alone tell it.
-fn found_in_both(slip: Slip) -> String {
-    found(slip, false)
+#[test]
+fn mistakes_are_found() {
+    for mistake in Mistake::SHEETS {
+        found_by(mistake, false, |comparison| comparison.run(10_000));
+    }
 }
 
-/// What the comparison finds where both make the slip, over two tables too or over one alone; no hall, where queues
+/// What the comparison over one table finds where both programs make the mistake: the marks alone tell it.
+fn found_in_both(mistake: Mistake) -> String {
+    found(mistake, false)
+}
+
+/// What the comparison finds where both make the mistake, over two tables too or over one alone; no hall, where queues
 /// tell it, and no line told, where what is due does.
-fn found(slip: Slip, two_tables: bool) -> String {
-    let naive = Naive { slip: Some(slip) };
-    let mut comparison = Comparison::new(&naive, &naive, &naive, 7);
-    comparison.two_tables = two_tables;
-    comparison.eight_desks = false;
-    comparison.told_lines = false;
-    let Err(difference) = comparison.run(20_000) else { panic!("{slip:?} is not found") };
-    let what = difference.0.split(" differs").next().unwrap();
-    println!("{slip:?}: {what} after {} sheets", comparison.sheets);
-    what.to_string()
+fn found(mistake: Mistake, two_tables: bool) -> String {
+    found_by(mistake, true, |comparison| {
+        comparison.two_tables = two_tables;
+        comparison.eight_desks = false;
+        comparison.told_lines = false;
+        comparison.run(20_000)
+    })
 }
 
 /// The first leaves a point one open edge; the second strikes no edge of a shortest tour.
 #[test]
-fn slips_of_both_are_found_by_open_edges_and_tours() {
-    assert_eq!(found_in_both(Slip::LastEdges), "open edges");
-    assert_eq!(found_in_both(Slip::ShortestOnly), "3-opt tour");
+fn mistakes_of_both_are_found_by_open_edges_and_tours() {
+    assert_eq!(found_in_both(Mistake::LastEdges), "open edges");
+    assert_eq!(found_in_both(Mistake::ShortestOnly), "3-opt tour");
 }
 
 /// Paper 3's laws, on copies of what was asked.
 #[test]
-fn slips_of_both_are_found_by_the_laws_of_asking() {
-    assert_eq!(found_in_both(Slip::PendingOpenInSheet), "ask from mark");
-    assert_eq!(found_in_both(Slip::PendingMarked), "ask from mark");
-    assert_eq!(found_in_both(Slip::StoppedAskGivenBack), "ask, then confirm");
-    assert_eq!(found_in_both(Slip::StoppedAskStrikes), "ask, then confirm");
-    assert_eq!(found_in_both(Slip::ConfirmOpens), "ask, then confirm");
-    assert_eq!(found_in_both(Slip::NothingPendingUntold), "ask, then confirm");
-    assert_eq!(found_in_both(Slip::WithdrawStrikes), "ask, then withdraw");
+fn mistakes_of_both_are_found_by_the_laws_of_asking() {
+    assert_eq!(found_in_both(Mistake::PendingOpenInSheet), "ask from mark");
+    assert_eq!(found_in_both(Mistake::PendingMarked), "ask from mark");
+    assert_eq!(found_in_both(Mistake::StoppedAskGivenBack), "ask, then confirm");
+    assert_eq!(found_in_both(Mistake::StoppedAskStrikes), "ask, then confirm");
+    assert_eq!(found_in_both(Mistake::ConfirmOpens), "ask, then confirm");
+    assert_eq!(found_in_both(Mistake::NothingPendingUntold), "ask, then confirm");
+    assert_eq!(found_in_both(Mistake::WithdrawStrikes), "ask, then withdraw");
 }
 
 /// Paper 4's laws, on conversions and on sets with one fault.
 #[test]
-fn slips_of_both_are_found_by_the_laws_of_packed_sets() {
-    assert_eq!(found_in_both(Slip::PendingPackedOpen), "pack marks, then unpack marks");
-    assert_eq!(found_in_both(Slip::LastMarkDropped), "pack marks, then unpack marks");
-    assert_eq!(found_in_both(Slip::WrittenSetTested), "pack marks, then unpack marks");
-    assert_eq!(found_in_both(Slip::PackedBeforeTest), "pack marks, refused");
+fn mistakes_of_both_are_found_by_the_laws_of_packed_sets() {
+    assert_eq!(found_in_both(Mistake::PendingPackedOpen), "pack marks, then unpack marks");
+    assert_eq!(found_in_both(Mistake::LastMarkDropped), "pack marks, then unpack marks");
+    assert_eq!(found_in_both(Mistake::WrittenSetTested), "pack marks, then unpack marks");
+    assert_eq!(found_in_both(Mistake::PackedBeforeTest), "pack marks, refused");
     let faults = [
-        (Slip::LongerSet, " for a byte too many"),
-        (Slip::MarkThree, " for a mark of 3 at place "),
-        (Slip::LastByteUntested, " of a last byte with "),
-        (Slip::UnusedPassed, " for bit "),
+        (Mistake::LongerSet, " for a byte too many"),
+        (Mistake::MarkThree, " for a mark of 3 at place "),
+        (Mistake::LastByteUntested, " of a last byte with "),
+        (Mistake::UnusedPassed, " for bit "),
     ];
-    for (slip, fault) in faults {
-        let what = found_in_both(slip);
-        assert!(what.contains(fault), "{slip:?}: {what}");
+    for (mistake, fault) in faults {
+        let what = found_in_both(mistake);
+        assert!(what.contains(fault), "{mistake:?}: {what}");
     }
 }
 
 /// Paper 5's law: a saving above 0 shuts out.
 #[test]
-fn slips_of_both_are_found_by_the_rules_that_savings_tell() {
-    assert_eq!(found_in_both(Slip::SmallerExchange), "list pairs by savings");
-    assert_eq!(found_in_both(Slip::LargerMove), "crossing by its saving");
-    assert_eq!(found_in_both(Slip::FirstLabelling), "crossing by its saving");
-    for slip in [Slip::EndsTheSame, Slip::EdgesBeforeLengths] {
-        let what = found_in_both(slip);
-        assert!(what.ends_with(" saving, refused"), "{slip:?}: {what}");
+fn mistakes_of_both_are_found_by_the_rules_that_savings_tell() {
+    assert_eq!(found_in_both(Mistake::SmallerExchange), "list pairs by savings");
+    assert_eq!(found_in_both(Mistake::LargerMove), "crossing by its saving");
+    assert_eq!(found_in_both(Mistake::FirstLabelling), "crossing by its saving");
+    for mistake in [Mistake::EndsTheSame, Mistake::EdgesBeforeLengths] {
+        let what = found_in_both(mistake);
+        assert!(what.ends_with(" saving, refused"), "{mistake:?}: {what}");
     }
 }
 
-/// The slips that are found by none of the laws that they break.
-fn found_otherwise(slips: &[Slip], laws: &[&str], found: impl Fn(Slip) -> String) -> Vec<(Slip, String)> {
-    let all = slips.iter().map(|&slip| (slip, found(slip)));
+/// The mistakes that are found by none of the laws that they break.
+fn found_otherwise(mistakes: &[Mistake], laws: &[&str], found: impl Fn(Mistake) -> String) -> Vec<(Mistake, String)> {
+    let all = mistakes.iter().map(|&mistake| (mistake, found(mistake)));
     all.filter(|(_, what)| !laws.contains(&what.as_str())).collect()
 }
 
 /// Paper 7's law: a pair at a further split is shut out exactly if some move of a settled point saves. Where the second
 /// program shuts out a first pair and these do not, its sheet with a crossing tells, too.
 #[test]
-fn slips_of_both_are_found_by_the_moves_of_settled_points() {
-    for slip in [Slip::SplitMovedOnly, Slip::LowerStays, Slip::HigherStays, Slip::OthersStay, Slip::PairsEdgesLeft] {
-        let what = found_in_both(slip);
-        assert!(["pair by moves", "crossing by its saving"].contains(&what.as_str()), "{slip:?}: {what}");
+fn mistakes_of_both_are_found_by_the_moves_of_settled_points() {
+    for mistake in [
+        Mistake::SplitMovedOnly,
+        Mistake::LowerStays,
+        Mistake::HigherStays,
+        Mistake::OthersStay,
+        Mistake::PairsEdgesLeft,
+    ] {
+        let what = found_in_both(mistake);
+        assert!(["pair by moves", "crossing by its saving"].contains(&what.as_str()), "{mistake:?}: {what}");
     }
     let laws = ["list pairs by savings", "pair by moves"];
-    assert_eq!(found_otherwise(&[Slip::TouchingLeft, Slip::SettledTies], &laws, found_in_both), []);
+    assert_eq!(found_otherwise(&[Mistake::TouchingLeft, Mistake::SettledTies], &laws, found_in_both), []);
 }
 
 /// Paper 13's laws: what two slips tell, and what releasing and showing leave.
 #[test]
-fn slips_of_both_are_found_by_the_laws_of_slips() {
-    assert_eq!(found_in_both(Slip::RecordShownEarly), "two slips to the candidate");
-    assert_eq!(found_in_both(Slip::NumberShownEarly), "two slips to the candidate");
-    assert_eq!(found_in_both(Slip::LinesHidden), "two slips to the candidate");
-    assert_eq!(found_in_both(Slip::HiddenAfterRelease), "released slip");
-    assert_eq!(found_in_both(Slip::ReleaseTakenBack), "release, other bits");
-    assert_eq!(found_in_both(Slip::ReleaseCutsAbove), "release, other bits");
-    for slip in [Slip::ShortViewWritten, Slip::BytesPastCleared] {
-        let what = found_in_both(slip);
-        assert!(what.ends_with(" view, bytes lent"), "{slip:?}: {what}");
+fn mistakes_of_both_are_found_by_the_laws_of_slips() {
+    assert_eq!(found_in_both(Mistake::RecordShownEarly), "two slips to the candidate");
+    assert_eq!(found_in_both(Mistake::NumberShownEarly), "two slips to the candidate");
+    assert_eq!(found_in_both(Mistake::LinesHidden), "two slips to the candidate");
+    assert_eq!(found_in_both(Mistake::HiddenAfterRelease), "released slip");
+    assert_eq!(found_in_both(Mistake::ReleaseTakenBack), "release, other bits");
+    assert_eq!(found_in_both(Mistake::ReleaseCutsAbove), "release, other bits");
+    for mistake in [Mistake::ShortViewWritten, Mistake::BytesPastCleared] {
+        let what = found_in_both(mistake);
+        assert!(what.ends_with(" view, bytes lent"), "{mistake:?}: {what}");
     }
 }
 
-/// Paper 11's laws: whatever stands over a table between the two stands over both, a crossing saves by three low lengths
-/// against three high ones, and one set of marks serves all tables between.
+/// Paper 11's laws: whatever stands over a table between the two stands over both, a crossing saves by three low
+/// lengths against three high ones, and one set of marks serves all tables between.
 #[test]
-fn slips_of_both_are_found_by_the_tables_between() {
+fn mistakes_of_both_are_found_by_the_tables_between() {
     let laws = ["list between from a table between", "crossing between"];
-    assert_eq!(found_otherwise(&[Slip::OutHigh, Slip::PutLow], &laws, |slip| found(slip, true)), []);
-    assert_eq!(found(Slip::CrossingLow, true), "crossing between");
-    let what = found(Slip::EndsOnly, true);
+    assert_eq!(found_otherwise(&[Mistake::OutHigh, Mistake::PutLow], &laws, |mistake| found(mistake, true)), []);
+    assert_eq!(found(Mistake::CrossingLow, true), "crossing between");
+    let what = found(Mistake::EndsOnly, true);
     assert!(["lost edge between", "3-opt tour between"].contains(&what.as_str()), "{what}");
 }
 
 /// Paper 11's refusals.
 #[test]
-fn slips_of_both_are_found_by_the_refusals_over_two_tables() {
-    for (slip, fault) in [
-        (Slip::LimitsUntold, " for a low length above its high one at "),
-        (Slip::LimitsBeforeLengths, " for an entry above 2,000,000 in "),
-        (Slip::LimitsAfterMarks, " between for "),
-        (Slip::LowEntryUntested, " for an entry above 2,000,000 in the low table"),
-        (Slip::HighEntryUntested, " for an entry above 2,000,000 in the high table"),
+fn mistakes_of_both_are_found_by_the_refusals_over_two_tables() {
+    for (mistake, fault) in [
+        (Mistake::LimitsUntold, " for a low length above its high one at "),
+        (Mistake::LimitsBeforeLengths, " for an entry above 2,000,000 in "),
+        (Mistake::LimitsAfterMarks, " between for "),
+        (Mistake::LowEntryUntested, " for an entry above 2,000,000 in the low table"),
+        (Mistake::HighEntryUntested, " for an entry above 2,000,000 in the high table"),
     ] {
-        let what = found(slip, true);
-        assert!(what.contains(fault), "{slip:?}: {what}");
+        let what = found(mistake, true);
+        assert!(what.contains(fault), "{mistake:?}: {what}");
     }
-    found(Slip::EqualRefused, true);
+    found(Mistake::EqualRefused, true);
 }
 
 /// Rules that shut out too much, in both.
 #[test]
-fn slips_of_both_are_found() {
-    for slip in [Slip::EqualShutsOut, Slip::OneExchange, Slip::EarlyStrike, Slip::EdgeAtPoint] {
-        found_in_both(slip);
+fn mistakes_of_both_are_found() {
+    for mistake in [Mistake::EqualShutsOut, Mistake::OneExchange, Mistake::EarlyStrike, Mistake::EdgeAtPoint] {
+        found_in_both(mistake);
     }
 }
 
 /// Paper 1's laws: a good text is as its numbers, the line told is held against all completions, a refused call leaves
 /// the table, and the first number that is for a call is told.
 #[test]
-fn slips_of_both_in_texts_are_found() {
-    for slip in Slip::TEXTS {
-        let naive = Naive { slip: Some(slip) };
-        let mut comparison = Comparison::new(&naive, &naive, &naive, 7);
-        let Err(difference) = comparison.run_texts(20_000) else { panic!("{slip:?} is not found") };
-        let what = difference.0.split(" differs").next().unwrap();
-        println!("{slip:?}: {what} after {} texts", comparison.coverage.texts.texts);
-        let laws = ["text as its numbers", "text by its completions", "text, refused", "text and its points"];
-        assert!(laws.contains(&what), "{slip:?}: {what}");
-    }
+fn mistakes_of_both_in_texts_are_found() {
+    let laws = ["text as its numbers", "text by its completions", "text, refused", "text and its points"];
+    assert_eq!(found_otherwise(&Mistake::TEXTS, &laws, |mistake| found_in_texts(mistake, true)), []);
 }
 
 /// Paper 12's laws: what a page leaves, and that it is read again.
 #[test]
-fn slips_of_both_are_found_by_the_laws_of_pages() {
-    assert_eq!(found_in_both(Slip::ShortPageWritten), "write a page, refused");
-    assert_eq!(found_in_both(Slip::PastPageCleared), "write a page, bytes past it");
-    assert_eq!(found_in_both(Slip::NextEdgeChanged), "read a page, its own edges");
+fn mistakes_of_both_are_found_by_the_laws_of_pages() {
+    assert_eq!(found_in_both(Mistake::ShortPageWritten), "write a page, refused");
+    assert_eq!(found_in_both(Mistake::PastPageCleared), "write a page, bytes past it");
+    assert_eq!(found_in_both(Mistake::NextEdgeChanged), "read a page, its own edges");
 }
 
-/// Paper 14's laws, where both programs make the slip: what a turn tells and leaves, what handing in tests, what a change
-/// of a folder comes to; and the queues, which live through a hall.
+/// Paper 14's laws, where both programs make the mistake: what a turn tells and leaves, what handing in tests, what a
+/// change of a folder comes to; and the queues, which live through a hall.
 #[test]
-fn slips_of_both_are_found_by_the_laws_of_desks() {
-    let laws: [(&[Slip], &[&str]); 13] = [
-        (&[Slip::SameDeskAgain, Slip::RoundEndsAtEight, Slip::LastNotModulo], &["next desk by the queues"]),
-        (&[Slip::UnservedLineLeft], &["next desk by the queues", "hand in by its tests"]),
-        (&[Slip::NextIndexToldLate], &["turn by the queues"]),
-        (&[Slip::TestsNotRepeated], &["turn after a change"]),
-        (&[Slip::OwnerForgotten], &["turn after a change", "turn by the queues"]),
-        (&[Slip::LinesLostAtTest, Slip::LinesOfTurn], &["turn, its strike"]),
-        (&[Slip::RefusedTurnKeepsLine, Slip::EndedKeepsLines], &["turn, its line left"]),
-        (&[Slip::RefusedTurnUnserved, Slip::OtherDeskCleared], &["turn, other desks"]),
-        (&[Slip::HandInServes, Slip::HandInOverLine, Slip::DeskByLowByte], &["hand in by its tests"]),
-        (&[Slip::TestsBeforeDesk], &["hand in, too short", "hand in by its tests"]),
-        (&[Slip::DeskBeforeBuffer], &["hand in, too short"]),
-        (&[Slip::PastDesksCleared], &["open desks"]),
-        (&[Slip::ShortDesksOpened], &["open desks, too short"]),
+fn mistakes_of_both_are_found_by_the_laws_of_desks() {
+    let laws: [(&[Mistake], &[&str]); 13] = [
+        (&[Mistake::SameDeskAgain, Mistake::RoundEndsAtEight, Mistake::LastNotModulo], &["next desk by the queues"]),
+        (&[Mistake::UnservedLineLeft], &["next desk by the queues", "hand in by its tests"]),
+        (&[Mistake::NextIndexToldLate], &["turn by the queues"]),
+        (&[Mistake::TestsNotRepeated], &["turn after a change"]),
+        (&[Mistake::OwnerForgotten], &["turn after a change", "turn by the queues"]),
+        (&[Mistake::LinesLostAtTest, Mistake::LinesOfTurn], &["turn, its strike"]),
+        (&[Mistake::RefusedTurnKeepsLine, Mistake::EndedKeepsLines], &["turn, its line left"]),
+        (&[Mistake::RefusedTurnUnserved, Mistake::OtherDeskCleared], &["turn, other desks"]),
+        (&[Mistake::HandInServes, Mistake::HandInOverLine, Mistake::DeskByLowByte], &["hand in by its tests"]),
+        (&[Mistake::TestsBeforeDesk], &["hand in, too short", "hand in by its tests"]),
+        (&[Mistake::DeskBeforeBuffer], &["hand in, too short"]),
+        (&[Mistake::PastDesksCleared], &["open desks"]),
+        (&[Mistake::ShortDesksOpened], &["open desks, too short"]),
     ];
-    let by_desks = |slip| found_at_desks(slip, true);
-    let others: Vec<(Slip, String)> =
-        laws.iter().flat_map(|(slips, laws)| found_otherwise(slips, laws, by_desks)).collect();
+    let by_desks = |mistake| found_at_desks(mistake, true);
+    let others: Vec<(Mistake, String)> =
+        laws.iter().flat_map(|(mistakes, laws)| found_otherwise(mistakes, laws, by_desks)).collect();
     assert_eq!(others, []);
 }
 
-/// Paper 6's laws, where all programs make the slip: a text is the one due, a refused line is refused as marked alone,
-/// and bytes past a text stay.
+/// Paper 6's laws, where all programs make the mistake: a text is the one due, a refused line is refused as marked
+/// alone, and bytes past a text stay.
 #[test]
-fn slips_of_both_are_found_by_the_laws_of_reasons() {
+fn mistakes_of_both_are_found_by_the_laws_of_reasons() {
     let refusals = [
-        Slip::NextIndexTold,
-        Slip::FirstIsOne,
-        Slip::RecordZeroFirst,
-        Slip::RecordByLowBits,
-        Slip::AskedRecordNamed,
-        Slip::ToldPendingRefused,
+        Mistake::NextIndexTold,
+        Mistake::FirstIsOne,
+        Mistake::RecordZeroFirst,
+        Mistake::RecordByLowBits,
+        Mistake::AskedRecordNamed,
+        Mistake::ToldPendingRefused,
     ];
-    for slip in Slip::REASONS {
-        let law = match slip {
-            Slip::BufferBeforeLine => "tell a line, refused without a byte",
-            Slip::ShortTextWritten | Slip::PastTextCleared => "tell a line, bytes past it",
-            _ if refusals.contains(&slip) => "tell a line, its refusal",
+    for mistake in Mistake::REASONS {
+        let law = match mistake {
+            Mistake::BufferBeforeLine => "tell a line, refused without a byte",
+            Mistake::ShortTextWritten | Mistake::PastTextCleared => "tell a line, bytes past it",
+            _ if refusals.contains(&mistake) => "tell a line, its refusal",
             _ => "tell a line by what is due",
         };
-        assert_eq!(found_in_reasons(slip, true), law, "{slip:?}");
+        assert_eq!(found_in_reasons(mistake, true), law, "{mistake:?}");
     }
 }

@@ -1,10 +1,10 @@
-//! The search for tours that three exchanges cannot shorten, against all tours up to nine points and against all exchanges
-//! of three edges up to thirty.
+//! The search for tours that three exchanges cannot shorten, against all tours up to nine points and against all
+//! exchanges of three edges up to thirty.
 
-use second::kit::boards::{self, Board};
-use second::kit::brute;
-use second::kit::rng::Rng;
-use second::kit::three_opt::{edges, length, search, shortened, MOST_POINTS};
+use second::kit::generate::boards::{self, Board};
+use second::kit::generate::rng::Rng;
+use second::kit::oracle::brute;
+use second::kit::oracle::three_opt::{edges, length, search, shortened, MOST_POINTS};
 use second::lengths::{edge_count, EdgeOrder, Lengths};
 
 type Edge = (u16, u16);

@@ -5,8 +5,8 @@ mod common;
 
 use common::*;
 use second::bytes;
-use second::kit::completions::Completions;
-use second::kit::naive::language::Line;
+use second::kit::oracle::completions::Completions;
+use second::kit::programs::naive::language::Line;
 use second::lengths::{edge_count, measure};
 use second::refusal::Refusal;
 use second::tsplib::{read_tsplib, tsplib_points, TextFault};
@@ -312,8 +312,8 @@ const LINES: [&str; 17] = [
     "",
 ];
 
-/// Each text of fewer than so many of these lines that has a completion, followed by each line: the reader goes past that
-/// line exactly if there is a completion again.
+/// Each text of fewer than so many of these lines that has a completion, followed by each line: the reader goes past
+/// that line exactly if there is a completion again.
 fn held(completions: &Completions, text: &str, said: &mut Vec<Line>, most: usize) -> u64 {
     let mut texts = 0;
     for next in LINES {

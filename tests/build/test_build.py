@@ -11,7 +11,8 @@ import time
 import unittest
 from concurrent.futures import ThreadPoolExecutor
 
-from support import ANSWER, LIMIT, ROOT, SIGNALS, Tree, eventually
+from tests.support import ROOT
+from tests.support.build import ANSWER, LIMIT, SIGNALS, Tree, eventually
 
 
 class Proves(Tree):
@@ -320,10 +321,10 @@ class Interrupted(Tree):
         self.assertEqual(tree.proved_since("tools/build", "mark", "archive"), [])
 
 
-class Readme(unittest.TestCase):
+class Use(unittest.TestCase):
     def test_numbers_told(self):
-        """The crates that README names are those that are told."""
-        lines = re.findall(r"`(\d+) of (\d+): (\w+)`", (ROOT / "README.md").read_text(encoding="utf-8"))
+        """The crates that docs/USE.md names are those that are told."""
+        lines = re.findall(r"`(\d+) of (\d+): (\w+)`", (ROOT / "docs/USE.md").read_text(encoding="utf-8"))
         crates = dict(line.split(":") for line in (ROOT / "crates.txt").read_text().splitlines() if not line.startswith("#"))
         wanted, todo = set(), ["mark"]
         while todo:
@@ -335,7 +336,3 @@ class Readme(unittest.TestCase):
         for _, total, name in lines:
             self.assertEqual(int(total), len(wanted))
             self.assertIn(name, wanted)
-
-
-if __name__ == "__main__":
-    unittest.main()

@@ -9,7 +9,7 @@ import tempfile
 import unittest
 from pathlib import Path
 
-from support import ROOT
+from tests.support import ROOT
 
 import revosti
 
@@ -151,7 +151,3 @@ class Pip(unittest.TestCase):
         status, out, told = run(self.folder / "fresh/bin/revosti", "pairs", ROOT / "examples/square.bin", *"123")
         self.assertEqual((status, told), (0, ""))
         self.assertIn("pair 1-4\npair 2-4\n", out)
-
-
-if __name__ == "__main__":
-    unittest.main()

@@ -8,7 +8,8 @@ import tempfile
 import unittest
 from pathlib import Path
 
-from support import LIMIT, ROOT
+from tests.support import ROOT
+from tests.support.build import LIMIT
 
 ACCEPTED = "points 4 edges 6\nstruck 1 3\nverdict 0 record 0 open 5\n"
 REFUSED = "points 4 edges 6\nverdict 14 record 1 open 6\n"
@@ -143,7 +144,3 @@ class Built(unittest.TestCase):
             run = subprocess.run([ROOT / "bin/mark"], stdin=square, stdout=subprocess.PIPE, check=False)
         self.assertEqual((run.returncode, run.stdout),
                          (0, b"points 4 edges 6\nstruck 1 3\nstruck 2 4\nverdict 0 record 0 open 4\n"))
-
-
-if __name__ == "__main__":
-    unittest.main()

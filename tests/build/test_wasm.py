@@ -1,8 +1,7 @@
 """tools/build wasm: what is proved for the module, what is linked, and when neither is needed."""
 
-import unittest
 
-from support import Tree
+from tests.support.build import Tree
 
 
 class Wasm(Tree):
@@ -69,7 +68,3 @@ class Wasm(Tree):
         self.build("wasm")
         nowhere = {"PATH": "/usr/bin:/bin"}
         self.assertEqual(self.build("wasm", **nowhere), (0, "", ""))
-
-
-if __name__ == "__main__":
-    unittest.main()

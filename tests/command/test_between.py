@@ -1,11 +1,11 @@
 """revosti mark --high and revosti pairs, over the library."""
 
-import unittest
 
-from support import ROOT, SQUARE_POINTS, SQUARE_RECORDS, Folder, Run, binary
+from tests.support import ROOT
+from tests.support.command import SQUARE_POINTS, SQUARE_RECORDS, Folder, Run, binary
+from tests.support.packing import packed
 
 import revosti
-from packing import packed
 
 PAGE = (ROOT / "docs/FORMATS.md").read_text(encoding="utf-8")
 
@@ -85,7 +85,3 @@ class Command(Folder):
         said = [self.call("pairs", self.low, 1, 3, 2, "--high", self.wide)[1], self.mark(self.low, self.narrow)[1]]
         for text in said:
             self.assertTrue(f"\n```\n{text}```\n" in PAGE, text)
-
-
-if __name__ == "__main__":
-    unittest.main()

@@ -2,17 +2,17 @@
 
 import random
 import re
-import unittest
 
-from support import EXAMPLES, ROOT, SQUARE_POINTS, SQUARE_RECORDS, Folder, Run, binary
+from tests.support import EXAMPLES, ROOT
+from tests.support.command import SQUARE_POINTS, SQUARE_RECORDS, Folder, Run, binary
+from tests.support.packing import packed, some
+from tests.support.texts import NODES, WEIGHTS, changed, text
 
 import revosti
-from packing import packed, some
 from revosti_command.edges import RULES
 from revosti_command.parts import Parts, Record, join
 from revosti_command.tsplib import write_board
 from revosti_command.write import unpack_beside
-from texts import NODES, WEIGHTS, changed, text
 
 N, TABLE = 4, [10, 14, 10, 10, 14, 10]
 LOW, HIGH, SHEET = (EXAMPLES / name for name in ("square_weights.tsp", "wide_weights.tsp", "square.txt"))
@@ -121,7 +121,7 @@ class Limits(Sets):
         self.assertGreater(len(seen), 2)
 
     def test_page(self):
-        commands = re.findall(r"`bin/revosti (\w+ [^`]*examples/wide_weights.tsp[^`]*)`", PAGE)
+        commands = re.findall(r"bin/revosti (\w+ [^`\n]*examples/wide_weights.tsp[^`\n]*)", PAGE)
         words = [[str(ROOT / word) if "/" in word else word for word in command.replace("board.marks", str(self.marks)).split()]
                  for command in commands]
         self.assertEqual([self.call(*given) for given in words], [(0, BOTH, ""), (0, "No pair stands at 2 under 1-3.\n", "")])
@@ -196,7 +196,3 @@ class OneBoard(Sets):
                       ("slip", "--board", board, SHEET), ("mark", "--board", board, SHEET, "--marks", self.marks),
                       ("mark", "--board", LOW, "--high", board, SHEET, "--marks", self.marks), ("pairs", LOW, 1, 3, 2, "--high", board)):
             self.assertEqual(self.call(*words), said, words)
-
-
-if __name__ == "__main__":
-    unittest.main()

@@ -3,7 +3,7 @@
 import subprocess
 import unittest
 
-from support import NINE, PROGRAM, SQUARE_HEAD, SQUARE_RECORDS, Folder, Run, binary
+from tests.support.command import NINE, PROGRAM, SQUARE_HEAD, SQUARE_RECORDS, Folder, Run, binary
 
 from revosti_command.options import is_text
 
@@ -79,7 +79,3 @@ class Forms(unittest.TestCase):
                              (binary(SQUARE_RECORDS), False), (b"# \xc3\xbc\r\n\trule", True),
                              (b"rule \xff", True), (b"rule\0", False), (b"\x1b[0m", False)):
             self.assertEqual(is_text(data), wanted, data)
-
-
-if __name__ == "__main__":
-    unittest.main()

@@ -1,12 +1,12 @@
 """6,000 damaged files, of every kind and for every command that takes the kind: a message, and never a traceback."""
 
 import random
-import unittest
 from unittest import mock
 
-from support import EXAMPLES, NINE, Folder, Run
+from tests.support import EXAMPLES
+from tests.support.command import NINE, Folder, Run
+from tests.support.packing import packed
 
-from packing import packed
 from revosti_command.parts import join, split
 from revosti_command.read import pack
 from revosti_command.write import unpack
@@ -115,7 +115,3 @@ class Damaged(Folder):
         self.assertEqual(sum(seen.values()), COUNT)
         self.assertLessEqual({0, 1, 2}, set(seen))
         self.assertNotIn(3, seen)
-
-
-if __name__ == "__main__":
-    unittest.main()

@@ -4,13 +4,13 @@ that are changed meanwhile, a kill at any step of a turn, and several commands a
 import json
 import random
 import shutil
-import unittest
 from unittest import mock
 
-from support import EXAMPLES, ROOT, SQUARE_HEAD, SQUARE_RECORDS, Folder, Run, binary, start
+from tests.support import EXAMPLES, ROOT
+from tests.support.command import SQUARE_HEAD, SQUARE_RECORDS, Folder, Run, binary, start
+from tests.support.packing import packed
 
 import revosti
-from packing import packed
 from revosti_command import hall as halls
 
 SQUARE, SHEET = EXAMPLES / "square.tsp", EXAMPLES / "square.txt"
@@ -347,7 +347,3 @@ class Together(Hall):
         self.assertIn(b"Desk 1: the sheet is accepted, 2 lines.", out)
         self.assertEqual(self.marks(1), STRUCK)
         self.assertFalse((self.hall / "turn").exists())
-
-
-if __name__ == "__main__":
-    unittest.main()

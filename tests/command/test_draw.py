@@ -5,9 +5,10 @@ import re
 import unittest
 from xml.etree import ElementTree
 
-from support import EXAMPLES, NINE, SQUARE_POINTS, SQUARE_RECORDS, Folder, Run, binary
+from tests.support import EXAMPLES
+from tests.support.command import NINE, SQUARE_POINTS, SQUARE_RECORDS, Folder, Run, binary
+from tests.support.packing import packed
 
-from packing import packed
 from revosti_command.draw import WIDTH, Scene, draw
 from revosti_command.edges import RULES, edges
 from revosti_command.labels import overlap, place_labels
@@ -297,7 +298,3 @@ class Command(Folder):
             self.assertEqual((run.status, run.out), (1, b""))
             self.assertIn("revosti: the tour: Refused, number 17: ", run.err)
             self.assertIn(words, run.err)
-
-
-if __name__ == "__main__":
-    unittest.main()

@@ -3,7 +3,7 @@
 import unittest
 from unittest import mock
 
-from support import SQUARE_HEAD, Run
+from tests.support.command import SQUARE_HEAD, Run
 
 from revosti_command.read import pack
 from revosti_command.scan import BadText
@@ -170,7 +170,3 @@ class Errors(unittest.TestCase):
         self.assertEqual((run.status, run.out), (2, b""))
         self.assertEqual(run.err, "revosti: standard input, line 2, column 8: "
                                   'expected the number of points, found "x"\n')
-
-
-if __name__ == "__main__":
-    unittest.main()

@@ -4,10 +4,11 @@ import json
 import re
 import unittest
 
-from support import EXAMPLES, NINE, SQUARE_HEAD, SQUARE_RECORDS, Folder, Run, binary
+from tests.support import EXAMPLES
+from tests.support.command import NINE, SQUARE_HEAD, SQUARE_RECORDS, Folder, Run, binary
+from tests.support.packing import packed
+from tests.support.plain import Board, edge
 
-from packing import packed
-from plain import Board, edge
 from revosti import fresh_marks
 from revosti.refusal import REFUSALS
 from revosti_command.explain import explain
@@ -347,7 +348,3 @@ class Command(Folder):
         self.assertEqual(found["words"], REFUSALS[14])
         found = json.loads(Run("explain", "--json", data=b"").text)
         self.assertEqual((found["refusal"], found["detail"]), (7, "The file has 0 bytes and no whole header."))
-
-
-if __name__ == "__main__":
-    unittest.main()

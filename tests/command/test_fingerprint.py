@@ -2,11 +2,10 @@
 
 import hashlib
 import struct
-import unittest
 
-from support import EXAMPLES, NINE, SQUARE_RECORDS, Folder, Run, binary
-
-from packing import packed
+from tests.support import EXAMPLES
+from tests.support.command import NINE, SQUARE_RECORDS, Folder, Run, binary
+from tests.support.packing import packed
 
 SQUARE, LOW, HIGH, SHEET = (EXAMPLES / name for name in ("square.tsp", "square_weights.tsp", "wide_weights.tsp", "square.txt"))
 OTHER = "the set is of another board: 4 points, digest "
@@ -167,7 +166,3 @@ class Limits(Sets):
             self.assertIn("the set was not started with these low and high lengths", self.cut(**limits).err)
         self.beside.unlink()
         self.assertEqual(self.cut().status, 2)
-
-
-if __name__ == "__main__":
-    unittest.main()

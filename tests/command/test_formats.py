@@ -4,10 +4,11 @@ docs/RULES.md are true, and both have each refusal."""
 import re
 import unittest
 
-from support import EXAMPLES, SQUARE_POINTS, TOOLS, Folder, Run, binary
+from tests.support import EXAMPLES
+from tests.support.command import SQUARE_POINTS, TOOLS, Folder, Run, binary
+from tests.support.packing import packed
+from tests.support.plain import RULES, length_of
 
-from packing import packed
-from plain import RULES, length_of
 from revosti.refusal import REFUSALS
 from revosti.telling import SENTENCE_BYTES
 from revosti_command.edges import edges
@@ -242,7 +243,3 @@ class Refusals(unittest.TestCase):
         table = PAGE.partition("| Number | Meaning | Number | Meaning |\n|---|---|---|---|\n")[2].partition("\n\n")[0]
         rows = re.findall(r"^\| (\d+) \| [^|]* \| (?:(\d+) \| [^|]* )?\|", table, re.M)
         self.assertEqual(sorted(int(number) for row in rows for number in row if number), list(REFUSALS))
-
-
-if __name__ == "__main__":
-    unittest.main()

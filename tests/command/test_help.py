@@ -1,4 +1,4 @@
-"""The help, README and FORMATS agree with each other and with what the command does; it runs from any folder, through
+"""The help, USE and FORMATS agree with each other and with what the command does; it runs from any folder, through
 links, and from a built tree that cannot be written."""
 
 import json
@@ -9,14 +9,15 @@ import shutil
 import subprocess
 import unittest
 
-from support import EXAMPLES, NINE, PROGRAM, ROOT, Folder, Run
+from tests.support import EXAMPLES, ROOT
+from tests.support.command import NINE, PROGRAM, Folder, Run
 
 from revosti_command.commands import GROUPS, every_command
 from revosti_command.main import STATUS, parser
 
 COMMANDS = {module.NAME: module for module in every_command()}
-FORMATS, README, RULES, DECISIONS = ((ROOT / name).read_text(encoding="utf-8")
-                                     for name in ("docs/FORMATS.md", "README.md", "docs/RULES.md", "docs/DECISIONS.md"))
+FORMATS, README, USE, RULES, DECISIONS = ((ROOT / name).read_text(encoding="utf-8") for name in
+                                          ("docs/FORMATS.md", "README.md", "docs/USE.md", "docs/RULES.md", "docs/DECISIONS.md"))
 WANTED = {"mark", "ask", "confirm", "withdraw", "fresh", "explain", "pairs", "saving", "slip", "tour", "edges", "draw", "pages",
           "read-pages", "board",
           "pack", "unpack", "convert", "desks", "tell"}
@@ -57,7 +58,7 @@ class Help(unittest.TestCase):
 
 
 class Examples(Folder):
-    """Each example works as it stands, in a folder that has the examples, and so do the calls that README shows."""
+    """Each example works as it stands, in a folder that has the examples."""
 
     def run_here(self, line):
         """One call, in the folder."""
@@ -75,16 +76,6 @@ class Examples(Folder):
                 self.assertNotIn(b"unknown origin", run.stderr)
             self.folder = self.folder.parent
 
-    def test_readme(self):
-        os.symlink(EXAMPLES, self.folder / "examples")
-        os.symlink(ROOT / "docs", self.folder / "docs")
-        found = [words for words in calls(README) if words[0] in COMMANDS]
-        self.assertGreater(len(found), 6)
-        for words in found:
-            words = [{"FILE": "examples/square.bin", "SET": "set.marks"}.get(word, word) for word in words]
-            run = self.run_here(shlex.join(["revosti", *words]))
-            self.assertEqual(run.returncode, 0, (words, run.stderr))
-
 
 class Documents(unittest.TestCase):
     def test_table_of_commands(self):
@@ -94,7 +85,7 @@ class Documents(unittest.TestCase):
 
     def test_options_that_documents_show(self):
         seen = set()
-        for text in (FORMATS, README, RULES):
+        for text in (FORMATS, README, USE, RULES):
             for name, *words in calls(text) + [form.split() for form in re.findall(r"\| `([a-z-]+ [^`]*)`", FORMATS)]:
                 if name not in COMMANDS:
                     continue
@@ -109,7 +100,7 @@ class Documents(unittest.TestCase):
         self.assertEqual(re.findall(r"\d", STATUS), ["0", "1", "2", "3"])
 
     def test_no_document_names_the_old_command(self):
-        for text in (FORMATS, README, RULES, DECISIONS):
+        for text in (FORMATS, README, USE, RULES, DECISIONS):
             self.assertNotIn("tools/sheet", text)
             self.assertNotIn("show-marks", text)
             self.assertNotIn("pack-marks", text.replace("`pack_marks`", ""))
@@ -186,7 +177,3 @@ class Anywhere(Folder):
         self.assertEqual((run.returncode, run.stderr), (0, b""))
         self.assertEqual(run.stdout.decode(), Run("explain", EXAMPLES / "square.bin").text)
         self.assertEqual(sorted(tree.rglob("*")), before)
-
-
-if __name__ == "__main__":
-    unittest.main()

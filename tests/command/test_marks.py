@@ -2,9 +2,9 @@
 
 import unittest
 
-from support import Run
+from tests.support.command import Run
+from tests.support.packing import SIZES, packed, some
 
-from packing import SIZES, packed, some
 from revosti_command.edges import edges
 from revosti_command.marks import BadMarks, byte_points, packed_points, read_marks
 
@@ -86,7 +86,3 @@ class Show(unittest.TestCase):
             self.assertEqual((run.status, run.out), (2, b""))
             self.assertIn("revosti: standard input: expected ", run.err)
             self.assertIn(words, run.err)
-
-
-if __name__ == "__main__":
-    unittest.main()

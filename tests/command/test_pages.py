@@ -4,9 +4,9 @@ import random
 import unittest
 from itertools import combinations
 
-from support import EXAMPLES, Folder, Run
-
-from packing import packed
+from tests.support import EXAMPLES
+from tests.support.command import Folder, Run
+from tests.support.packing import packed
 
 
 def lines(n, table, marks):
@@ -89,7 +89,3 @@ class Lists(Folder):
         run = Run("read-pages", wall, "--board", five)
         self.assertEqual(run.all, (2, "", f"revosti: {wall}: the list is of 4 points, and {five} has another number\n"))
         self.assertEqual(out.read_bytes(), packed([1, 0, 2, 1, 0, 1]))
-
-
-if __name__ == "__main__":
-    unittest.main()

@@ -5,10 +5,10 @@ import unittest
 from itertools import combinations
 from unittest import mock
 
-from support import NINE, SQUARE_HEAD, Folder, Run
+from tests.support.command import NINE, SQUARE_HEAD, Folder, Run
+from tests.support.packing import packed
+from tests.support.plain import Board, edge
 
-from packing import packed
-from plain import Board, edge
 from revosti import NoLibrary
 from revosti_command.nest import nest
 from revosti_command.read import pack
@@ -110,7 +110,3 @@ class Records(Folder):
                                          "  pair 1-8: split at 2\n    pair 6-9: split at 3\n")
         run = Run("pairs", "-", "--record", 5, data=sheet.encode())
         self.assertEqual((run.status, run.err), (2, "revosti: --record: marking does not get to record 5\n"))
-
-
-if __name__ == "__main__":
-    unittest.main()

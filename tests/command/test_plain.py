@@ -4,9 +4,8 @@ import random
 import unittest
 from itertools import combinations
 
-from support import SQUARE_POINTS
-
-from plain import Board, edge, fits_tour, length_of
+from tests.support.command import SQUARE_POINTS
+from tests.support.plain import Board, edge, fits_tour, length_of
 
 
 def tours_hold(k, n):
@@ -95,7 +94,3 @@ class Standing(unittest.TestCase):
     def test_whole_tours_fit_and_two_triangles_do_not(self):
         self.assertTrue(fits_tour({(1, 2), (2, 3), (3, 4), (1, 4)}, 4))
         self.assertFalse(fits_tour({(1, 2), (2, 3), (1, 3), (4, 5), (5, 6), (4, 6)}, 6))
-
-
-if __name__ == "__main__":
-    unittest.main()

@@ -3,7 +3,8 @@
 import unittest
 from fractions import Fraction
 
-from support import EXAMPLES, Folder, Run
+from tests.support import EXAMPLES
+from tests.support.command import Folder, Run
 
 import revosti
 from revosti_command.reals import read_reals, rounded
@@ -75,7 +76,3 @@ class Command(Folder):
             run = Run("board", data=text.encode())
             self.assertEqual((run.status, run.out), (2, b""), text)
             self.assertTrue(run.err.startswith(f"revosti: standard input{words}"), run.err)
-
-
-if __name__ == "__main__":
-    unittest.main()

@@ -6,7 +6,8 @@ import re
 import struct
 import unittest
 
-from support import EXAMPLES, NINE, SQUARE_HEAD, SQUARE_RECORDS, binary
+from tests.support import EXAMPLES
+from tests.support.command import NINE, SQUARE_HEAD, SQUARE_RECORDS, binary
 
 from revosti_command.parts import join, split
 from revosti_command.read import pack
@@ -200,7 +201,3 @@ class Extremes(Both):
     def test_180_and_more_points(self):
         for n in (180, 181, 300):
             self.there_and_back(binary(SQUARE_RECORDS, [(1, 2)] * n))
-
-
-if __name__ == "__main__":
-    unittest.main()

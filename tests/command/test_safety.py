@@ -7,15 +7,15 @@ import resource
 import signal
 import subprocess
 import time
-import unittest
 from itertools import combinations
 from pathlib import Path
 from unittest import mock
 
-from support import EXAMPLES, PROGRAM, Folder, Run, binary, start
+from tests.support import EXAMPLES
+from tests.support.command import PROGRAM, Folder, Run, binary, start
+from tests.support.packing import packed
 
 import revosti
-from packing import packed
 from revosti_command.archive import forget
 
 ROUNDS = 100
@@ -312,7 +312,3 @@ class Existing(Sets):
             run = Run("withdraw", "--marks", file)
             self.assertIn(f"revosti: {file}: {words}\n", run.err)
             self.assertIn(run.status, (2, 3))
-
-
-if __name__ == "__main__":
-    unittest.main()

@@ -3,7 +3,7 @@
 import unittest
 from unittest import mock
 
-from support import SQUARE_HEAD, SQUARE_RECORDS, Run, binary
+from tests.support.command import SQUARE_HEAD, SQUARE_RECORDS, Run, binary
 
 from revosti import NoLibrary
 
@@ -59,7 +59,3 @@ class BadFiles(unittest.TestCase):
         with mock.patch("revosti_command.options.measured", side_effect=NoLibrary("gcc is missing")):
             run = Run("saving", "-", "exchange", 1, 2, 3, 4, data=SQUARE_HEAD.encode())
         self.assertEqual((run.status, run.out, run.err), (3, b"", "revosti: gcc is missing\n"))
-
-
-if __name__ == "__main__":
-    unittest.main()

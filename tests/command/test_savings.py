@@ -6,7 +6,8 @@ import re
 import unittest
 from itertools import combinations, product
 
-from support import NINE, ROOT, SQUARE_POINTS, Folder, Run
+from tests.support import ROOT
+from tests.support.command import NINE, SQUARE_POINTS, Folder, Run
 
 import revosti
 from revosti_command.explain import explain
@@ -242,7 +243,3 @@ class Explain(unittest.TestCase):
                 self.assertEqual(saving is None, number != 16)
         self.assertEqual(set(seen), {0, 15, 16})
         self.assertGreater(seen[16], 20)
-
-
-if __name__ == "__main__":
-    unittest.main()

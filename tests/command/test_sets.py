@@ -1,10 +1,8 @@
 """Commands on packed sets in files: fresh, mark, ask, confirm, withdraw, and the conversions, over the library."""
 
-import unittest
 
-from support import NINE, SQUARE_RECORDS, Folder, Run, binary
-
-from packing import packed, some
+from tests.support.command import NINE, SQUARE_RECORDS, Folder, Run, binary
+from tests.support.packing import packed, some
 
 SHEET = binary(SQUARE_RECORDS)
 ORDER = "The pair is not the next standing one, or the chain ends with standing pairs left."
@@ -127,7 +125,3 @@ class Convert(Archive):
                                   ("text", packed([3] * 6), "expected 0, 1 or 2 as the mark of 1-2, found 3"),
                                   ("bytes", b"\x55\x45", "expected 0 in the unused bits of the last byte, found 100 there")):
             self.assertEqual(Run("convert", "--to", form, data=data).all, (2, "", f"revosti: standard input: {words}\n"))
-
-
-if __name__ == "__main__":
-    unittest.main()

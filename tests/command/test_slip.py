@@ -4,7 +4,8 @@ import json
 import unittest
 from unittest import mock
 
-from support import ROOT, SQUARE_HEAD, SQUARE_RECORDS, Folder, Run, binary
+from tests.support import ROOT
+from tests.support.command import SQUARE_HEAD, SQUARE_RECORDS, Folder, Run, binary
 
 from revosti import NoLibrary, meaning
 from revosti_command.slip import tell_slip
@@ -98,7 +99,3 @@ class Slip(Folder):
             run = Run("slip", "--form", "binary", data=data)
             self.assertEqual((run.status, run.text), (1, ""))
             self.assertIn(f"revosti: standard input: Refused, number {refusal}: ", run.err)
-
-
-if __name__ == "__main__":
-    unittest.main()

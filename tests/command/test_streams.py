@@ -5,11 +5,10 @@ import os
 import signal
 import subprocess
 import time
-import unittest
 
-from support import EXAMPLES, PROGRAM, SQUARE_HEAD, SQUARE_RECORDS, Folder, Run, binary, start
-
-from packing import packed
+from tests.support import EXAMPLES
+from tests.support.command import PROGRAM, SQUARE_HEAD, SQUARE_RECORDS, Folder, Run, binary, start
+from tests.support.packing import packed
 
 SQUARE, SHEET = EXAMPLES / "square.tsp", EXAMPLES / "square.txt"
 LINES = "strike 1-3, split at 2\nstrike 2-4, split at 1\n"
@@ -51,7 +50,7 @@ class Streams(Folder):
         self.assertEqual(shell("$R pack nowhere 2>&-"), (3, "", ""))
 
     def test_nobody_reads(self):
-        board = EXAMPLES.parent / "docs/board-180.sheet"
+        board = EXAMPLES / "board-180.sheet"
         run = start("pages", board)
         run.stdout.close()
         self.assertEqual((run.wait(), run.stderr.read()), (3, b""))
@@ -150,7 +149,3 @@ class Statuses(Folder):
         self.assertEqual(Run("pairs", SQUARE, 1, 1, 2, "--json").text,
                          '{"refusal": 11, "record": 0, "words": "A point is outside 1 to n, or a = b; for a saving also, both ends of '
                          'an edge taken out are the same.", "detail": "Here A and B are both 1."}\n')
-
-
-if __name__ == "__main__":
-    unittest.main()

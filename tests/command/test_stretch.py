@@ -6,9 +6,9 @@ import re
 import unittest
 from itertools import permutations
 
-from support import EXAMPLES, NINE, SQUARE_POINTS, Folder, Run, binary
+from tests.support import EXAMPLES, plain
+from tests.support.command import NINE, SQUARE_POINTS, Folder, Run, binary
 
-import plain
 from revosti import fresh_marks
 from revosti_command.fault import Sight, detail
 from revosti_command.lengths import Lengths, measured
@@ -300,7 +300,3 @@ class Commands(Folder):
     def test_help(self):
         self.assertIn("of a new order, the stretch and, thinner, its points in the new order",
                       re.sub(r"\s+", " ", Run("draw", "--help").text))
-
-
-if __name__ == "__main__":
-    unittest.main()

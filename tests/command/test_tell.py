@@ -5,11 +5,12 @@ import json
 import unittest
 from array import array
 from xml.etree import ElementTree
-
-from support import EXAMPLES, NINE, SQUARE_POINTS, Folder, Run, binary
 from test_draw import SVG, Picture
 
-from packing import packed
+from tests.support import EXAMPLES
+from tests.support.command import NINE, SQUARE_POINTS, Folder, Run, binary
+from tests.support.packing import packed
+
 from revosti import tell_line
 from revosti_command.edges import edges
 from revosti_command.lengths import Lengths, measured
@@ -307,7 +308,3 @@ class Library(unittest.TestCase):
         told = Run("tell", data=binary([(1, 1, 3, 0, 0, 2, 0, 0)])).text
         self.assertEqual("".join(f"{words}\n" for words in tell_line(4, measured(parts), packed([1] * 6), parts.records, 1)), told)
         self.assertEqual("".join(f"{reason.sentence}\n" for reason in found.reasons), told)
-
-
-if __name__ == "__main__":
-    unittest.main()

@@ -2,7 +2,8 @@
 
 import unittest
 
-from support import EXAMPLES, SQUARE_HEAD, SQUARE_POINTS, SQUARE_RECORDS, binary
+from tests.support import EXAMPLES
+from tests.support.command import SQUARE_HEAD, SQUARE_POINTS, SQUARE_RECORDS, binary
 
 from revosti_command.parts import join, split
 from revosti_command.read import pack
@@ -224,7 +225,3 @@ class Pack(unittest.TestCase):
         self.assertEqual(pack(text).lines, [9, 11])
         text = SQUARE_HEAD + "strike 1-2, split at 3\n\n  pair 1-2: order 1-3-4-2\n  pair 1-3: order from 1 to 3\n    point 2\n"
         self.assertEqual(pack(text).lines, [7, 9, 9, 9, 10, 11])
-
-
-if __name__ == "__main__":
-    unittest.main()

@@ -1,12 +1,12 @@
 """revosti tour and revosti edges."""
 
 import json
-import unittest
 
-from support import EXAMPLES, NINE, Folder, Run
+from tests.support import EXAMPLES
+from tests.support.command import NINE, Folder, Run
+from tests.support.packing import packed
+from tests.support.plain import length_of
 
-from packing import packed
-from plain import length_of
 from revosti_command.read import pack
 
 SQUARE, WEIGHTS, LINES = (EXAMPLES / name for name in ("square.tsp", "square_weights.tsp", "square.txt"))
@@ -90,7 +90,3 @@ class Edges(Squares):
         legs = sorted(tuple(sorted((a - 1, b - 1))) for a, b in zip(SHORTEST, SHORTEST[1:] + SHORTEST[:1]))
         self.assertEqual(first, "9 9")
         self.assertEqual(rows, [f"{a} {b} {length_of(1, parts.points[a], parts.points[b])}" for a, b in legs])
-
-
-if __name__ == "__main__":
-    unittest.main()

@@ -3,16 +3,16 @@
 import unittest
 from unittest import mock
 
-from support import NINE, SQUARE_HEAD, SQUARE_POINTS, SQUARE_RECORDS, TOOLS, Folder, Run, binary
+from tests.support.command import NINE, SQUARE_HEAD, SQUARE_POINTS, SQUARE_RECORDS, TOOLS, Folder, Run, binary
+from tests.support.packing import packed
+from tests.support.texts import FAULTS, NODES, SQUARES, WEIGHTS, changed, text
 
-from packing import packed
 from revosti import NoLibrary
 from revosti_command.edges import RULES
 from revosti_command.parts import Parts, join, split
 from revosti_command.read import pack, pack_beside
 from revosti_command.tsplib import BadBoard, read_board, write_board
 from revosti_command.write import unpack_beside
-from texts import FAULTS, NODES, SQUARES, WEIGHTS, changed, text
 
 EXAMPLES = TOOLS.parent / "examples"
 LINES = b"strike 1-3, split at 2\nstrike 2-4, split at 1\n"
@@ -250,7 +250,3 @@ class Written(unittest.TestCase):
         with self.assertRaises(BadBoard) as caught:
             write_board(Parts(1, 4, SQUARE_POINTS[:3], [], b""))
         self.assertEqual((caught.exception.line, caught.exception.message), (0, "the file ends inside the board"))
-
-
-if __name__ == "__main__":
-    unittest.main()

@@ -2,16 +2,15 @@
 
 import re
 import unittest
-from pathlib import Path
 
-from reading import COMMANDED, LINK, beside, blocks, defining, rows, spans, within, words
-from tree import OTHERS, Tree
+from tests.support import ROOT as TOP
+from tests.support.documents.reading import COMMANDED, LINK, anchors, beside, blocks, defining, rows, spans, within, words
+from tests.support.documents.tree import OTHERS, Tree
 
-TOP = Path(__file__).resolve().parents[2]
 TREE = Tree(TOP)
 COMMANDS = set().union(*(names for path, names in TREE.declared.items() if TOP / "tools" in path.parents))
 PROGRAM = next(program for program in COMMANDED if (TOP / program).exists())
-WHOLE = ("README.md", "docs/STATEMENTS.md", "docs/DECISIONS.md", "docs/RULES.md", "docs/FORMATS.md")
+WHOLE = ("README.md", "CONTRIBUTING.md", "docs/USE.md", "docs/STATEMENTS.md", "docs/DECISIONS.md", "docs/RULES.md", "docs/FORMATS.md")
 HISTORY = ("docs/CHANGES.md", "docs/FIGURES.md")  # of what has been, the names may be gone
 
 
@@ -48,8 +47,11 @@ class Reader:
     def read(self):
         """The faults of links, names, paths, and names beside their files."""
         for link in LINK.findall(self.text):
-            if not (self.folder / link).exists():
+            file, _, heading = link.partition("#")
+            if not (self.folder / file).exists():
                 self.fault("no path", link)
+            elif heading and heading not in anchors((self.folder / file).read_text(encoding="utf-8") if file else self.text):
+                self.fault("no heading", link)
         for heading, block in blocks(self.text):
             if heading != self.heading:
                 self.heading, self.folders = heading, []
@@ -106,8 +108,16 @@ class Documents(unittest.TestCase):
                 self.assertEqual(faults_of(document), [])
 
     def test_layers_name_every_crate(self):
-        layers = (TOP / "README.md").read_text(encoding="utf-8").partition("## The layers")[2].split("```")[1]
-        self.assertEqual([crate.name for crate in TREE.crates if not re.search(rf"\b{crate.name}\b", layers)], [])
+        layers = (TOP / "README.md").read_text(encoding="utf-8").partition("## The layers")[2].partition("\n## ")[0]
+        self.assertEqual([crate.name for crate in TREE.crates if f"`{crate.name}`" not in layers], [])
+
+    def test_second_program_names_its_modules(self):
+        source, text = TOP / "second/src", (TOP / "second/README.md").read_text(encoding="utf-8")
+        rows = {row.split("`")[1].removesuffix("*.rs"): row for row in text.split("\n") if row.startswith("| `src/")}
+        for folder in (source, source / "bin", *(path for path in (source / "kit").iterdir() if path.is_dir())):
+            row = rows[f"{folder.relative_to(source.parent)}/"]
+            modules = {file.stem for file in folder.glob("*.rs")} | {file.parent.name for file in folder.glob("*/mod.rs")}
+            self.assertEqual([name for name in modules - {"lib", "mod", "kit"} if f"`{name}`" not in row], [], folder)
 
     def test_paths_of_history(self):
         for document in HISTORY:
@@ -123,7 +133,8 @@ class Told(unittest.TestCase):
                      "`mark_of`", "`marking`", "`says_18_unseen`", "`marking/says_18_unseen`", "`lengths/specs/Edge.antt`",
                      "`specs/asks/`", "`bin/mark`", "`target/made.a`", f"`{PROGRAM} mark FILE --high BOARD`", "`marksOf n set`",
                      "`mark_sheet(n, table, marks, sheet)`", "`1 1 3 0 0 2 0 2`", "`points 4 edges 6`", "```\n`no-such`\n```",
-                     "`place` (`lengths/specs/Edge.antt`)", "`lengths/specs/Edge.antt`: `tri`, `place`"):
+                     "`place` (`lengths/specs/Edge.antt`)", "`lengths/specs/Edge.antt`: `tri`, `place`",
+                     "[terms](docs/RULES.md#terms)", "# A part\n[it](#a-part)"):
             with self.subTest(text):
                 self.assertEqual(faults(text), [])
 
@@ -134,7 +145,8 @@ class Told(unittest.TestCase):
                             (f"`{PROGRAM} mark --middle A`", "no option --middle"), ("`mark_sheets(n)`", "no name mark_sheets"),
                             ("`packedOf n set`", "no name packedOf"), ("`lengths/specs/Edges.antt`", "no path lengths/specs/Edges.antt"),
                             ("`rules/says_18_unseen`", "no path rules/says_18_unseen"), ("`Edge.antt`", "no path Edge.antt"),
-                            ("`bin/mark examples/none.bin`", "no path examples/none.bin"), ("[rules](RULES.md)", "no path RULES.md")):
+                            ("`bin/mark examples/none.bin`", "no path examples/none.bin"), ("[rules](RULES.md)", "no path RULES.md"),
+                            ("[terms](docs/RULES.md#term)", "no heading docs/RULES.md#term")):
             with self.subTest(text):
                 self.assertEqual(faults(text), [fault])
 
@@ -154,7 +166,3 @@ class Told(unittest.TestCase):
     def test_a_bare_file_is_of_a_folder_before(self):
         self.assertEqual(faults("# A\n`lengths/specs/Edge.antt`, then `Table.antt`"), [])
         self.assertEqual(faults("# A\n`lengths/specs/Edge.antt`\n# B\n`Table.antt`"), ["no path Table.antt"])
-
-
-if __name__ == "__main__":
-    unittest.main()

@@ -1,9 +1,8 @@
 """The must-fail edits: each of their texts stands in its file exactly once, as `rt must-fail` asks, which tells it late."""
 
 import unittest
-from pathlib import Path
 
-ROOT = Path(__file__).resolve().parents[2]
+from tests.support import ROOT
 
 
 def faults_of(edit):
@@ -29,7 +28,3 @@ class Edits(unittest.TestCase):
         for edit in edits:
             with self.subTest(edit.relative_to(ROOT)):
                 self.assertEqual(faults_of(edit), [])
-
-
-if __name__ == "__main__":
-    unittest.main()

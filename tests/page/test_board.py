@@ -1,10 +1,8 @@
 """Boards on the page: from texts of every kind, bad ones, and the picture."""
 
-import unittest
 
-from acting import DOCS, EXAMPLES, Acting
-
-import texts
+from tests.support import EXAMPLES, texts
+from tests.support.page.acting import Acting
 
 SPOTS = ("return [...document.querySelectorAll('#picture .holes circle')].map(c => ['cx', 'cy'].map(name => Number(c.getAttribute(name))))")
 WEIGHTS = "10 14 10\n10 14\n10\n"
@@ -185,12 +183,8 @@ class Picture(Acting):
         self.assertLessEqual(self.browser.run("return document.documentElement.scrollWidth"), 390)
 
     def test_4_and_180_holes_lie_inside(self):
-        for file, n in ((EXAMPLES / "square.tsp", 4), (DOCS / "board-180.sheet", 180)):
+        for file, n in ((EXAMPLES / "square.tsp", 4), (EXAMPLES / "board-180.sheet", 180)):
             self.open("#open-any", file)
             self.until(f"document.querySelectorAll('#picture .holes circle').length === {n}")
             wide, high = self.browser.run("const f = document.querySelector('#picture'); return [f.clientWidth, f.clientHeight]")
             self.assertTrue(all(10 < x < wide - 10 and 10 < y < high - 10 for x, y in self.spots()))
-
-
-if __name__ == "__main__":
-    unittest.main()

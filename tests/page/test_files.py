@@ -1,8 +1,8 @@
 """Files on the page: sheets of both forms, sets with their fingerprints, wall lists, tours; bad ones, and nothing lost by mistake."""
 
-import unittest
 
-from acting import DOCS, EXAMPLES, SIX, Acting
+from tests.support import EXAMPLES
+from tests.support.page.acting import SIX, Acting
 
 from revosti import fresh_marks
 from revosti_command.parts import join
@@ -151,12 +151,8 @@ class Sets(Acting):
         self.assertEqual(self.counts(), [14, 1, 0])
 
     def test_the_pages_of_180_holes(self):
-        self.open("#open-any", DOCS / "board-180.sheet")
+        self.open("#open-any", EXAMPLES / "board-180.sheet")
         self.browser.click("#tab-wall")
         self.assertEqual(self.text("#page-count"), "of 269")
         self.browser.click("#page-after")
         self.assertTrue(self.text("#wall").strip().startswith("1  62"))
-
-
-if __name__ == "__main__":
-    unittest.main()

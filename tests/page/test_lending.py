@@ -1,8 +1,7 @@
 """page/lending.js and page/revosti.js where a call cannot be made, or goes wrong."""
 
-import unittest
 
-from support import PageTest
+from tests.support.page.opened import PageTest
 
 SQUARE = """
     const revosti = await import("revosti/revosti");
@@ -81,7 +80,3 @@ class Lending(PageTest):
     def test_a_trap(self):
         found = self.run_it(FAULTY.replace("FAULT", "throw new WebAssembly.RuntimeError('unreachable')") + AFTER)
         self.assertEqual(found, ["RuntimeError: unreachable", 1, MARKED])
-
-
-if __name__ == "__main__":
-    unittest.main()

@@ -4,9 +4,9 @@ import subprocess
 import unittest
 from itertools import combinations
 
-from support import ROOT, WASM, PageTest, page
-
-from header import BUFFER, constants, functions, in_script, inline
+from tests.support import ROOT
+from tests.support.page.header import BUFFER, constants, functions, in_script, inline
+from tests.support.page.opened import WASM, PageTest, page
 
 TYPES = {16: "i32", 32: "i32", 64: "i64"}
 VALUES = {0x7f: "i32", 0x7e: "i64"}
@@ -146,7 +146,3 @@ class Script(PageTest):
             self.assertEqual((edges, pages, size), (n * (n - 1) // 2, len(range(0, edges, 60)), len(range(0, edges, 4))))
             self.assertEqual(told, 128 * len(list(combinations(range(n - 1), 2))))
             self.assertEqual(seen, [[place, place, place // 4 >> 2 * (place % 4) & 3] for place in range(edges)])
-
-
-if __name__ == "__main__":
-    unittest.main()

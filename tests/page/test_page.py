@@ -7,7 +7,8 @@ from importlib.machinery import SourceFileLoader
 from importlib.util import module_from_spec, spec_from_loader
 from urllib.parse import unquote
 
-from support import ROOT, PageTest
+from tests.support import ROOT
+from tests.support.page.opened import PageTest
 
 HEAD = """<meta http-equiv="Content-Security-Policy" content="default-src 'none'; script-src data:">"""
 ONE = {"revosti/one": "export const one = 1;\n"}
@@ -108,7 +109,3 @@ class Policy(PageTest):
         kit = subprocess.run([shutil.which("rt") or "/opt/rattle/bin/rt", "version"], capture_output=True, text=True, check=True).stdout
         for part in (TOOL.commit(), kit.strip(), "logic=proved functions="):
             self.assertIn(part, text)
-
-
-if __name__ == "__main__":
-    unittest.main()

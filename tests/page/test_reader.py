@@ -1,10 +1,8 @@
 """The page's reader of the text form against the command's: the same records, or the same fault at the same place."""
 
-import unittest
 
-from acting import Shared
-
-from sheet_texts import some
+from tests.support.page.acting import Shared
+from tests.support.page.sheet_texts import some
 
 from revosti_command.parts import Beside
 from revosti_command.read import pack, pack_beside
@@ -49,7 +47,3 @@ class Reader(Shared):
         good = sum(isinstance(one, list) for one in expected)
         self.assertLess(LEAST, good)
         self.assertLess(LEAST, COUNT - good)
-
-
-if __name__ == "__main__":
-    unittest.main()

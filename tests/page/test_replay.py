@@ -1,20 +1,19 @@
 """The page's module against the library: random calls of every function, made natively and replayed in the page.
 
-    REVOSTI_CALLS=200000 REVOSTI_SEED=7 python3 tests/page/test_replay.py
+    REVOSTI_CALLS=200000 REVOSTI_SEED=7 python3 -m unittest tests/page/test_replay.py
 """
 
 import os
 import tempfile
-import unittest
 from pathlib import Path
 
-from support import PageTest
-
-from calls import Calls
+from tests.support import ROOT
+from tests.support.page.calls import Calls
+from tests.support.page.opened import PageTest
 
 CALLS, SEED = (int(os.environ.get(name, usual)) for name, usual in (("REVOSTI_CALLS", 20000), ("REVOSTI_SEED", 1)))
 LEAST = 3  # how often each refusal is met
-SCRIPT = (Path(__file__).parent / "replay.js").read_text(encoding="utf-8")
+SCRIPT = (ROOT / "tests/support/page/replay.js").read_text(encoding="utf-8")
 
 TESTS = {1, 2, 5, 6, 20, 7}  # of a sheet, before its lines
 LINES = {8, 9, 10, 11, 12, 13, 14, 15, 16, 23, 24}
@@ -60,7 +59,3 @@ class Replay(PageTest):
         self.assertEqual(sorted(replayed["counts"]), sorted(self.recording.names))
         self.assertLessEqual(CALLS, min(replayed["counts"].values()))
         self.assertEqual(replayed["counts"], {name: sum(met.values()) for name, met in self.recording.met.items()})
-
-
-if __name__ == "__main__":
-    unittest.main()

@@ -1,8 +1,8 @@
 """The sheet on the page: its text, its verdict, the record at the caret, marks that are pending, struck and fresh."""
 
-import unittest
 
-from acting import DOCS, EXAMPLES, SIX, Acting
+from tests.support import EXAMPLES
+from tests.support.page.acting import SIX, Acting
 
 from revosti import fresh_marks, measure, tell_line
 
@@ -149,7 +149,7 @@ class Caret(Acting):
         self.assertEqual(self.drawn("lit"), [])
 
     def test_many_pairs_come_some_at_a_time(self):
-        self.open("#open-any", DOCS / "board-180.sheet")
+        self.open("#open-any", EXAMPLES / "board-180.sheet")
         self.write("strike 1-100, split at 90\n")
         self.caret(1)
         pairs = int(self.text("#case").partition(" pairs stand")[0].rpartition("\n")[2].replace(",", ""))
@@ -203,7 +203,7 @@ class Large(Acting):
     """180 holes, 4,000 records."""
 
     def test_a_full_sheet(self):
-        self.open("#open-any", DOCS / "board-180.sheet")
+        self.open("#open-any", EXAMPLES / "board-180.sheet")
         self.assertEqual(self.counts(), [16110, 0, 0])
         self.assertEqual(self.browser.run("return document.querySelector('#editor textarea').value.split('\\n').length"), 4001)
         self.browser.click("#ask")
@@ -214,7 +214,7 @@ class Large(Acting):
         self.assertLess(self.ink(), before)
         self.browser.click("#confirm")
         self.assertEqual(self.counts(), [14829, 0, 1281])
-        self.open("#open-any", DOCS / "board-180.tour")
+        self.open("#open-any", EXAMPLES / "board-180.tour")
         self.until("document.querySelector('#tour-words').innerText")
         self.assertIn("All its edges are open.", self.text("#tour-words"))
         self.assertEqual(len(self.drawn("tour")), 180)
@@ -226,7 +226,3 @@ class Large(Acting):
                          "strike 1-2, split at 3\n")
         self.browser.click("#check")
         self.assertIn("The sheet has 4,001 records.", self.text("#verdict"))
-
-
-if __name__ == "__main__":
-    unittest.main()

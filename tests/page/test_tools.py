@@ -1,9 +1,9 @@
 """Tour, savings and slip on the page, eight desks, the foot, and no more than one file."""
 
 import re
-import unittest
 
-from acting import DOCS, EXAMPLES, Acting
+from tests.support import EXAMPLES
+from tests.support.page.acting import Acting
 
 REFUSED_14 = "refused by 14, record 2, 1 line accepted. The pair is not the next standing one, or the chain ends with standing pairs left."
 
@@ -136,7 +136,7 @@ class Desks(Acting):
         self.open("#open-any", EXAMPLES / "square_weights.tsp")
         self.until("document.querySelector('#board-words').innerText.includes('by weights')")
         self.assertIn("served next", self.text("#desk-8"))
-        self.open("#open-any", DOCS / "board-180.sheet")
+        self.open("#open-any", EXAMPLES / "board-180.sheet")
         self.answer("no")
         self.assertIn("4 holes", self.text("#board-words"))
         self.browser.click("#open-desks")
@@ -188,7 +188,3 @@ def contrast(one, other):
         return 0.2126 * linear[0] + 0.7152 * linear[1] + 0.0722 * linear[2]
     high, low = sorted((light(one), light(other)), reverse=True)
     return (high + 0.05) / (low + 0.05)
-
-
-if __name__ == "__main__":
-    unittest.main()

@@ -3,14 +3,10 @@ finds the same cases and writes the same texts."""
 
 import random
 import struct
-import unittest
 
-from support import ROOT
-
-from acting import Shared
-
-import texts
-from packing import packed
+from tests.support import ROOT, texts
+from tests.support.packing import packed
+from tests.support.page.acting import Shared
 
 from revosti import OPEN, PENDING, STRUCK, Refusal, check_tour, fresh_marks, marks_size, measure, place, read_tsplib, release
 from revosti_command.case import case_of
@@ -286,7 +282,3 @@ class Others(Page):
             return list(marks) if n == BOARD.n else n
         except BadPages as error:
             return str(error).partition("; with --points")[0]
-
-
-if __name__ == "__main__":
-    unittest.main()

@@ -8,13 +8,14 @@ from array import array
 from collections import Counter
 from itertools import combinations, pairwise, permutations
 
-from support import LINES, N, ROOT, TABLE
+from tests.support import ROOT
+from tests.support.packing import packed
+from tests.support.plain import Board, edge
+from tests.support.square import LINES, N, TABLE
 
 import revosti
-from packing import packed
 from revosti.library import library
 from revosti.operations import HALF, WORD, lend, records
-from plain import Board, edge
 from revosti_command.read import pack
 
 # The square's limits where its side is 10 to 13, and 10 to 14: diagonals are 14 to 18, and 14 to 20.
@@ -343,7 +344,3 @@ class Tours(unittest.TestCase):
             counts.update(strikes=len(struck), cases=deep, fewer=len(struck) < len(alone), spoilt=bool(found & alone))
         # what the low table alone strikes would spoil some of these boards
         self.assertTrue(counts["strikes"] > 40 and counts["cases"] > 5 and counts["fewer"] > 10 and counts["spoilt"] > 5, counts)
-
-
-if __name__ == "__main__":
-    unittest.main()

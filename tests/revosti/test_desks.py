@@ -4,10 +4,11 @@ served within eight, the state's numbers, and states of any bytes."""
 import random
 import unittest
 
-from support import LINES, N, ROOT, TABLE
+from tests.support import ROOT
+from tests.support.packing import packed
+from tests.support.square import LINES, N, TABLE
 
 import revosti
-from packing import packed
 from revosti import DESKS, DESKS_BYTES, Desk, Turn
 
 RULES = (ROOT / "docs/RULES.md").read_text(encoding="utf-8")
@@ -174,7 +175,3 @@ class Halls(unittest.TestCase):
                 served.add(found and found.desk)
             self.assertEqual([revosti.mark_of(N, marks, *side) for side in ((1, 2), (2, 3), (3, 4), (1, 4))], [revosti.OPEN] * 4)
         self.assertEqual(served, {None, *range(1, DESKS + 1)})
-
-
-if __name__ == "__main__":
-    unittest.main()

@@ -1,11 +1,11 @@
-"""examples/open_edges.py runs from any folder and prints the four sides of the square, and README shows it."""
+"""examples/open_edges.py runs from any folder and prints the four sides of the square, and docs/USE.md shows it."""
 
 import subprocess
 import sys
 import tempfile
 import unittest
 
-from support import ROOT
+from tests.support import ROOT
 
 OPEN = "1-2 is open, length 10\n1-4 is open, length 10\n2-3 is open, length 10\n3-4 is open, length 10\n"
 
@@ -17,10 +17,6 @@ class Example(unittest.TestCase):
                                  check=False)
         self.assertEqual((run.returncode, run.stderr, run.stdout), (0, "", OPEN))
 
-    def test_readme_has_it(self):
+    def test_the_document_has_it(self):
         program = (ROOT / "examples/open_edges.py").read_text(encoding="utf-8")
-        self.assertIn(program, (ROOT / "README.md").read_text(encoding="utf-8"))
-
-
-if __name__ == "__main__":
-    unittest.main()
+        self.assertIn(program, (ROOT / "docs/USE.md").read_text(encoding="utf-8"))

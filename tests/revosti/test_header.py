@@ -10,9 +10,9 @@ import unittest
 from itertools import combinations
 from pathlib import Path
 
-from support import ROOT
+from tests.support.packing import SIZES, packed, some
+from tests.support import ROOT
 
-from packing import SIZES, packed, some
 from revosti.refusal import REFUSALS
 from revosti_command import parts
 
@@ -166,7 +166,3 @@ class C99(Inline, Compiled):
 @unittest.skipUnless(shutil.which("g++"), "there is no g++")
 class Cpp(Inline, Compiled):
     COMPILER = ("g++", "-std=c++11", "-x", "c++")
-
-
-if __name__ == "__main__":
-    unittest.main()

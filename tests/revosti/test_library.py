@@ -15,7 +15,7 @@ import unittest
 from pathlib import Path
 from unittest import mock
 
-from support import ROOT
+from tests.support import ROOT
 
 import revosti
 from revosti import library, slips
@@ -181,7 +181,3 @@ class Header(unittest.TestCase):
         self.assertEqual(re.findall(r'^#define REVOSTI_VERSION "(.*)"$', self.TEXT, re.M), [revosti.__version__])
         parts = [re.search(rf"^#define REVOSTI_VERSION_{name} (\d+)$", self.TEXT, re.M)[1] for name in ("MAJOR", "MINOR", "PATCH")]
         self.assertEqual(".".join(parts), revosti.__version__)
-
-
-if __name__ == "__main__":
-    unittest.main()

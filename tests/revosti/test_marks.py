@@ -3,10 +3,10 @@
 import unittest
 from itertools import combinations
 
-from support import LINES, N, TABLE
+from tests.support.packing import SIZES, packed, some, unpacked
+from tests.support.square import LINES, N, TABLE
 
 import revosti
-from packing import SIZES, packed, some, unpacked
 from revosti.library import library
 from revosti.operations import lend
 
@@ -157,7 +157,3 @@ class MarkOf(unittest.TestCase):
             every = list(combinations(range(1, n + 1), 2))
             self.assertEqual([revosti.mark_of(n, data, a, b) for a, b in every], marks)
             self.assertEqual([revosti.mark_of(n, bytes(data), b, a) for a, b in every], marks)
-
-
-if __name__ == "__main__":
-    unittest.main()

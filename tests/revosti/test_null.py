@@ -5,7 +5,7 @@ import unittest
 from array import array
 from itertools import product
 
-from support import N, TABLE
+from tests.support.square import N, TABLE
 
 import revosti
 from revosti.library import ARGUMENTS, BUFFER, SAVINGS, library
@@ -41,7 +41,3 @@ class Null(unittest.TestCase):
         table, marks = array(WORD, TABLE), revosti.fresh_marks(N)
         for (a, b, c), answer in (((1, 3, 2), 0), ((1, 2, 3), 18)):
             self.assertEqual(library().revosti_list_pairs(N, *lend(table), *lend(marks), a, b, c, None, 0), answer)
-
-
-if __name__ == "__main__":
-    unittest.main()

@@ -6,7 +6,8 @@ import unittest
 from array import array
 from itertools import combinations
 
-from support import LINES, N, POINTS, ROOT, TABLE
+from tests.support import ROOT
+from tests.support.square import LINES, N, POINTS, TABLE
 
 import revosti
 from revosti import operations
@@ -146,7 +147,3 @@ class Types(unittest.TestCase):
 
     def test_loaded_once(self):
         self.assertIs(library(), library())
-
-
-if __name__ == "__main__":
-    unittest.main()

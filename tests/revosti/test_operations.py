@@ -6,11 +6,12 @@ import random
 import unittest
 from itertools import combinations
 
-from support import LINES, N, POINTS, ROOT, TABLE
+from tests.support import ROOT
+from tests.support.packing import packed, unpacked
+from tests.support.plain import Board, length_of
+from tests.support.square import LINES, N, POINTS, TABLE
 
 import revosti
-from packing import packed, unpacked
-from plain import Board, length_of
 from revosti_command.marks import marked, read_marks
 from revosti_command.parts import Record, split
 from revosti_command.read import pack
@@ -171,8 +172,8 @@ class MarkSheet(Operations):
         self.assertEqual(count(n, marks, revosti.STRUCK), 27)
 
     def test_180_points(self):
-        parts = split((ROOT / "docs/board-180.sheet").read_bytes())
-        tour = list(map(int, (ROOT / "docs/board-180.tour").read_text().split(",")))
+        parts = split((ROOT / "examples/board-180.sheet").read_bytes())
+        tour = list(map(int, (ROOT / "examples/board-180.tour").read_text().split(",")))
         table, marks = revosti.measure(parts.n, parts.rule, parts.points), revosti.fresh_marks(parts.n)
         lines = revosti.mark_sheet(parts.n, table, marks, parts.records)
         self.assertEqual((lines, count(parts.n, marks, revosti.STRUCK)), (1281, 1281))
@@ -408,7 +409,3 @@ class Place(unittest.TestCase):
             edges = list(combinations(range(1, n + 1), 2))
             self.assertEqual([revosti.place(n, a, b) for a, b in edges], list(range(len(edges))))
             self.assertEqual([revosti.place(n, b, a) for a, b in edges], list(range(len(edges))))
-
-
-if __name__ == "__main__":
-    unittest.main()

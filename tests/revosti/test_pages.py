@@ -6,10 +6,10 @@ import unittest
 from array import array
 from itertools import combinations
 
-from support import N, TABLE
+from tests.support.packing import packed, some
+from tests.support.square import N, TABLE
 
 import revosti
-from packing import packed, some
 from revosti.library import library
 from revosti.operations import lend
 
@@ -148,7 +148,3 @@ def line_of(text, line, n, page):
     if not digits.isdigit() or int(digits) > 2_000_000:
         return None
     return f"{a:>3} {b:>3} {int(digits):>7} ".encode() + found[16:]
-
-
-if __name__ == "__main__":
-    unittest.main()

@@ -5,12 +5,12 @@ import unittest
 from array import array
 from itertools import combinations, product
 
-from support import N, TABLE
+from tests.support.plain import Board, degree, edge, ends, fits_tour
+from tests.support.square import N, TABLE
 
 import revosti
 from revosti.library import library
 from revosti.operations import lend
-from plain import Board, degree, edge, ends, fits_tour
 
 MOST = 2_000_000
 P, Q, R, S, X, Y, Z, W = range(1, 9)
@@ -226,7 +226,3 @@ class Refusals(unittest.TestCase):
             for points in product(range(0, N + 2), repeat=count):
                 wanted = "refused 11" if no_edge(N, points, out) else plain(l, *points)
                 self.assertEqual(answered(call, N, TABLE, *points), wanted, points)
-
-
-if __name__ == "__main__":
-    unittest.main()

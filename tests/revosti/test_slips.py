@@ -4,10 +4,11 @@ import random
 import unittest
 from struct import pack
 
-from support import LINES, N, ROOT, TABLE
+from tests.support import ROOT
+from tests.support.packing import packed
+from tests.support.square import LINES, N, TABLE
 
 import revosti
-from packing import packed
 from revosti.library import library
 from revosti.operations import lend
 
@@ -121,7 +122,3 @@ class Views(unittest.TestCase):
         for call in (revosti.release, revosti.examiner_view, revosti.candidate_view):
             for slip in (-1, 2**64):
                 self.assertRaises(OverflowError, call, slip)
-
-
-if __name__ == "__main__":
-    unittest.main()

@@ -5,11 +5,11 @@ import random
 import unittest
 from itertools import permutations
 
-from support import ROOT
+from tests.support.packing import unpacked
+from tests.support.plain import Board, edge, stretch
+from tests.support import ROOT
 
 import revosti
-from packing import unpacked
-from plain import Board, edge, stretch
 from revosti_command.parts import split
 
 N, STRETCH, POINT = 6, 4, 5
@@ -177,7 +177,3 @@ class Boards(unittest.TestCase):
         found = [revosti.check_tour(6, table, marks, tour) for tour in tours]
         least = min(tour.length for tour in found)
         self.assertTrue(all(tour.open for tour in found if tour.length == least), board.points)
-
-
-if __name__ == "__main__":
-    unittest.main()

@@ -5,15 +5,16 @@ import random
 import unittest
 from array import array
 from itertools import combinations
-
-from support import LINES, N, ROOT, TABLE
 from test_stretches import DAMAGED, damaged
 from test_stretches import N as SIX
 from test_stretches import TABLE as SIX_TABLE
 
+from tests.support import ROOT
+from tests.support.packing import packed
+from tests.support.plain import Board, degree, edge, ends
+from tests.support.square import LINES, N, TABLE
+
 import revosti
-from packing import packed
-from plain import Board, degree, edge, ends
 from revosti.library import library
 from revosti.operations import lend
 from revosti_command.parts import split
@@ -21,7 +22,7 @@ from revosti_command.parts import split
 SQUARE = ["Loop 1-2-3 shuts out 1 and 3 as neighbours of 2.",
           "Exchanging 2-4 and 1-3 saves 8 and shuts out 1 and 4 as neighbours of 2.",
           "Exchanging 2-4 and 1-3 saves 8 and shuts out 3 and 4 as neighbours of 2."]
-LARGE = split((ROOT / "docs/board-180.sheet").read_bytes())
+LARGE = split((ROOT / "examples/board-180.sheet").read_bytes())
 KINDS = {"Struck", "Third", "Loop", "Exchanging", "Moving", "Further"}  # what a line's text can have
 
 
@@ -225,7 +226,3 @@ def shifted(record, by):
     kind, a, b, u, v, c, d, index = record
     first = d + by if d and kind in (1, 2, 4) else d
     return [kind, a, b, u, v, c, first, index + by if index else 0]
-
-
-if __name__ == "__main__":
-    unittest.main()

@@ -4,7 +4,9 @@ import random
 import unittest
 from array import array
 
-from support import N, POINTS, ROOT, TABLE
+from tests.support import ROOT
+from tests.support.square import N, POINTS, TABLE
+from tests.support.texts import FAULTS, NODES, SQUARES, WEIGHTS, put, text
 
 import revosti
 from revosti.library import library
@@ -12,7 +14,6 @@ from revosti.operations import copy, lend
 from revosti_command.edges import RULES
 from revosti_command.parts import Parts
 from revosti_command.tsplib import BadBoard, read_board, write_board
-from texts import FAULTS, NODES, SQUARES, WEIGHTS, put, text
 
 MOST = 2**32 - 1
 
@@ -206,7 +207,3 @@ class Examples(unittest.TestCase):
         for name in ("square.tsp", "square_weights.tsp"):
             self.assertEqual(revosti.read_tsplib((ROOT / "examples" / name).read_bytes()), (N, TABLE))
         self.assertEqual(read_board((ROOT / "examples/square.tsp").read_bytes()), (1, N, POINTS, [], b""))
-
-
-if __name__ == "__main__":
-    unittest.main()

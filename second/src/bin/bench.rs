@@ -7,12 +7,12 @@ use std::hint::black_box;
 use std::process::exit;
 use std::time::Instant;
 
-use second::kit::checker::{Checker, Second};
-use second::kit::workloads::{counted, named, names, Call, Workload};
+use second::kit::generate::workloads::{counted, named, names, Call, Workload};
+use second::kit::programs::checker::{Checker, Second};
 
 #[cfg(feature = "revosti")]
 fn sides() -> Vec<Box<dyn Checker>> {
-    vec![Box::new(Second), Box::new(second::kit::revosti::Revosti { mark: "".into() })]
+    vec![Box::new(Second), Box::new(second::kit::programs::revosti::Revosti { mark: "".into() })]
 }
 
 #[cfg(not(feature = "revosti"))]

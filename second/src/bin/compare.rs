@@ -8,10 +8,10 @@ use std::path::PathBuf;
 use std::process::exit;
 use std::time::Instant;
 
-use second::kit::checker::{Checker, Second};
 use second::kit::compare::Comparison;
-use second::kit::guarded::Guarded;
-use second::kit::naive::Naive;
+use second::kit::programs::checker::{Checker, Second};
+use second::kit::programs::guarded::Guarded;
+use second::kit::programs::naive::Naive;
 
 /// What is compared, and how much of it.
 #[derive(Clone, Copy)]
@@ -55,7 +55,7 @@ fn options() -> Options {
 
 #[cfg(feature = "revosti")]
 fn other() -> impl Checker {
-    second::kit::revosti::Revosti::from_environment()
+    second::kit::programs::revosti::Revosti::from_environment()
 }
 
 #[cfg(not(feature = "revosti"))]

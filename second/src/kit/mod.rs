@@ -1,50 +1,9 @@
-//! The comparison kit: generator, naive checker, brute force, comparison, benchmark inputs.
+//! The comparison kit: what is generated and damaged, the programs, the oracles, what was met, and the comparison.
 
-pub mod between_calls;
-pub mod boards;
-pub mod brute;
-pub mod checker;
 pub mod compare;
-pub mod completions;
-pub mod coverage;
-pub mod desks_met;
-pub mod drafts;
-pub mod due_reasons;
-pub mod entered;
-pub mod guarded;
-pub mod halls;
-pub mod kept;
-pub mod limit_faults;
-pub mod limits;
-pub mod limits_met;
-pub mod made_paths;
-pub mod moved;
-pub mod moves_met;
-pub mod naive;
-pub mod orders;
-pub mod pages_met;
-pub mod reasons_met;
-#[cfg(feature = "revosti")]
-pub mod revosti;
-pub mod rng;
-pub mod rules_met;
-pub mod savings;
-pub mod savings_met;
-pub mod search;
-pub mod segment_faults;
-pub mod segment_sheets;
-pub mod segments_met;
-pub mod set_faults;
-pub mod sets;
-pub mod sets_met;
-pub mod sheets;
-pub mod six_points;
-pub mod slips;
-pub mod slips_met;
-pub mod spoil;
-pub mod tellings;
-pub mod text_faults;
-pub mod texts;
-pub mod texts_met;
-pub mod three_opt;
-pub mod workloads;
+pub mod damage;
+pub mod generate;
+mod listed;
+pub mod met;
+pub mod oracle;
+pub mod programs;

@@ -1,14 +1,14 @@
-//! Calls of marking and listing over two tables (02, Paper 11), in both programs or three: as over one where the tables are
-//! equal, and with every fault, alone or beside another.
+//! Calls of marking and listing over two tables (02, Paper 11), in both programs or three: as over one where the tables
+//! are equal, and with every fault, alone or beside another.
 
 use super::{hex, Checked, Comparison, Difference, Hex};
-use crate::kit::between_calls::{good_listing, Between, BetweenCall};
-use crate::kit::drafts::sheet_bytes;
-use crate::kit::limit_faults::LimitFault;
-use crate::kit::limits::Limited;
-use crate::kit::limits_met::LimitEvent;
-use crate::kit::rng::Rng;
-use crate::kit::sets;
+use crate::kit::damage::limits::LimitFault;
+use crate::kit::generate::between::{good_listing, Between, BetweenCall};
+use crate::kit::generate::drafts::sheet_bytes;
+use crate::kit::generate::limits::Limited;
+use crate::kit::generate::rng::Rng;
+use crate::kit::generate::sets;
+use crate::kit::met::limits::LimitEvent;
 use crate::sheet::Sheet;
 
 /// Calls with one fault of each operation, and calls with two.
@@ -38,8 +38,8 @@ fn refusal(between: Between, answer: u64) -> u64 {
 }
 
 impl Comparison<'_> {
-    /// A call in both programs, on a small board in three; over equal tables also as a call over one. Marking makes a slip. Answers
-    /// the number for C.
+    /// A call in both programs, on a small board in three; over equal tables also as a call over one. Marking makes a
+    /// slip. Answers the number for C.
     pub fn between(&mut self, call: &mut BetweenCall) -> Result<u64, Difference> {
         let (before, operation) = (call.clone(), call.between.operation());
         let answer = call.run(self.one);

@@ -1,17 +1,19 @@
 //! Halls of eight desks (02, Paper 14): sheets handed in, turns, and folders changed between turns. Three programs are
-//! compared call by call, in every byte of state and marks, and each call is held against the laws of the page and against
-//! queues that live through the hall.
+//! compared call by call, in every byte of state and marks, and each call is held against the laws of the page and
+//! against queues that live through the hall.
 
 use super::turns::verdict;
 use super::{hex, hex_call, Checked, Comparison, Difference};
 use crate::bytes::{entries, numbers, read_desks, write_desk, DESKS_BYTES};
 use crate::desks::{Desks, Lent};
-use crate::kit::checker::Checker;
-use crate::kit::coverage::Operation;
-use crate::kit::desks_met::Met;
-use crate::kit::halls::{damaged_state, desk_numbers, desks, line_left, short_size, Change, Folder, Hall, NO_DESKS};
-use crate::kit::rng::Rng;
-use crate::kit::sets::{self, old_bytes};
+use crate::kit::generate::halls::{
+    damaged_state, desk_numbers, desks, line_left, short_size, Change, Folder, Hall, NO_DESKS,
+};
+use crate::kit::generate::rng::Rng;
+use crate::kit::generate::sets::{self, old_bytes};
+use crate::kit::met::coverage::Operation;
+use crate::kit::met::desks::Met;
+use crate::kit::programs::checker::Checker;
 
 /// Halls in a case, and calls in a hall before it is served to its end.
 const HALLS: u64 = 4;
@@ -254,7 +256,8 @@ impl Comparison<'_> {
         }
     }
 
-    /// Hands a sheet in, now and then a faulty one: 28, 29, or what its tests answer. It changes the desk's numbers alone.
+    /// Hands a sheet in, now and then a faulty one: 28, 29, or what its tests answer. It changes the desk's numbers
+    /// alone.
     fn hand_in(&mut self, rng: &mut Rng, hall: &mut Watched, desk: u32) -> Checked {
         let at = desks().find(|&other| other as u32 == desk);
         let mut folder = hall.next_folder(rng, at);

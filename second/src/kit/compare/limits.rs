@@ -1,25 +1,25 @@
-//! Marking and listing over two tables (02, Paper 11): runs from fresh marks, lists and crossings, held against tables between
-//! the two.
+//! Marking and listing over two tables (02, Paper 11): runs from fresh marks, lists and crossings, held against tables
+//! between the two.
 
 use super::between::hex_between;
 use super::savings::CrossingSheet;
 use super::{damaged_or_noise, Checked, Comparison, Difference};
 use crate::bytes::numbers;
 use crate::intervals::Intervals;
-use crate::kit::between_calls::BetweenCall;
-use crate::kit::boards::{self, Board};
-use crate::kit::checker::Checker;
-use crate::kit::coverage::Coverage;
-use crate::kit::drafts::sheet_bytes;
-use crate::kit::entered::Entered;
-use crate::kit::kept::{has_reordering, Kept, RunMarks};
-use crate::kit::limits::{Limited, Width};
-use crate::kit::limits_met::LimitEvent;
-use crate::kit::rng::Rng;
-use crate::kit::segments_met::SegmentEvent;
-use crate::kit::sets::{self, old_bytes};
-use crate::kit::sheets::{self, Plan};
-use crate::kit::spoil;
+use crate::kit::damage::spoil;
+use crate::kit::generate::between::BetweenCall;
+use crate::kit::generate::boards::{self, Board};
+use crate::kit::generate::drafts::sheet_bytes;
+use crate::kit::generate::limits::{Limited, Width};
+use crate::kit::generate::rng::Rng;
+use crate::kit::generate::sets::{self, old_bytes};
+use crate::kit::generate::sheets::{self, Plan};
+use crate::kit::met::coverage::Coverage;
+use crate::kit::met::entered::Entered;
+use crate::kit::met::limits::LimitEvent;
+use crate::kit::met::segments::SegmentEvent;
+use crate::kit::oracle::kept::{has_reordering, Kept, RunMarks};
+use crate::kit::programs::checker::Checker;
 
 /// Rounds of a run, and damaged sheets of a round.
 const ROUNDS: usize = 2;
@@ -122,8 +122,8 @@ impl Comparison<'_> {
         }
     }
 
-    /// Damaged sheets on copies of the marks; sheets that are good over one of the tables, lines for edges of tours and a
-    /// sheet that is good over both on the marks themselves.
+    /// Damaged sheets on copies of the marks; sheets that are good over one of the tables, lines for edges of tours and
+    /// a sheet that is good over both on the marks themselves.
     fn limited_round(&mut self, rng: &mut Rng, run: &mut LimitedRun) -> Checked {
         let plan = Plan::random(rng, run.limited.n);
         let draft = sheets::valid(rng, &run.limited.lengths(), &run.marks.set, plan);
@@ -159,7 +159,8 @@ impl Comparison<'_> {
         Ok(answer)
     }
 
-    /// "For every table whose lengths lie between the two, ends included, each of its shortest tours has all its edges open."
+    /// "For every table whose lengths lie between the two, ends included, each of its shortest tours has all its edges
+    /// open."
     fn nothing_lost_between(&mut self, run: &LimitedRun, marks: &RunMarks, sheet: &[u8], lines: u64) -> Checked {
         for cut in &run.cuts {
             cut.kept.lost(&cut.board, marks).map_err(|(what, text)| {
@@ -223,8 +224,8 @@ impl Comparison<'_> {
         Ok(())
     }
 
-    /// Whatever stands over a table between the two stands over both, since no sum that is put in is larger there and no sum
-    /// that is taken out smaller. Counts the pairs that stand over both alone.
+    /// Whatever stands over a table between the two stands over both, since no sum that is put in is larger there and
+    /// no sum that is taken out smaller. Counts the pairs that stand over both alone.
     fn pairs_of_cuts(&mut self, run: &LimitedRun, call: &BetweenCall, stand: &[[u16; 2]]) -> Checked {
         for cut in &run.cuts {
             let exact = Limited { low: cut.board.table.clone(), high: cut.board.table.clone(), ..run.limited.clone() };

@@ -2,10 +2,10 @@
 
 use super::steps::Run;
 use super::{hex, hex_call, Checked, Comparison};
-use crate::kit::coverage::{Event, Operation};
-use crate::kit::rng::Rng;
-use crate::kit::sets::{self, old_bytes, pending};
-use crate::kit::spoil::{self, Lent};
+use crate::kit::damage::spoil::{self, Lent};
+use crate::kit::generate::rng::Rng;
+use crate::kit::generate::sets::{self, old_bytes, pending};
+use crate::kit::met::coverage::{Event, Operation};
 use crate::marks::{OPEN, PENDING, STRUCK};
 
 /// A pending edge, if there is one.

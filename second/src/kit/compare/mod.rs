@@ -19,29 +19,29 @@ mod turns;
 use std::fmt::{self, Debug, Write};
 use std::path::PathBuf;
 
-use super::boards::{self, Board};
-use super::checker::Checker;
-use super::completions::Completions;
-use super::coverage::{Coverage, Event, Operation};
-use super::drafts::{sheet_bytes, Draft};
-use super::rng::Rng;
-use super::sets::old_bytes;
-use super::sheets::{self, Plan};
-use super::spoil;
 use crate::intervals::Intervals;
+use crate::kit::damage::spoil;
+use crate::kit::generate::boards::{self, Board};
+use crate::kit::generate::drafts::{sheet_bytes, Draft};
+use crate::kit::generate::rng::Rng;
+use crate::kit::generate::sets::old_bytes;
+use crate::kit::generate::sheets::{self, Plan};
+use crate::kit::met::coverage::{Coverage, Event, Operation};
+use crate::kit::oracle::completions::Completions;
+use crate::kit::programs::checker::Checker;
 use steps::Run;
 
 /// A difference or a lost edge, with what is needed to see it again.
 #[derive(Debug)]
 pub struct Difference(pub String);
 
-type Checked = Result<(), Difference>;
+pub type Checked = Result<(), Difference>;
 
 pub struct Comparison<'a> {
     one: &'a dyn Checker,
     other: &'a dyn Checker,
-    /// A third program, for savings, slips, texts, pages, new orders, desks, reasons and packed sets, which it reads into
-    /// byte sets.
+    /// A third program, for savings, slips, texts, pages, new orders, desks, reasons and packed sets, which it reads
+    /// into byte sets.
     naive: &'a dyn Checker,
     seed: u64,
     case: u64,
@@ -101,8 +101,8 @@ impl<'a> Comparison<'a> {
         Ok(())
     }
 
-    /// One instance with its sheets, listings, tours, files and savings; one whose lengths are known within limits; slips;
-    /// texts; the pages of a board; new orders of segments; halls of eight desks; and lines told.
+    /// One instance with its sheets, listings, tours, files and savings; one whose lengths are known within limits;
+    /// slips; texts; the pages of a board; new orders of segments; halls of eight desks; and lines told.
     pub fn run_case(&mut self, case: u64) -> Checked {
         self.case = case;
         let mut rng = Rng::new(self.seed, case);

@@ -3,15 +3,15 @@
 use super::{hex, Checked, Comparison};
 use crate::edge_set::EdgeSet;
 use crate::intervals::Intervals;
-use crate::kit::boards::{self, Board};
-use crate::kit::checker::Checker;
-use crate::kit::drafts::sheet_bytes;
-use crate::kit::moved::{self, Moved, Mover};
-use crate::kit::moves_met::Place;
-use crate::kit::rng::Rng;
-use crate::kit::savings::Saving;
-use crate::kit::sets;
-use crate::kit::spoil::Lent;
+use crate::kit::damage::spoil::Lent;
+use crate::kit::generate::boards::{self, Board};
+use crate::kit::generate::drafts::sheet_bytes;
+use crate::kit::generate::rng::Rng;
+use crate::kit::generate::savings::Saving;
+use crate::kit::generate::sets;
+use crate::kit::met::moved::{self, Moved, Mover};
+use crate::kit::met::moves::Place;
+use crate::kit::programs::checker::Checker;
 use crate::marks::{Marks, OPEN, STRUCK};
 use crate::packed::put_mark;
 use crate::pairs::Split;
@@ -26,8 +26,8 @@ const SHEETS_TRIED: usize = 4;
 /// Points that are tried for a split, and pairs that are tried at each.
 const TRIES: usize = 8;
 
-/// A sheet that is judged by its last record: a case whose pair is the only one at its split that passes all tests but 5
-/// for other points than the split point. The cases before it are the first pairs of their splits.
+/// A sheet that is judged by its last record: a case whose pair is the only one at its split that passes all tests but
+/// 5 for other points than the split point. The cases before it are the first pairs of their splits.
 struct PairSheet {
     marks: Vec<u8>,
     records: Vec<Record>,
@@ -130,7 +130,8 @@ impl<'a> Maker<'a> {
         found
     }
 
-    /// Strikes all edges at c, but for those of K and of the pair. The first pairs of the splits before stay what they are.
+    /// Strikes all edges at c, but for those of K and of the pair. The first pairs of the splits before stay what they
+    /// are.
     fn strike_others(&mut self, c: u16, (x, y): (u16, u16)) {
         let others = |&v: &u16| v != c && v != x && v != y && !self.known.contains(c, v);
         for v in (1..=self.lengths.order.n).filter(others) {

@@ -2,13 +2,13 @@
 
 use super::{hex, Checked, Comparison, Difference, Hex};
 use crate::instance::Instance;
-use crate::kit::boards;
-use crate::kit::checker::Checker;
-use crate::kit::coverage::{Event, Operation};
-use crate::kit::rng::Rng;
-use crate::kit::set_faults::SetFault;
-use crate::kit::sets::{old_bytes, packed, pending};
-use crate::kit::spoil;
+use crate::kit::damage::sets::SetFault;
+use crate::kit::damage::spoil;
+use crate::kit::generate::boards;
+use crate::kit::generate::rng::Rng;
+use crate::kit::generate::sets::{old_bytes, packed, pending};
+use crate::kit::met::coverage::{Event, Operation};
+use crate::kit::programs::checker::Checker;
 use crate::lengths::edge_count;
 use crate::marks::PENDING;
 use crate::packed::packed_size;

@@ -2,12 +2,12 @@
 
 use super::{hex, Checked, Comparison};
 use crate::bytes::entries;
-use crate::kit::checker::Checker;
-use crate::kit::coverage::Operation;
-use crate::kit::pages_met::Met;
-use crate::kit::rng::Rng;
-use crate::kit::set_faults::SetFault;
-use crate::kit::sets::{old_bytes, packed};
+use crate::kit::damage::sets::SetFault;
+use crate::kit::generate::rng::Rng;
+use crate::kit::generate::sets::{old_bytes, packed};
+use crate::kit::met::coverage::Operation;
+use crate::kit::met::pages::Met;
+use crate::kit::programs::checker::Checker;
 use crate::lengths::edge_count;
 use crate::page::{BYTES, LINES};
 

@@ -1,20 +1,20 @@
-//! Operations that read a packed set, for chosen numbers of points: on good sets, where the naive checker answers by the byte
-//! set, and on sets with one fault, alone or beside another fault of the call.
+//! Operations that read a packed set, for chosen numbers of points: on good sets, where the naive checker answers by
+//! the byte set, and on sets with one fault, alone or beside another fault of the call.
 
 use super::steps::Step;
 use super::{hex, hex_call, Checked, Comparison, Difference, Hex};
 use crate::intervals::Intervals;
-use crate::kit::boards::{self, Board};
-use crate::kit::checker::Checker;
-use crate::kit::coverage::Operation;
-use crate::kit::drafts::sheet_bytes;
-use crate::kit::limits::{Limited, Width};
-use crate::kit::rng::Rng;
-use crate::kit::set_faults::SetFault;
-use crate::kit::sets::{old_bytes, packed};
-use crate::kit::sets_met::POINTS;
-use crate::kit::sheets::{self, Plan};
-use crate::kit::spoil::{self, Lent};
+use crate::kit::damage::sets::SetFault;
+use crate::kit::damage::spoil::{self, Lent};
+use crate::kit::generate::boards::{self, Board};
+use crate::kit::generate::drafts::sheet_bytes;
+use crate::kit::generate::limits::{Limited, Width};
+use crate::kit::generate::rng::Rng;
+use crate::kit::generate::sets::{old_bytes, packed};
+use crate::kit::generate::sheets::{self, Plan};
+use crate::kit::met::coverage::Operation;
+use crate::kit::met::sets::POINTS;
+use crate::kit::programs::checker::Checker;
 
 /// An operation that reads a packed set.
 #[derive(Clone, Copy, PartialEq, Eq)]

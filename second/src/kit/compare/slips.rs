@@ -1,13 +1,13 @@
-//! Slips: random ones, and that of every sheet that is asked or is marked, over one table or two. Three programs show them, and
-//! what two slips tell is held against what they keep.
+//! Slips: random ones, and that of every sheet that is asked or is marked, over one table or two. Three programs show
+//! them, and what two slips tell is held against what they keep.
 
 use super::{Checked, Comparison, Difference, Hex};
 use crate::bytes::slip_of;
-use crate::kit::checker::Checker;
-use crate::kit::coverage::Operation;
-use crate::kit::rng::Rng;
-use crate::kit::slips::{near, random};
-use crate::kit::slips_met::Met;
+use crate::kit::generate::rng::Rng;
+use crate::kit::generate::slips::{near, random};
+use crate::kit::met::coverage::Operation;
+use crate::kit::met::slips::Met;
+use crate::kit::programs::checker::Checker;
 use crate::slip::{Slip, View};
 
 /// Random slips in a case, each beside one that differs in a part.
@@ -114,8 +114,8 @@ impl Comparison<'_> {
         Ok(())
     }
 
-    /// "Two unreleased slips read the same to the candidate, byte for byte, exactly when alike in those two facts"; and the
-    /// examiner sees all of a slip.
+    /// "Two unreleased slips read the same to the candidate, byte for byte, exactly when alike in those two facts"; and
+    /// the examiner sees all of a slip.
     fn two_slips(&mut self, one: u64, other: u64) -> Checked {
         let same = VIEWS.map(|operation| seen(self.one, operation, one) == seen(self.one, operation, other));
         let told = || format!("slips {one} and {other}\n");

@@ -5,15 +5,15 @@ use std::fmt::{self, Debug};
 
 use super::{hex, hex_call, Checked, Comparison, Difference, Hex, PROGRAMS};
 use crate::intervals::Intervals;
-use crate::kit::boards::{self, Board};
-use crate::kit::checker::Checker;
-use crate::kit::coverage::{Event, Operation};
-use crate::kit::entered::Entered;
-use crate::kit::kept::{has_reordering, Kept, RunMarks};
-use crate::kit::rng::Rng;
-use crate::kit::segments_met::SegmentEvent;
-use crate::kit::sets::{self, pending};
-use crate::kit::spoil::{self, Lent};
+use crate::kit::damage::spoil::{self, Lent};
+use crate::kit::generate::boards::{self, Board};
+use crate::kit::generate::rng::Rng;
+use crate::kit::generate::sets::{self, pending};
+use crate::kit::met::coverage::{Event, Operation};
+use crate::kit::met::entered::Entered;
+use crate::kit::met::segments::SegmentEvent;
+use crate::kit::oracle::kept::{has_reordering, Kept, RunMarks};
+use crate::kit::programs::checker::Checker;
 use crate::lengths::EdgeOrder;
 use crate::marks::PENDING;
 use crate::packed::mark;
@@ -193,8 +193,8 @@ impl Comparison<'_> {
         }
     }
 
-    /// Paper 3 on a sheet that was asked: "the verdict of direct marking"; from marks with nothing pending, confirming leaves
-    /// "exactly its marks", and withdrawing those from before.
+    /// Paper 3 on a sheet that was asked: "the verdict of direct marking"; from marks with nothing pending, confirming
+    /// leaves "exactly its marks", and withdrawing those from before.
     fn asked(&mut self, before: &Lent, asked: &Lent, answer: u64, sheet: &[u8]) -> Checked {
         let mut direct = before.clone();
         let verdict = self.both(Step::Mark, &mut direct, sheet)?;

@@ -3,15 +3,15 @@
 
 use super::{hex, Checked, Comparison, Difference, Hex};
 use crate::instance::Instance;
-use crate::kit::checker::Checker;
-use crate::kit::completions::small;
-use crate::kit::coverage::Operation;
-use crate::kit::naive::texts::whole_lines;
-use crate::kit::rng::Rng;
-use crate::kit::sets::old_bytes;
-use crate::kit::text_faults::Damage;
-use crate::kit::texts::{Held, Kind, Text};
-use crate::kit::texts_met::{Size, Special, Told};
+use crate::kit::damage::texts::Damage;
+use crate::kit::generate::rng::Rng;
+use crate::kit::generate::sets::old_bytes;
+use crate::kit::generate::texts::{Held, Kind, Text};
+use crate::kit::met::coverage::Operation;
+use crate::kit::met::texts::{Size, Special, Told};
+use crate::kit::oracle::completions::small;
+use crate::kit::programs::checker::Checker;
+use crate::kit::programs::naive::texts::whole_lines;
 
 /// The stream of random numbers for texts is one of its own.
 const STREAM: u64 = 0x7473_706c_6962;

@@ -1,19 +1,19 @@
-//! Turns at desks (02, Paper 14): each is held against the laws of the page and against the queues, and each sheet, at its
-//! end and before, against itself marked alone.
+//! Turns at desks (02, Paper 14): each is held against the laws of the page and against the queues, and each sheet, at
+//! its end and before, against itself marked alone.
 
 use super::halls::{told, Left, Watched};
 use super::slips::{seen, VIEWS};
 use super::{Checked, Comparison, Difference};
 use crate::bytes::{entries, numbers, turn_number, write_turn};
 use crate::desks::{Desks, Lent};
-use crate::kit::checker::Checker;
-use crate::kit::coverage::Operation;
-use crate::kit::desks_met::Met;
-use crate::kit::halls::{desk_numbers, desks, without, Change, Folder, RECORD};
-use crate::kit::kept::{has_reordering, RunMarks};
-use crate::kit::rng::Rng;
-use crate::kit::segments_met::SegmentEvent;
-use crate::kit::sets;
+use crate::kit::generate::halls::{desk_numbers, desks, without, Change, Folder, RECORD};
+use crate::kit::generate::rng::Rng;
+use crate::kit::generate::sets;
+use crate::kit::met::coverage::Operation;
+use crate::kit::met::desks::Met;
+use crate::kit::met::segments::SegmentEvent;
+use crate::kit::oracle::kept::{has_reordering, RunMarks};
+use crate::kit::programs::checker::Checker;
 use crate::marks::{OPEN, STRUCK};
 
 /// The turns in which a desk with a line left is served.
@@ -148,8 +148,8 @@ impl Comparison<'_> {
         Ok(())
     }
 
-    /// "Its verdict and marks are those of its sheet marked alone, if nothing but turns alters n, the table, its sheet or
-    /// its marks"; with a line left, those of the sheet cut behind its last accepted line.
+    /// "Its verdict and marks are those of its sheet marked alone, if nothing but turns alters n, the table, its sheet
+    /// or its marks"; with a line left, those of the sheet cut behind its last accepted line.
     fn as_alone(&mut self, rng: &mut Rng, hall: &mut Watched, desk: usize, left: &Left) -> Checked {
         let seat = &mut hall.seats[desk - 1];
         seat.turns += 1;

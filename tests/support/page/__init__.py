@@ -1,0 +1,1 @@
+"""What the tests of the page share: the page in a browser, and calls that are recorded and replayed."""
