@@ -1,5 +1,6 @@
--- The closing's test is exact: `threeOptOutcome` answers Settled exactly when the closing settles K, NoMoves (refusal 15) exactly when
--- no ends make the edge and the centres a 3-opt closing, and NoSaving (refusal 16) in the cases left. Assumes nothing.
+-- The closing's test is exact: `threeOptOutcome` answers Settled exactly when the closing settles K, NoMoves (refusal
+-- 15) exactly when no ends make the edge and the centres a 3-opt closing, and NoSaving (refusal 16) in the cases left.
+-- Assumes nothing.
 use Prim.Native.Nat.{ℕ}
 use mathlib.Core.Path.{_≡_, refl, sym, _∙_}
 use mathlib.Core.Bool.{Bool, true, false, not, cond, false≢true}
@@ -168,11 +169,12 @@ data TestFinds (out put : ℕ → ℕ → ℕ) (K : List Edge) (p q r s : ℕ) :
   some : (x y z w : ℕ) → ThreeOptMoves K p q r s x y z w → threeOptOutcome out put K p q r s ≡ cond (labelling? out put p q r s x y z w) Settled NoSaving
       → TestFinds out put K p q r s
 
--- The proof of the three theorems. The tests of pq, of the centres and of rs are 01's conditions one for one, so a 3-opt closing passes
--- them, and where they pass only the ends are open. `endsOf` answers two ends exactly where a centre has them; so the test finds no
--- 3-opt closing, or the ends x, y, z, w of one. Whoever names the ends of the same centres names these, each pair in this order or swapped:
--- a labelling that saves under one choice of names is one of the four under every other. So the four tests at the ends found decide
--- whether any choice of names saves on both moves, which is what `Closes` asks.
+-- The proof of the three theorems. The tests of pq, of the centres and of rs are 01's conditions one for one, so a
+-- 3-opt closing passes them, and where they pass only the ends are open. `endsOf` answers two ends exactly where a
+-- centre has them; so the test finds no 3-opt closing, or the ends x, y, z, w of one. Whoever names the ends of the
+-- same centres names these, each pair in this order or swapped:
+-- a labelling that saves under one choice of names is one of the four under every other. So the four tests at the
+-- ends found decide whether any choice of names saves on both moves, which is what `Closes` asks.
 module _ (out put : ℕ → ℕ → ℕ) (K : List Edge) (p q r s : ℕ) where
   judged : TestFinds out put K p q r s
   judged = go (placed? K p q r s) refl (endsOf K r) refl (endsOf K s) refl

@@ -1,4 +1,5 @@
--- The ends of a pair: what the numbers that are read from the rows say, at one edge, at the edges of K one after the other, and for an end. Assumes nothing.
+-- The ends of a pair: what the numbers that are read from the rows say, at one edge, at the edges of K one after the
+-- other, and for an end. Assumes nothing.
 use Prim.Native.Nat.{ℕ, zero, suc, _+_, _*_, _≤_, _<_}
 use mathlib.Core.Path.{_≡_, refl, sym, _∙_, ap, ap₂}
 use mathlib.Core.Bool.{Bool, true, false, not, cond, _&&_, _||_}

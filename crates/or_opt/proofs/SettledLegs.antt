@@ -1,5 +1,6 @@
--- Taking points of degree two into the legs. A leg that is the length l(cx) is kept exactly when l(cx) + l(sw) + l(tw) is at most m(st) + m(cw) + m(xw), which says that
--- w stays; one that is FAR stays FAR. The leg of w itself is kept where its edge to c is one of its two. Assumes nothing.
+-- Taking points of degree two into the legs. A leg that is the length l(cx) is kept exactly when l(cx) + l(sw) + l(tw)
+-- is at most m(st) + m(cw) + m(xw), which says that w stays; one that is FAR stays FAR. The leg of w itself is kept
+-- where its edge to c is one of its two. Assumes nothing.
 use Prim.Native.Nat.{ℕ, _+_, _*_, _≤_, _<_, max}
 use mathlib.Core.Path.{_≡_, refl, sym, _∙_, ap, subst}
 use mathlib.Core.Bool.{Bool, true, false, not, cond, _&&_, _||_}

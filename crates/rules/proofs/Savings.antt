@@ -1,5 +1,5 @@
--- The savings of the rules, as 01's inequalities: exchanging two edges saves nothing exactly when the larger exchange is at least their sum, and moving a
--- point saves exactly when it makes the sum smaller. Assumes nothing.
+-- The savings of the rules, as 01's inequalities: exchanging two edges saves nothing exactly when the larger exchange
+-- is at least their sum, and moving a point saves exactly when it makes the sum smaller. Assumes nothing.
 use Prim.Native.Nat.{ℕ, _+_, _≤_, _<_, max}
 use mathlib.Core.Path.{_≡_, sym, _∙_, ap₂}
 use mathlib.Core.Logic.{_↔_}

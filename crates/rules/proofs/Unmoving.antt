@@ -1,8 +1,10 @@
--- Condition 5 (02, Paper 7), parted by what each test looks at. K with cx and cy added is S, K itself is unmovable, and S has no point with three edges.
--- A point w of degree two in S is c, x, y or another. c lies between x and y, and the edges of S without c are those of K (`unmoved?`). x lies between c and the
--- point t that K leads it on to, and the edges without x are those of K (`endStays?`) and cy; moving it there takes out cy, xc and xt and puts in ct, cx and yx, as
--- moving c onto xt does; y likewise. Every other w has its two edges in K, where it cannot be moved to an edge of K; what is left is cx and cy, each a matter of one leg
--- (`settled?`, which also keeps a leg from a point that has two edges in K already). Conversely each test is about a point of degree two in S. Assumes nothing.
+-- Condition 5 (02, Paper 7), parted by what each test looks at. K with cx and cy added is S, K itself is unmovable, and
+-- S has no point with three edges. A point w of degree two in S is c, x, y or another. c lies between x and y, and the
+-- edges of S without c are those of K (`unmoved?`). x lies between c and the point t that K leads it on to, and the
+-- edges without x are those of K (`endStays?`) and cy; moving it there takes out cy, xc and xt and puts in ct, cx and
+-- yx, as moving c onto xt does; y likewise. Every other w has its two edges in K, where it cannot be moved to an edge
+-- of K; what is left is cx and cy, each a matter of one leg (`settled?`, which also keeps a leg from a point that has
+-- two edges in K already). Conversely each test is about a point of degree two in S. Assumes nothing.
 use Prim.Native.Nat.{ℕ, _+_}
 use mathlib.Core.Path.{_≡_, refl, sym, _∙_, ap, ap₂, subst}
 use mathlib.Core.Bool.{Bool, true, false, not, _&&_, _||_, true≢false}

@@ -1,6 +1,6 @@
--- The search over the rows: the first point of a row that fits is its first feasible pair, and rows of points that are no candidates have no
--- feasible pair, so that the first feasible pair after xy is found row by row. One record for the loop, and one lemma for each way on and
--- out. Assumes nothing.
+-- The search over the rows: the first point of a row that fits is its first feasible pair, and rows of points that are
+-- no candidates have no feasible pair, so that the first feasible pair after xy is found row by row. One record for the
+-- loop, and one lemma for each way on and out. Assumes nothing.
 use Prim.Native.Nat.{ℕ, zero, suc, _+_, _-_, _≤_, _<_}
 use mathlib.Core.Path.{_≡_, refl, sym, _∙_, ap, ap₂}
 use mathlib.Core.Bool.{Bool, true, false, not, _&&_}
@@ -128,8 +128,9 @@ module _ {n : ℕ} {table legs candidates rank : List ℕ} {bound c : ℕ} {cent
       walk-feasible : (i : ℕ) → b < i → i ≤ n → feasible? n (lengthOf n out) (lengthOf n table) open? (edgeList k) c a i ≡ fits? n table legs bound centre (edgeList k) c a i
       walk-feasible i h g = feasible-fits taken (w .asked .beside .row .lengths) p q a i record { low = w .low; high = omega arith } record { low = omega arith; high = g }
 
-      -- What is left after ab is the row of a from b + 1 on, then the rows above. A point of the row that does not fit makes no feasible
-      -- pair with a, so that the row may be entered at the first point z that fits: nothing kept is lost.
+      -- What is left after ab is the row of a from b + 1 on, then the rows above. A point of the row that does not fit
+      -- makes no feasible pair with a, so that the row may be entered at the first point z that fits:
+      -- nothing kept is lost.
       walk-skip : feasibleAfter n (lengthOf n out) (lengthOf n table) open? (edgeList k) c a b
           ≡ keep (feasible? n (lengthOf n out) (lengthOf n table) open? (edgeList k) c) (row a z (n + 1 - z) ++ rows (suc a) (n - suc a))
       unfolding feasibleAfter pairsAfter

@@ -1,6 +1,6 @@
--- The chain of a split and the closing of a case, in code. A chain's loop stands at the spot whose pairs are the feasible ones after the
--- last pair taken, and `Following` says that the walk from there is the walk from the chain's opening; there is one lemma for each way
--- on and each way out. Assumes nothing.
+-- The chain of a split and the closing of a case, in code. A chain's loop stands at the spot whose pairs are the
+-- feasible ones after the last pair taken, and `Following` says that the walk from there is the walk from the chain's
+-- opening; there is one lemma for each way on and each way out. Assumes nothing.
 use Prim.Native.Nat.{ℕ, suc, _+_, _-_, _≤_, _<_}
 use mathlib.Core.Path.{_≡_, sym, _∙_, ap, ap₂}
 use mathlib.Core.Bool.{true}

@@ -1,5 +1,5 @@
--- What `neighboursOf`, `beyond`, `within?` and `endsOf` say of a list of edges, each in full: their answers exclude one another, so
--- each answer is given exactly when what it says holds. Assumes nothing.
+-- What `neighboursOf`, `beyond`, `within?` and `endsOf` say of a list of edges, each in full: their answers
+-- exclude one another, so each answer is given exactly when what it says holds. Assumes nothing.
 use Prim.Native.Nat.{ℕ}
 use mathlib.Core.Path.{_≡_, refl, sym, _∙_, subst₂}
 use native.Mathlib.Omega.{arith}

@@ -1,4 +1,5 @@
--- `closings::closing::both_moves_save` meets its contract: the first move decides whether the second is looked at. Assumes nothing.
+-- `closings::closing::both_moves_save` meets its contract: the first move decides whether the second is looked at.
+-- Assumes nothing.
 use mathlib.Core.Path.{sym, _∙_, ap}
 use Rattle.lists.specs.Saving.{gains?}
 use Rattle.lists.proofs.Savings.{gains-above}

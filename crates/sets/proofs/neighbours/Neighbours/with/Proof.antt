@@ -1,5 +1,5 @@
--- `sets::neighbours::Neighbours::with` meets its contract: each arm is a clause of `withPoint`, and each test one of its comparisons.
--- Assumes nothing.
+-- `sets::neighbours::Neighbours::with` meets its contract: each arm is a clause of `withPoint`, and each test one of
+-- its comparisons. Assumes nothing.
 use borrow.Author.Needs.{needs}
 use borrow.Author.Tests.{eq-eqb, ne-eqb}
 use Rattle.sets.specs.Neighbours.{withPoint}
