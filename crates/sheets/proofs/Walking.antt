@@ -23,7 +23,6 @@ use Rattle.closings.specs.asks.ClosingTest.{ThreeOptAsked}
 use Rattle.sets.specs.declared.edge_set.EdgeSet.{EdgeSet}
 use Rattle.sets.specs.declared.neighbours.Neighbours.{Neighbours}
 use Rattle.search.specs.declared.pairs.NextPair.{NextPair}
-use Rattle.search.specs.declared.split.Split as split
 use Rattle.closings.specs.declared.closing.ThreeOptOutcome.{ThreeOptOutcome}
 use Rattle.closings.specs.declared.closing.ThreeOptOutcome.the-variants.{Settled, NoMoves, NoSaving}
 use Rattle.sets.proofs.BeyondNumbers.{two-apart}
