@@ -1,5 +1,6 @@
--- What a refusal of the walk tells: a number from 8 to 16, or 23 or 24, and a record of the sheet. So the fuel never runs out, and a verdict of 0 is an
--- acceptance. The record is the one entered, or the one that has the index, which was entered before.
+-- What a refusal of the walk tells: a number from 8 to 16, or 23 or 24, and a record of the sheet. So the fuel never
+-- runs out, and a verdict of 0 is an acceptance. The record is the one entered, or the one that has the index, which
+-- was entered before.
 use Prim.Native.Nat.{ℕ, zero, suc, _+_, _≤_, _<_}
 use mathlib.Core.Path.{_≡_, refl, sym, _∙_, subst}
 use mathlib.Core.Logic.{_⊎_, inl, inr, ⊎-elim}

@@ -1,4 +1,5 @@
--- Safety in the abstract: what a tour in question uses is never struck, by a line or a sheet, and so not by a run of calls.
+-- Safety in the abstract: what a tour in question uses is never struck, by a line or a sheet, and so not
+-- by a run of calls.
 use Prim.Native.Nat.{ℕ, _+_, _-_, _*_}
 use mathlib.Core.Path.{_≡_, refl, sym, _∙_, ap, subst}
 use mathlib.Core.Logic.{inl, inr, ⊎-elim}
@@ -80,8 +81,9 @@ module _ (s : List ℕ) where
         record { i = i; readable = named; kind = order-kind (field s i 0) _ _ _ _ _ _ _ (reads ∙ ap (λ (h : How). case x y h next) (ho .1)) }
 
 module _ (R : Rules) (Good : List Edge → Type 0) (Orders : Type 0) (up : Upheld R Good Orders) where
-  -- A complete closing rules out K, if new orders in it may occur. Take the case of the tour's own pair, which is feasible and so is named, and go down: the tour uses that
-  -- case's K too. The tree ends in 3-opt closings, in new orders and in splits with no case, and none of these leaves room for the tour.
+  -- A complete closing rules out K, if new orders in it may occur. Take the case of the tour's own pair, which is
+  -- feasible and so is named, and go down: the tour uses that case's K too. The tree ends in 3-opt closings, in new
+  -- orders and in splits with no case, and none of these leaves room for the tour.
   mutual
     unfolding Complete names OrderIn
 
@@ -128,8 +130,8 @@ module _ {M : Type 0} (𝓜 : Marking M) (Good : List Edge → Type 0) (Orders :
           let at = l .at-line in
           subst (λ (q : Place M). Kept (q .marks)) (sym z) (safe .spares (p .marks) a b k (at .point-a) (at .point-b) (at .apart) (at .is-open) (λ g. line-safe (𝓜 .rules (p .marks)) Good Orders (safe .upheld (p .marks) k) law (𝓜 .open? (p .marks)) s may (p .index) a b next high g j))
 
-  -- A sheet, accepted or not, leaves the tour's edges open: no accepted line strikes one of them, since a closed argument for it would rule
-  -- the tour out, and nothing but an accepted line changes a mark.
+  -- A sheet, accepted or not, leaves the tour's edges open: no accepted line strikes one of them, since a closed
+  -- argument for it would rule the tour out, and nothing but an accepted line changes a mark.
   pub sheet-safe : (s : List ℕ) → (HasOrder s → Orders) → (m : M) → Kept m → Kept (sheet 𝓜 s m .marks)
   unfolding answer start
   sheet-safe s may m k =

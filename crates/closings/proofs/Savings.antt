@@ -7,9 +7,9 @@ use mathlib.Core.Logic.{_↔_}
 use lib.Dec.{ltb}
 use lib.IntN.{ℤ}
 use borrow.Author.Tests.{ltb-true, lt-ltb}
-use Rattle.lists.specs.Saving.{saving, gains?, smaller, larger}
+use Rattle.lengths.specs.Saving.{saving, gains?, smaller, larger}
 use Rattle.lists.proofs.Bools.{and-left, and-right, and-both, and-stop, and-go}
-use Rattle.lists.proofs.Savings.{gains-iff, gains-smaller, gains-larger}
+use Rattle.lengths.proofs.Savings.{gains-iff, gains-smaller, gains-larger}
 use Rattle.closings.specs.Closing.{firstSaving, secondSaving, labelSaving, crossingSaving, Saves}
 use Rattle.closings.specs.ClosingTest.{saves?, labelling?}
 

@@ -4,7 +4,7 @@ use mathlib.Core.Path.{_≡_}
 use mathlib.Core.Bool.{true}
 use mathlib.Core.List.{List}
 use lib.IntN.{ℤ}
-use Rattle.lists.specs.Saving.{saving, gains?, smaller, larger}
+use Rattle.lengths.specs.Saving.{saving, gains?, smaller, larger}
 use Rattle.lengths.specs.Edge.{Edge}
 use Rattle.sets.specs.EdgeSet.{Has, DegreeTwo}
 

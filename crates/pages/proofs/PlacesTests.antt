@@ -1,4 +1,5 @@
--- Tests 1, 2 and 6 of reading: `placesTested` at each way out of `test_places`, and what it says of what it passes. Assumes nothing.
+-- Tests 1, 2 and 6 of reading: `placesTested` at each way out of `test_places`, and what it says of what it passes.
+-- Assumes nothing.
 use Prim.Native.Nat.{ℕ, _≤_}
 use mathlib.Core.Path.{_≡_, sym, _∙_, ap}
 use mathlib.Core.Bool.{Bool, true, false}

@@ -43,7 +43,8 @@ wrongLine n first lines text = suc (firstFrom (λ k. not (rightLine n first text
 
 -- no line is wrong, and there is nothing behind the last
 unfoldable pub isPageText : (n p : ℕ) → List ℕ → Bool
-isPageText n p text = eqb (wrongLine n (firstPlace p) (pageLines n p) text) (suc (pageLines n p)) && eqb (length text) (lineBytes * pageLines n p)
+isPageText n p text =
+    eqb (wrongLine n (firstPlace p) (pageLines n p) text) (suc (pageLines n p)) && eqb (length text) (lineBytes * pageLines n p)
 
 -- 1, 2 and 6, of the number of lengths and of the marks
 unfoldable pub placesTested : ℕ → (size : ℕ) → (marks : List ℕ) → Tested

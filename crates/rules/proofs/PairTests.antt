@@ -8,7 +8,7 @@ use mathlib.Core.List.{List, [], _∷_}
 use native.Mathlib.Omega.{arith}
 use lib.Dec.{eqb}
 use borrow.Author.Tests.{ne-eqb, eqb-false, le-leb, leb-true}
-use Rattle.lists.specs.Saving.{gains?}
+use Rattle.lengths.specs.Saving.{gains?}
 use Rattle.lengths.specs.Edge.{Edge, edge, edges}
 use Rattle.lengths.specs.asks.Edge.{IsEdgeUp}
 use Rattle.lists.proofs.Bools.{and-both, and-true, and-yes, never-true, never-false}

@@ -25,15 +25,11 @@ use Rattle.sets.specs.declared.edge_set.EdgeSet.{EdgeSet}
 use Rattle.sets.specs.declared.neighbours.Neighbours.{Neighbours}
 use Rattle.search.specs.declared.pairs.NextPair.the-variants.{Pair, End}
 use Rattle.lists.proofs.FirstFrom.{firstFrom-yes, firstFrom-no, firstFrom-low, firstFrom-found}
+use Rattle.lists.proofs.Bools.{and-regroup}
 use Rattle.search.proofs.KeptRows.{keep-none, keep-skip}
 use Rattle.rules.proofs.PairLists.{pairsAfter-end, keep-yes, keep-append, rows-after}
 use Rattle.search.proofs.RowSearch.{far-row-fails}
 use Rattle.search.proofs.OneComparison.{feasible-passes}
-
-regroup : (p w s : Bool) → p && (w && s) ≡ w && p && s
-regroup p true s = refl
-regroup true false s = refl
-regroup false false s = refl
 
 -- a pair is feasible exactly when it fits
 feasible-fits : {n : ℕ} {out table : List ℕ} {open? : ℕ → ℕ → Bool} {K : List Edge} {c : ℕ} {legs : List ℕ} {bound : ℕ} {centre : Neighbours}
@@ -42,7 +38,7 @@ feasible-fits : {n : ℕ} {out table : List ℕ} {open? : ℕ → ℕ → Bool} 
 unfolding fits? allowed? shape?
 feasible-fits {n} {out} {table} {open?} {K} {c} {legs} {bound} {centre} f h p own x y px py =
     feasible-passes f h p x y px py
-    ∙ regroup (passes? n table legs bound x y) (within? (neighboursOf K c) x y) (not (shuts? n K x y (beyond (neighboursOf K x) c) (beyond (neighboursOf K y) c)))
+    ∙ and-regroup (passes? n table legs bound x y) (within? (neighboursOf K c) x y) (not (shuts? n K x y (beyond (neighboursOf K x) c) (beyond (neighboursOf K y) c)))
     ∙ rw own
 
 -- rows of points that are no candidates
