@@ -13,7 +13,8 @@ use Rattle.argument.specs.Record.{records}
 use Rattle.argument.specs.Rules.{Rules, Lawful}
 use Rattle.argument.specs.Layout.{Enters}
 use Rattle.argument.specs.Line.{Struck, strikes, judge, CompleteAt}
-use Rattle.argument.specs.Sheet.{Marking, Place, LineStep, over, onward, struck, lineStep, Result, answer, linesFrom, start, sheet, CompleteLines, Stops, ended, above, not-above, incomplete, Answers}
+use Rattle.argument.specs.Sheet.{Marking, Place, LineStep, over, onward, struck, lineStep, Result, answer, linesFrom, start, sheet}
+use Rattle.argument.specs.Answers.{CompleteLines, Stops, ended, above, not-above, incomplete, Answers}
 use Rattle.argument.proofs.Verdicts.{refused-accepted, refused-as}
 use Rattle.argument.proofs.Exact.{line-sound, line-complete}
 use Rattle.argument.proofs.Sheet.{LineMarked, step-says, step-over, step-8, step-9, step-stops, step-strikes, step-rises, lines-over, lines-stop, lines-go-on}

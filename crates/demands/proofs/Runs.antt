@@ -23,7 +23,6 @@ use Rattle.marks.proofs.PendingMarks.{settled-size, settled-open}
 use Rattle.tours.specs.Tour.{Uses, Shortest, ThreeOptimal}
 use Rattle.tours.proofs.ThreeOptimal.{shortest-optimal}
 use Rattle.argument.specs.Safety.{HasOrder}
-use Rattle.argument.specs.Sheet.{run}
 use Rattle.limits.proofs.LimitWays.{passed-ready}
 use Rattle.limits.specs.Mark.{markBetween}
 use Rattle.limits.specs.Tests.{readyBetween}
@@ -33,7 +32,7 @@ use Rattle.marking.specs.Tests.{ready}
 use Rattle.marking.specs.declared.tests.Tested.{Tested}
 use Rattle.marking.specs.declared.tests.Tested.the-variants.{Points, Refused}
 use Rattle.demands.specs.Keeping.{Ordered, Serves, StepOrder, OrderFree, KeepsTours}
-use Rattle.demands.specs.Run.{Tables, Call, Step, marking, asking, confirming, withdrawing, marking-between, turning, stepped, stepsOf, freshFrom}
+use Rattle.demands.specs.Run.{Tables, Call, Step, marking, asking, confirming, withdrawing, marking-between, turning, stepped, stepsOf, freshFrom, run}
 use Rattle.demands.proofs.DeskTurns.{turn-kept}
 use Rattle.demands.proofs.Kept.{Kept, OutOfReach, fresh-kept, tested-kept}
 use Rattle.demands.proofs.Monotone.{LengthsBetween, lengths-between, lengths-same}
