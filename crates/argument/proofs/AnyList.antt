@@ -1,5 +1,6 @@
--- REFUSALS ARE THOSE OF THE RULES: whichever list a walk goes by, as long as it names exactly the feasible pairs, rising, on the sets that an argument comes to, the verdict is
--- the same, the number and the record of a refusal included. So a 14 is told by the relation of feasible pairs, and not by how the list is computed. Assumes nothing.
+-- REFUSALS ARE THOSE OF THE RULES: whichever list a walk goes by, as long as it names exactly the feasible pairs,
+-- rising, on the sets that an argument comes to, the verdict is the same, the number and the record of a refusal
+-- included. So a 14 is told by the relation of feasible pairs, and not by how the list is computed. Assumes nothing.
 use Prim.Native.Nat.{ℕ, zero, suc, _-_}
 use mathlib.Core.Path.{_≡_, refl, sym, _∙_, ap}
 use mathlib.Core.Bool.{Bool, true, false}
@@ -72,7 +73,8 @@ module _ (R : Rules) (law : Lawful R) (list : List Edge → ℕ → List Edge) (
   unfolding walk
   walk-same = walkBy-same (suc (records s))
 
-  -- A LINE is judged alike: the walk stands on sets that an argument comes to, {ab} first, and from there on by feasible pairs alone
+  -- A LINE is judged alike: the walk stands on sets that an argument comes to, {ab} first, and from there on by
+  -- feasible pairs alone
   pub judge-any-list : (open? : ℕ → ℕ → Bool) (i : ℕ) → judge (listedBy R list) open? s i ≡ judge R open? s i
   unfolding judge judgeRecord
   judge-any-list open? i = by (recordAt s i)

@@ -1,6 +1,6 @@
 -- Completeness of the walk: an argument that is complete, within the limit of splits and laid out is accepted.
--- The induction is on the tree. K stays one that an argument comes to, so the walk's list of pairs is the one that the chain names, and test
--- 11 never stands in the way.
+-- The induction is on the tree. K stays one that an argument comes to, so the walk's list of pairs is the one that the
+-- chain names, and test 11 never stands in the way.
 use Prim.Native.Nat.{ℕ}
 use mathlib.Core.Path.{_≡_, sym, _∙_, ap, subst}
 use mathlib.Core.List.{List, [], _∷_}

@@ -43,7 +43,8 @@ module _ (R : Rules) (s : List ℕ) where
       walk-case-stops m r c = walk-takes ∙ stop-andThen _ _ m r c
 
   module _ (left : ℕ) (K : List Edge) (i : ℕ) where
-    -- a case that holds a split is its chain's verdict; the seventh split is refused; a 3-opt closing is what the rules say
+    -- a case that holds a split is its chain's verdict; the seventh split is refused; a 3-opt closing is
+    -- what the rules say
     pub close-splits : (c first : ℕ) → 0 < left → close R s (walk R s) left K i (splits c first) ≡ walk R s (opening R left K i c first)
     unfolding close
     close-splits c first h = pass-guard _ 13 i _ (lt-ltb 0 left h)

@@ -1,4 +1,5 @@
--- A line is accepted exactly when an argument for its edge is laid out behind it: soundness and completeness of the walk, put together.
+-- A line is accepted exactly when an argument for its edge is laid out behind it: soundness and completeness of the
+-- walk, put together.
 use Prim.Native.Nat.{ℕ}
 use mathlib.Core.Path.{_≡_, sym, _∙_, subst}
 use mathlib.Core.Logic.{_↔_}
@@ -40,11 +41,12 @@ module _ (R : Rules) (law : Lawful R) (s : List ℕ) where
         chain-complete R law s (l .cases) (opening R splitLimit (edge a b ∷ []) i (l .c) (l .first)) high (record { laid = l .laid; named = named-list R law s (edge a b ∷ []) (l .c) _ reached (cl .1); complete = cl .2; shallow = omega (arith, l .argument .shallow) }) (sound-opening R law splitLimit (edge a b ∷ []) i (l .c) (l .first) reached (cl .0)) in
         judge-walks R open? s i a b (l .c) (l .first) next at (cl .0) ∙ pass-andThen _ _ high e
 
-    -- What demand 2 rests on: a line that is entered with its edge open is accepted, and the highest record entered is then h, exactly when
-    -- an argument for its edge, at most six splits deep, is laid out behind it up to record h.
-    -- From left to right: the walk hands over one case for each step, its pair the next standing one, so the chain names exactly the
-    -- standing pairs; a 3-opt closing is accepted because it settles K. From right to left: down the tree, every test passes, as the layout
-    -- has the records that the tests read, K stays within the points, and a split within the limit leaves one fewer below it.
+    -- What demand 2 rests on: a line that is entered with its edge open is accepted, and the highest record entered is
+    -- then h, exactly when an argument for its edge, at most six splits deep, is laid out behind it up to record h.
+    -- From left to right: the walk hands over one case for each step, its pair the next standing one, so the chain
+    -- names exactly the standing pairs; a 3-opt closing is accepted because it settles K. From right to left: down the
+    -- tree, every test passes, as the layout has the records that the tests read, K stays within the points, and a
+    -- split within the limit leaves one fewer below it.
     pub line-exact : (a b c first next h : ℕ) → LineAt R open? s i a b c first next → (judge R open? s i ≡ accepted (strikes a b next h)) ↔ ((cs : Cases) × CompleteArgument R a b c cs × Laid s i first cs h)
     line-exact a b c first next h at = (λ e. down (line-sound a b next h e), λ f. line-complete a b next h (record { c = c; first = first; cases = f .0; at-line = at; argument = f .1; laid = f .2 }))
       where

@@ -1,4 +1,5 @@
--- The fuel does not matter: a chain enters ever higher records, so a walk that may enter as many as are left gives one answer.
+-- The fuel does not matter: a chain enters ever higher records, so a walk that may enter as many as are left
+-- gives one answer.
 use Prim.Native.Nat.{ℕ, zero, suc, _+_, _≤_, _<_}
 use mathlib.Core.Path.{_≡_, refl, _∙_, ap}
 use mathlib.Core.List.{List, []}

@@ -1,5 +1,6 @@
 pub mod Verdicts
 pub mod Tests
+pub mod Records
 pub mod Steps
 pub mod Visits
 pub mod Fuel

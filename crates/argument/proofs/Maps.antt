@@ -66,10 +66,11 @@ module _ {M N : Type 0} (𝓜 : Marking M) (𝓝 : Marking N) (Same : M → N �
       line h (refused number rec) j ih =
           step (step-stops 𝓜 s p h number rec j) (step-stops 𝓝 s p′ h number rec (sym (like .judged m m′ same s index) ∙ j)) (stop (refused number rec))
 
-  -- Two markings whose marks correspond answer a sheet alike: the same verdict, the same number of lines, and marks that correspond.
-  -- Line by line, from two places that differ in their marks alone. The end of the chain, 8 and 9 read no marks. A line that is entered is
-  -- judged alike: a refusal stops both with the marks that they have, and an accepted line strikes the same edge in both, open and of two
-  -- different points, so that the marks correspond again and the places behind it differ in nothing else.
+  -- Two markings whose marks correspond answer a sheet alike: the same verdict, the same number of lines, and marks
+  -- that correspond. Line by line, from two places that differ in their marks alone. The end of the chain, 8 and 9 read
+  -- no marks. A line that is entered is judged alike: a refusal stops both with the marks that they have, and an
+  -- accepted line strikes the same edge in both, open and of two different points, so that the marks correspond again
+  -- and the places behind it differ in nothing else.
   pub sheet-maps : (m : M) (m′ : N) → Same m m′ → SameResult Same (sheet 𝓜 s m) (sheet 𝓝 s m′)
   unfolding sheet linesFrom start
   sheet-maps m m′ same = lines-map (suc (records s)) m m′ 0 0 1 0 same

@@ -1,5 +1,6 @@
--- What a refusal of the walk tells: a number from 8 to 16, or 23 or 24, and a record of the sheet. So the fuel never runs out, and a verdict of 0 is an
--- acceptance. The record is the one entered, or the one that has the index, which was entered before.
+-- What a refusal of the walk tells: a number from 8 to 16, or 23 or 24, and a record of the sheet. So the fuel never
+-- runs out, and a verdict of 0 is an acceptance. The record is the one entered, or the one that has the index, which
+-- was entered before.
 use Prim.Native.Nat.{ℕ, zero, suc, _+_, _≤_, _<_}
 use mathlib.Core.Path.{_≡_, refl, sym, _∙_, subst}
 use mathlib.Core.Logic.{_⊎_, inl, inr, ⊎-elim}
@@ -16,7 +17,8 @@ use Rattle.argument.specs.Argument.{splitLimit}
 use Rattle.argument.specs.Layout.{Enters}
 use Rattle.argument.specs.Walk.{Spot, Step, ends, takes, entering, readCase, look, opening, behind, VisitStep, visitEnds, names, readVisit, lookVisit, actVisit, visitOn, visitBy, visited, closeByOrder, close, act, follow, walkBy, walk}
 use Rattle.argument.specs.Line.{Struck, strikes, judgeRecord, judge}
-use Rattle.argument.specs.Sheet.{Marking, Place, struck, start, Result, CompleteLines, Stops, ended, above, not-above, incomplete, Answers, RefusedAt}
+use Rattle.argument.specs.Sheet.{Marking, Place, struck, start, Result}
+use Rattle.argument.specs.Answers.{CompleteLines, Stops, ended, above, not-above, incomplete, Answers, RefusedAt}
 use Rattle.argument.proofs.Verdicts.{refused-accepted, refused-inj, guard-refused, refusedBy-refused, andThen-refused}
 use Rattle.argument.proofs.Steps.{LookSays, looked, look-end, look-on}
 use Rattle.argument.proofs.Visits.{visit-ends, visit-on, visit-named}

@@ -1,5 +1,5 @@
--- Safety in the abstract: what a tour in question uses is never struck, by a line or a sheet, and so not by a run of calls.
-use Prim.Native.Nat.{ℕ, _+_, _-_, _*_}
+-- Safety in the abstract: what a tour in question uses is never struck, by a line or a sheet.
+use Prim.Native.Nat.{ℕ}
 use mathlib.Core.Path.{_≡_, refl, sym, _∙_, ap, subst}
 use mathlib.Core.Logic.{inl, inr, ⊎-elim}
 use mathlib.Core.Bool.{Bool, true, false, _&&_, false≢true}
@@ -16,16 +16,17 @@ use Rattle.argument.specs.Layout.{Laid, Holds}
 use Rattle.argument.specs.Rules.{Rules, Lawful}
 use Rattle.argument.specs.Argument.{Cases, none, pair, Closing, split, threeOpt, reorder, names, Complete, AllComplete, CompleteArgument}
 use Rattle.argument.specs.Line.{Struck, strikes, judge}
-use Rattle.argument.specs.Sheet.{Marking, Place, onward, struck, lineStep, Result, answer, start, sheet, run}
+use Rattle.argument.specs.Sheet.{Marking, Place, onward, struck, lineStep, Result, answer, start, sheet}
 use Rattle.argument.specs.Safety.{OrderIn, OrdersIn, HasOrder, Upheld, Guarded}
 use Rattle.argument.proofs.Exact.{line-sound}
+use Rattle.argument.proofs.Records.{content-as}
 use Rattle.argument.proofs.Sheet.{StepSays, step-says, sheet-stop}
 
 -- a new order that is set down stands in a record of kind 4
 order-kind : (kind a b u v c d next : ℕ) {x y p q first more : ℕ} → content kind a b u v c d next ≡ case x y (reorders p q first) more → kind ≡ 4
-unfolding content bare
-order-kind kind a b u v c d next e =
-    eqb-true kind 4 (by (eqb kind 1) (eqb kind 2) (eqb kind 3) (eqb kind 4) (eqb kind 5) (eqb u 0 && eqb v 0) (eqb c 0 && eqb 0 0) (eqb b 0 && eqb u 0) (eqb v 0 && eqb c 0) (eqb d 0 && eqb 0 0) (ap isOrder e))
+order-kind kind a b u v c d next {x} {y} {p} {q} {first} {more} =
+    content-as (λ (r : Record). r ≡ case x y (reorders p q first) more → kind ≡ 4) kind a b u v c d next
+    (never other refl) (λ k. never _ refl) (λ k. never _ refl) (λ k. never _ refl) (λ k e. k) (λ k. never _ refl)
   where
     isOrder : Record → Bool
     isOrder (line a b c first next) = false
@@ -35,34 +36,8 @@ order-kind kind a b u v c d next e =
     isOrder (visit v next) = false
     isOrder other = false
 
-    by : (k1 k2 k3 k4 k5 z1 z4 z5 z6 z7 : Bool) →
-        isOrder (elim k1 [
-          | true ↦ elim z1 [ true ↦ line a b c d next | false ↦ other ]
-          | false ↦ elim k2 [
-            | true ↦ elim z1 [ true ↦ case a b (splits c d) next | false ↦ other ]
-            | false ↦ elim k3 [
-              | true ↦ case a b (threeOpts u v c d) next
-              | false ↦ elim k4 [
-                | true ↦ elim z4 [ true ↦ case a b (reorders u v d) next | false ↦ other ]
-                | false ↦ elim k5 [
-                  | true ↦ elim z5 [ true ↦ elim z6 [ true ↦ elim z7 [ true ↦ visit a next | false ↦ other ] | false ↦ other ] | false ↦ other ]
-                  | false ↦ other
-                ]
-              ]
-            ]
-          ]
-        ]) ≡ true → k4 ≡ true
-    by k1 k2 k3 true k5 z1 z4 z5 z6 z7 h = refl
-    by true k2 k3 false k5 true z4 z5 z6 z7 h = absurd (false≢true h)
-    by true k2 k3 false k5 false z4 z5 z6 z7 h = absurd (false≢true h)
-    by false true k3 false k5 true z4 z5 z6 z7 h = absurd (false≢true h)
-    by false true k3 false k5 false z4 z5 z6 z7 h = absurd (false≢true h)
-    by false false true false k5 z1 z4 z5 z6 z7 h = absurd (false≢true h)
-    by false false false false true z1 z4 true true true h = absurd (false≢true h)
-    by false false false false true z1 z4 true true false h = absurd (false≢true h)
-    by false false false false true z1 z4 true false z7 h = absurd (false≢true h)
-    by false false false false true z1 z4 false z6 z7 h = absurd (false≢true h)
-    by false false false false false z1 z4 z5 z6 z7 h = absurd (false≢true h)
+    never : (r : Record) → isOrder r ≡ false → r ≡ case x y (reorders p q first) more → kind ≡ 4
+    never r h e = absurd (false≢true (sym h ∙ ap isOrder e))
 
 module _ (s : List ℕ) where
   mutual
@@ -80,8 +55,9 @@ module _ (s : List ℕ) where
         record { i = i; readable = named; kind = order-kind (field s i 0) _ _ _ _ _ _ _ (reads ∙ ap (λ (h : How). case x y h next) (ho .1)) }
 
 module _ (R : Rules) (Good : List Edge → Type 0) (Orders : Type 0) (up : Upheld R Good Orders) where
-  -- A complete closing rules out K, if new orders in it may occur. Take the case of the tour's own pair, which is feasible and so is named, and go down: the tour uses that
-  -- case's K too. The tree ends in 3-opt closings, in new orders and in splits with no case, and none of these leaves room for the tour.
+  -- A complete closing rules out K, if new orders in it may occur. Take the case of the tour's own pair, which is
+  -- feasible and so is named, and go down: the tour uses that case's K too. The tree ends in 3-opt closings, in new
+  -- orders and in splits with no case, and none of these leaves room for the tour.
   mutual
     unfolding Complete names OrderIn
 
@@ -128,8 +104,8 @@ module _ {M : Type 0} (𝓜 : Marking M) (Good : List Edge → Type 0) (Orders :
           let at = l .at-line in
           subst (λ (q : Place M). Kept (q .marks)) (sym z) (safe .spares (p .marks) a b k (at .point-a) (at .point-b) (at .apart) (at .is-open) (λ g. line-safe (𝓜 .rules (p .marks)) Good Orders (safe .upheld (p .marks) k) law (𝓜 .open? (p .marks)) s may (p .index) a b next high g j))
 
-  -- A sheet, accepted or not, leaves the tour's edges open: no accepted line strikes one of them, since a closed argument for it would rule
-  -- the tour out, and nothing but an accepted line changes a mark.
+  -- A sheet, accepted or not, leaves the tour's edges open: no accepted line strikes one of them, since a closed
+  -- argument for it would rule the tour out, and nothing but an accepted line changes a mark.
   pub sheet-safe : (s : List ℕ) → (HasOrder s → Orders) → (m : M) → Kept m → Kept (sheet 𝓜 s m .marks)
   unfolding answer start
   sheet-safe s may m k =
@@ -153,9 +129,3 @@ module _ {M : Type 0} (𝓜 : Marking M) (Kept : M → Type 0) (strikes-keep : (
   sheet-keeps m k =
       let r = sheet-stop 𝓜 s (λ (p : Place M). Kept (p .marks)) step-keeps m k in
       subst (λ (x : Result M). Kept (x .marks)) (sym (r .3)) (r .2)
-
--- what every call keeps, a run keeps
-pub run-keeps : {M C : Type 0} (Kept : M → Type 0) (call : C → M → M) → ((c : C) (m : M) → Kept m → Kept (call c m)) → (cs : List C) (m : M) → Kept m → Kept (run call cs m)
-unfolding run
-run-keeps Kept call keeps [] m k = k
-run-keeps Kept call keeps (c ∷ cs) m k = run-keeps Kept call keeps cs (call c m) (keeps c m k)

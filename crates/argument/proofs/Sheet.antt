@@ -119,7 +119,8 @@ module _ {M : Type 0} (𝓜 : Marking M) (s : List ℕ) where
     unfolding proceed
     lines-go-on p′ e = lines-proceed p ∙ ap (proceed (linesFrom 𝓜 s) p) e
 
-  -- What every accepted line keeps, holds of the place where the sheet stops: its marks and its lines are those of the answer.
+  -- What every accepted line keeps, holds of the place where the sheet stops: its marks and its lines are
+  -- those of the answer.
   stops-with : (P : Place M → Type 0) → ((p p′ : Place M) → P p → lineStep 𝓜 s p ≡ accepted (onward p′) → P p′) → (fuel : ℕ) (p : Place M) → P p → (q : Place M) × (v : Verdict (Unit {0})) × P q × (linesBy 𝓜 s fuel p ≡ answer q v)
   unfolding linesBy proceed
   stops-with P keeps zero p k = (p, refused 0 0, k, refl)

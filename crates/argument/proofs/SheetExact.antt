@@ -1,4 +1,5 @@
--- What a sheet answers: exactly what a chain of complete lines, each under the marks it finds, and the place where it stops come to.
+-- What a sheet answers: exactly what a chain of complete lines, each under the marks it finds, and the place where
+-- it stops come to.
 use Prim.Native.Nat.{ℕ, zero, suc, _+_, _≤_, _<_}
 use mathlib.Core.Path.{_≡_, refl, sym, _∙_, ap, ap₂, subst}
 use mathlib.Core.Logic.{_↔_}
@@ -12,7 +13,8 @@ use Rattle.argument.specs.Record.{records}
 use Rattle.argument.specs.Rules.{Rules, Lawful}
 use Rattle.argument.specs.Layout.{Enters}
 use Rattle.argument.specs.Line.{Struck, strikes, judge, CompleteAt}
-use Rattle.argument.specs.Sheet.{Marking, Place, LineStep, over, onward, struck, lineStep, Result, answer, linesFrom, start, sheet, CompleteLines, Stops, ended, above, not-above, incomplete, Answers}
+use Rattle.argument.specs.Sheet.{Marking, Place, LineStep, over, onward, struck, lineStep, Result, answer, linesFrom, start, sheet}
+use Rattle.argument.specs.Answers.{CompleteLines, Stops, ended, above, not-above, incomplete, Answers}
 use Rattle.argument.proofs.Verdicts.{refused-accepted, refused-as}
 use Rattle.argument.proofs.Exact.{line-sound, line-complete}
 use Rattle.argument.proofs.Sheet.{LineMarked, step-says, step-over, step-8, step-9, step-stops, step-strikes, step-rises, lines-over, lines-stop, lines-go-on}
@@ -35,7 +37,8 @@ module _ {M : Type 0} (𝓜 : Marking M) (s : List ℕ) where
       struck-lines (strikes a b next high) = refl
 
 module _ {M : Type 0} (𝓜 : Marking M) (law : (m : M) → Lawful (𝓜 .rules m)) (s : List ℕ) where
-  -- a refused step stops for one of the reasons: 8, 9, or a line that is not complete, since a complete one would be accepted
+  -- a refused step stops for one of the reasons: 8, 9, or a line that is not complete, since a complete one
+  -- would be accepted
   refused-stops : (q : Place M) (m r : ℕ) → lineStep 𝓜 s q ≡ refused m r → Stops 𝓜 s q (refused m r)
   refused-stops q m r e =
       elim (decLe (q .index) (records s)) [
@@ -71,7 +74,8 @@ module _ {M : Type 0} (𝓜 : Marking M) (law : (m : M) → Lawful (𝓜 .rules 
   stopped q v (not-above z h l) = lines-stop 𝓜 s q 9 (q .last) (step-9 𝓜 s q z h l)
   stopped q v (incomplete {number} {rec} h l j) = lines-stop 𝓜 s q number rec (step-stops 𝓜 s q h number rec j)
 
-  -- and every answer comes of one: as many steps as there are records left above the highest entered, and one, are enough
+  -- and every answer comes of one: as many steps as there are records left above the highest entered,
+  -- and one, are enough
   lines-answer : (fuel : ℕ) (p : Place M) → 1 ≤ fuel → records s < fuel + p .high → Answers 𝓜 s p (linesFrom 𝓜 s p)
   unfolding CompleteLines answer
   lines-answer zero p h l = absurd (omega arith)
@@ -97,9 +101,10 @@ module _ {M : Type 0} (𝓜 : Marking M) (law : (m : M) → Lawful (𝓜 .rules 
       by (accepted (onward p′)) e ih = step p′ e (step-says 𝓜 s p (onward p′) e) (ih p′ e)
       by (refused m r) e ih = here (refused m r) (refused-stops p m r e)
 
-  -- A sheet answers r exactly when a chain of complete lines from record 1 on leads to a place where it stops with r's verdict, marks and
-  -- number of lines. From left to right, line by line: an accepted line is complete, and a refused step has its reason. From right to left,
-  -- every line of the chain is accepted, since it is complete, and the reason gives the verdict.
+  -- A sheet answers r exactly when a chain of complete lines from record 1 on leads to a place where it stops with r's
+  -- verdict, marks and number of lines. From left to right, line by line: an accepted line is complete, and a refused
+  -- step has its reason. From right to left, every line of the chain is accepted, since it is complete, and the reason
+  -- gives the verdict.
   pub sheet-exact : (m : M) (r : Result M) → (sheet 𝓜 s m ≡ r) ↔ Answers 𝓜 s (start m) r
   unfolding sheet start answer
   sheet-exact m r = (λ e. subst (Answers 𝓜 s (start m)) e (lines-answer (suc (records s)) (start m) (omega arith) (omega arith)), back)

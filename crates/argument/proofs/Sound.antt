@@ -1,6 +1,6 @@
 -- Soundness of the walk: what it accepts, some argument closes, and the records entered set that argument down.
--- Each step of an accepted chain hands over one case; the fuel is what the induction runs on. On the way K stays one that an argument comes
--- to, so the list that the walk goes by has exactly the feasible pairs.
+-- Each step of an accepted chain hands over one case; the fuel is what the induction runs on. On the way K stays one
+-- that an argument comes to, so the list that the walk goes by has exactly the feasible pairs.
 use Prim.Native.Nat.{ℕ, zero, suc, _≤_}
 use mathlib.Core.Path.{_≡_, refl, sym, _∙_, ap, subst}
 use mathlib.Core.List.{List, [], _∷_, List·Memᴰ·head, List·Memᴰ·tail}
@@ -20,7 +20,8 @@ use Rattle.argument.proofs.Tests.{HowFits}
 use Rattle.argument.proofs.Steps.{LookSays, looked}
 use Rattle.argument.proofs.Visits.{visited-says}
 
--- a walk stands rightly at q: its K is one that an argument comes to, its point is one of 1 to n, and the pairs left are feasible
+-- a walk stands rightly at q: its K is one that an argument comes to, its point is one of 1 to n, and the pairs
+-- left are feasible
 pub record SoundSpot (R : Rules) (q : Spot) : Type 0 where
   pub reached : Reached R (q .known)
   pub centre : Point (R .n) (q .point)

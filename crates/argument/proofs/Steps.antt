@@ -68,8 +68,8 @@ module _ (R : Rules) (s : List ℕ) (q : Spot) where
   looks-on {a} {b} {how} {next} t =
       look-on (λ z. omega (arith, t .entered)) ∙ pass-entering _ _ _ _ _ (t .entered) ∙ ap (readCase R q) (t .reads) ∙ pass-guard _ _ _ _ (means-fits (t .fit)) ∙ pass-guard _ _ _ _ (is-next _ a b _ (t .named))
 
-  -- the refusals of one step in front of its record, each with the facts under which it is the first to apply: 14 at a chain's end, 8 and
-  -- 9 of the index
+  -- the refusals of one step in front of its record, each with the facts under which it is the first to apply: 14 at a
+  -- chain's end, 8 and 9 of the index
   pub refuse-end : q .index ≡ 0 → noneLeft (q .pairs) ≡ false → look R s q ≡ refused 14 (q .last)
   refuse-end i e = look-end i ∙ fail-guard _ 14 (q .last) _ e
 

@@ -1,4 +1,5 @@
--- Chains of points (02, Paper 10): what an accepted one says of the records, that the fuel does not matter, and the other way round. Assumes nothing.
+-- Chains of points (02, Paper 10): what an accepted one says of the records, that the fuel does not matter, and the
+-- other way round. Assumes nothing.
 use Prim.Native.Nat.{ℕ, zero, suc, _+_, _≤_, _<_}
 use mathlib.Core.Path.{_≡_, refl, sym, _∙_, ap, subst}
 use mathlib.Core.Bool.{Bool, true, false}

@@ -1,5 +1,6 @@
 -- How an argument is set down in records (01, "The sheet").
--- `high` is the highest record entered before the part that is spoken of, and `after` the highest entered when it is done.
+-- `high` is the highest record entered before the part that is spoken of, and `after` the highest entered
+-- when it is done.
 use Prim.Native.Nat.{ℕ, _≤_, _<_}
 use mathlib.Core.Path.{_≡_}
 use mathlib.Core.List.{List, [], _∷_}
@@ -16,13 +17,15 @@ unfoldable pub Visits : (s : List ℕ) (high i : ℕ) → List ℕ → (after : 
 Visits s high i [] after = (i ≡ 0) × (after ≡ high)
 Visits s high i (v ∷ vs) after = (next : ℕ) × Enters s high i × (recordAt s i ≡ visit v next) × Visits s i next vs after
 
--- the records from i on set down a chain of cases. "Index 0 ends a chain", and "a split's chain is followed to its end before
--- the next index of the record that holds the split": `middle` is the highest record entered when the first case is closed.
+-- the records from i on set down a chain of cases. "Index 0 ends a chain", and "a split's chain is followed
+-- to its end before the next index of the record that holds the split": `middle` is the highest record entered when the
+-- first case is closed.
 unfoldable mutual
   pub Laid : (s : List ℕ) (high i : ℕ) → Cases → (after : ℕ) → Type 0
   Laid s high i none after = (i ≡ 0) × (after ≡ high)
   Laid s high i (pair x y t rest) after =
-      (how : How) × (next : ℕ) × (middle : ℕ) × Enters s high i × (recordAt s i ≡ case x y how next) × Holds s i how t middle × Laid s middle next rest after
+      (how : How) × (next : ℕ) × (middle : ℕ)
+      × Enters s high i × (recordAt s i ≡ case x y how next) × Holds s i how t middle × Laid s middle next rest after
 
   -- what the record i holds as its closing sets down a closing
   pub Holds : (s : List ℕ) (i : ℕ) → How → Closing → (after : ℕ) → Type 0

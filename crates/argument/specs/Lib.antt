@@ -6,5 +6,6 @@ pub mod Layout
 pub mod Walk
 pub mod Line
 pub mod Sheet
+pub mod Answers
 pub mod Safety
 pub mod Maps

@@ -1,5 +1,5 @@
--- One line, judged under given rules and a given open test (01, "Mark a sheet"), and what it is for a line to be complete.
--- Judging changes no mark: an accepted line says which edge it strikes.
+-- One line, judged under given rules and a given open test (01, "Mark a sheet"), and what it is for a
+-- line to be complete. Judging changes no mark: an accepted line says which edge it strikes.
 use Prim.Native.Nat.{ℕ}
 use mathlib.Core.Bool.{Bool, true}
 use mathlib.Core.List.{List, [], _∷_}
@@ -16,7 +16,8 @@ use Rattle.argument.specs.Walk.{close, walk}
 pub data Struck : Type 0 where
   strikes : (a b next high : ℕ) → Struck
 
--- a line entered as record i: "10, wrong kind for its chain ..; 11 ..; 12, edge struck already", and then its split under K = {ab}
+-- a line entered as record i: "10, wrong kind for its chain ..; 11 ..; 12, edge struck already", and then its
+-- split under K = {ab}
 unfoldable pub judgeRecord : Rules → (open? : ℕ → ℕ → Bool) (s : List ℕ) (i : ℕ) → Record → Verdict Struck
 judgeRecord R open? s i (line a b c first next) =
     guard (fits (R .n) a b (splits c first)) 11 i λ _.
@@ -46,6 +47,7 @@ pub record CompleteLine (R : Rules) (open? : ℕ → ℕ → Bool) (s : List ℕ
   pub argument : CompleteArgument R a b c cases
   pub laid : Laid s i first cases high
 
--- the same of what an accepted line answers, which stands for a complete line where its edge and indexes are not at issue
+-- the same of what an accepted line answers, which stands for a complete line where its edge and indexes
+-- are not at issue
 abbrev pub CompleteAt : Rules → (open? : ℕ → ℕ → Bool) (s : List ℕ) (i : ℕ) → Struck → Type 0
 CompleteAt R open? s i (strikes a b next high) = CompleteLine R open? s i a b next high

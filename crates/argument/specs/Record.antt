@@ -23,8 +23,9 @@ pub record Readable (s : List ℕ) (i : ℕ) : Type 0 where
 unfoldable pub field : List ℕ → ℕ → ℕ → ℕ
 field s i f = getD s ((i - 1) * recordSize + f) 0
 
--- how a case is closed: by a split at c whose first case is the record `first`, by 3-opt (01's crossing) with the edge pq and the centres r and s, or by a new
--- order of the segment from u to v whose first point the record `first` names (02, Paper 10)
+-- how a case is closed: by a split at c whose first case is the record `first`, by 3-opt (01's crossing) with the edge
+-- pq and the centres r and s, or by a new order of the segment from u to v whose first point the record `first`
+-- names (02, Paper 10)
 pub data How : Type 0 where
   splits : (c first : ℕ) → How
   threeOpts : (p q r s : ℕ) → How
@@ -41,8 +42,9 @@ pub data Record : Type 0 where
 unfoldable pub bare : (u v : ℕ) → Record → Record
 bare u v r = elim (eqb u 0 && eqb v 0) [ true ↦ r | false ↦ other ]
 
--- "Kind 1, a line: .. Kind 2, a case with a split: .. Kind 3, a case with a crossing: .."; 02, Paper 10: "Kind 4 is a case with pair a, b, stretch ends u and v, c 0, and d the
--- first of a chain of kind 5 records. Each kind 5 record names one point in a; its other fields but next are 0"
+-- "Kind 1, a line: .. Kind 2, a case with a split: .. Kind 3, a case with a crossing: .."; 02, Paper 10: "Kind 4 is a
+-- case with pair a, b, stretch ends u and v, c 0, and d the first of a chain of kind 5 records. Each kind 5 record
+-- names one point in a; its other fields but next are 0"
 unfoldable pub content : (kind a b u v c d next : ℕ) → Record
 content kind a b u v c d next =
     elim (eqb kind 1) [

@@ -1,5 +1,6 @@
--- All that arguments know of the rules: which pairs are feasible, and which 3-opt closings and new orders settle a case; and what the walk computes for these.
--- Lengths, marks and cycles are not seen here; `Lawful` is what the rules have to prove of themselves.
+-- All that arguments know of the rules: which pairs are feasible, and which 3-opt closings and new orders settle a
+-- case; and what the walk computes for these. Lengths, marks and cycles are not seen here; `Lawful` is what the rules
+-- have to prove of themselves.
 use Prim.Native.Nat.{ℕ, _≤_, _<_}
 use mathlib.Core.Path.{_≡_}
 use mathlib.Core.Bool.{Bool, true}
@@ -50,7 +51,8 @@ pub record NamesFeasible (R : Rules) (K : List Edge) (c : ℕ) (named : List Edg
   pub rising : Rising named
   pub exactly : (x y : ℕ) → Among named x y ↔ R .Feasible K c x y
 
--- the sets K that an argument comes to: an edge of two different points, and such a set with a pair that is feasible there
+-- the sets K that an argument comes to: an edge of two different points, and such a set with a pair that
+-- is feasible there
 pub data Reached (R : Rules) : List Edge → Type 0 where
   single : {a b : ℕ} → Point (R .n) a → Point (R .n) b → (a ≡ b → ⊥) → Reached R (edge a b ∷ [])
   grown : {K : List Edge} {c x y : ℕ} → Reached R K → Point (R .n) c → R .Feasible K c x y → Reached R (withPair K c x y)
@@ -62,12 +64,17 @@ pub record Lawful (R : Rules) : Type 0 where
   -- a feasible pair is two points, the lower first
   pub pair-points : (K : List Edge) (c x y : ℕ) → R .Feasible K c x y → Point (R .n) x × Point (R .n) y × (x < y)
   -- a 3-opt closing that settles K names points
-  pub three-opt-points : (K : List Edge) (p q r s : ℕ) → Reached R K → R .Settles K p q r s → Point (R .n) p × Point (R .n) q × Point (R .n) r × Point (R .n) s
-  -- a new order settles K exactly where there is a segment and the number is 0, on every set that an argument comes to; it names points, and is refused by 23 or 24
-  pub reordered : (K : List Edge) (u v : ℕ) (vs : List ℕ) → Reached R K → R .segment K u v ≡ true → R .reordering K u v vs ≡ 0 → R .Reorders K u v vs
+  pub three-opt-points : (K : List Edge) (p q r s : ℕ) → Reached R K → R .Settles K p q r s
+      → Point (R .n) p × Point (R .n) q × Point (R .n) r × Point (R .n) s
+  -- a new order settles K exactly where there is a segment and the number is 0, on every set that an argument comes to;
+  -- it names points, and is refused by 23 or 24
+  pub reordered : (K : List Edge) (u v : ℕ) (vs : List ℕ) → Reached R K → R .segment K u v ≡ true → R .reordering K u v vs ≡ 0
+      → R .Reorders K u v vs
   pub has-segment : (K : List Edge) (u v : ℕ) (vs : List ℕ) → Reached R K → R .Reorders K u v vs → R .segment K u v ≡ true
   pub reorders : (K : List Edge) (u v : ℕ) (vs : List ℕ) → Reached R K → R .Reorders K u v vs → R .reordering K u v vs ≡ 0
-  pub reorder-points : (K : List Edge) (u v : ℕ) (vs : List ℕ) → Reached R K → R .Reorders K u v vs → Point (R .n) u × Point (R .n) v × Points (R .n) vs
-  pub reordering-number : (K : List Edge) (u v : ℕ) (vs : List ℕ) → 1 ≤ R .reordering K u v vs → (23 ≤ R .reordering K u v vs) × (R .reordering K u v vs ≤ 24)
+  pub reorder-points : (K : List Edge) (u v : ℕ) (vs : List ℕ) → Reached R K → R .Reorders K u v vs
+      → Point (R .n) u × Point (R .n) v × Points (R .n) vs
+  pub reordering-number : (K : List Edge) (u v : ℕ) (vs : List ℕ) → 1 ≤ R .reordering K u v vs
+      → (23 ≤ R .reordering K u v vs) × (R .reordering K u v vs ≤ 24)
   -- a 3-opt closing is refused by 15 or 16
   pub closing-number : (K : List Edge) (p q r s : ℕ) → 1 ≤ R .closing K p q r s → (15 ≤ R .closing K p q r s) × (R .closing K p q r s ≤ 16)

@@ -29,7 +29,8 @@ pub record HasOrder (s : List ℕ) : Type 0 where
   pub readable : Readable s i
   pub kind : field s i 0 ≡ 4
 
--- `Orders` says whether new orders may occur: the tour is safe from them only where it does, as a shortest one is, and a 3-optimal one need not be
+-- `Orders` says whether new orders may occur: the tour is safe from them only where it does, as a shortest one is, and
+-- a 3-optimal one need not be
 pub record Upheld (R : Rules) (Good : List Edge → Type 0) (Orders : Type 0) : Type 0 where
   -- the tour's own pair at a point is feasible, and the tour uses K with it
   pub keeps : (K : List Edge) (c : ℕ) → Good K → Point (R .n) c → (x : ℕ) × (y : ℕ) × R .Feasible K c x y × Good (withPair K c x y)

@@ -1,5 +1,6 @@
 -- The walk through an argument's records, with 01's refusals in 01's order ("Each operation and its refusals").
--- `follow` and `close` are open: they take what to do with a further chain as `go`, and `walk` is the one that goes on as itself.
+-- `follow` and `close` are open: they take what to do with a further chain as `go`, and `walk` is the one that
+-- goes on as itself.
 use Prim.Native.Nat.{ℕ, zero, suc, _-_}
 use mathlib.Core.Bool.{Bool, true, false, _&&_}
 use mathlib.Core.List.{List, [], _∷_, _++_}
@@ -26,7 +27,8 @@ pub record Spot : Type 0 where
   -- the highest record entered
   pub high : ℕ
 
--- "on each index followed: 8, above the record count; 9, not above the highest record entered; both name the record that has the index"
+-- "on each index followed: 8, above the record count; 9, not above the highest record entered; both name the record
+-- that has the index"
 unfoldable pub entering : {A : Type 0} → (s : List ℕ) (last high i : ℕ) → (Unit {0} → Verdict A) → Verdict A
 entering s last high i go =
     guard (leb i (records s)) 8 last λ _.
@@ -73,7 +75,8 @@ opening R left K i c first = record { left = left - 1; known = K; point = c; pai
 
 -- the chain behind a case whose record is the one at q's index
 unfoldable pub behind : Spot → (next high : ℕ) → Spot
-behind q next high = record { left = q .left; known = q .known; point = q .point; pairs = rest (q .pairs); last = q .index; index = next; high = high }
+behind q next high =
+    record { left = q .left; known = q .known; point = q .point; pairs = rest (q .pairs); last = q .index; index = next; high = high }
 
 -- what a chain of points does at its next index (02, Paper 10): it ends, or it names a point
 pub data VisitStep : Type 0 where
@@ -115,13 +118,15 @@ visitBy n s (suc fuel) order high i = visitOn n s (visitBy n s fuel) order high 
 unfoldable pub visited : ℕ → List ℕ → (order : List ℕ) (high i : ℕ) → Verdict Visited
 visited n s order high i = visitBy n s (suc (records s)) order high i
 
--- a new order that record i holds, where `there` says whether there is a segment and `number` what an order of it is refused by: "23, no such stretch, tested before the
--- chain is entered, or not its inner points, tested when the chain has ended; 24, not shorter, after that"
+-- a new order that record i holds, where `there` says whether there is a segment and `number` what an order of it is
+-- refused by: "23, no such stretch, tested before the chain is entered, or not its inner points, tested when the chain
+-- has ended; 24, not shorter, after that"
 unfoldable pub closeByOrder : (n : ℕ) (there : Bool) (number : List ℕ → ℕ) (s : List ℕ) (i first : ℕ) → Verdict ℕ
-closeByOrder n there number s i first = guard there 23 i λ _. andThen (visited n s [] i first) λ r. refusedBy (number (r .order)) i (r .high)
+closeByOrder n there number s i first =
+    guard there 23 i λ _. andThen (visited n s [] i first) λ r. refusedBy (number (r .order)) i (r .high)
 
--- the closing that record i holds, under K with its pair: "13, a seventh split; 15, a crossing's edge or centres break a condition
--- above; 16, no labelling saves"; or 23 and 24 of a new order. It answers the highest record entered.
+-- the closing that record i holds, under K with its pair: "13, a seventh split; 15, a crossing's edge or centres
+-- break a condition above; 16, no labelling saves"; or 23 and 24 of a new order. It answers the highest record entered.
 unfoldable pub close : Rules → List ℕ → (go : Spot → Verdict ℕ) (left : ℕ) (K : List Edge) (i : ℕ) → How → Verdict ℕ
 close R s go left K i (splits c first) = guard (ltb 0 left) 13 i λ _. go (opening R left K i c first)
 close R s go left K i (threeOpts p q r u) = refusedBy (R .closing K p q r u) i i

@@ -1,14 +1,15 @@
--- The closing's test is exact: `threeOptOutcome` answers Settled exactly when the closing settles K, NoMoves (refusal 15) exactly when
--- no ends make the edge and the centres a 3-opt closing, and NoSaving (refusal 16) in the cases left. Assumes nothing.
+-- The closing's test is exact: `threeOptOutcome` answers Settled exactly when the closing settles K, NoMoves (refusal
+-- 15) exactly when no ends make the edge and the centres a 3-opt closing, and NoSaving (refusal 16) in the cases left.
+-- Assumes nothing.
 use Prim.Native.Nat.{ℕ}
 use mathlib.Core.Path.{_≡_, refl, sym, _∙_}
 use mathlib.Core.Bool.{Bool, true, false, not, cond, false≢true}
 use mathlib.Core.List.{List}
-use mathlib.Core.Logic.{_⊎_, inl, inr, ⊎-elim, _↔_}
+use mathlib.Core.Logic.{_⊎_, inr, ⊎-elim, _↔_}
 use native.Mathlib.Omega.{arith}
 use lib.Dec.{eqb}
 use borrow.Author.Tests.{eqb-false, ne-eqb, not-true}
-use Rattle.lists.specs.Saving.{gains?}
+use Rattle.lengths.specs.Saving.{gains?}
 use Rattle.lengths.specs.Edge.{Edge}
 use Rattle.sets.specs.EdgeSet.{DegreeTwo}
 use Rattle.closings.proofs.Savings.{label-test, crossing-test}
@@ -21,7 +22,7 @@ use Rattle.sets.specs.declared.neighbours.Ends.the-variants.{Two, Other}
 use Rattle.closings.specs.declared.closing.ThreeOptOutcome.the-variants.{Settled, NoMoves, NoSaving}
 use Rattle.lists.proofs.Bools.{and-true, or-true, true-or}
 use Rattle.sets.proofs.Laws.Joined.{has-exact}
-use Rattle.sets.proofs.Laws.Neighbours.{ends-sound, ends-complete}
+use Rattle.sets.proofs.Laws.Neighbours.{ends-turned, ends-sound, ends-complete}
 use Rattle.closings.proofs.ClosingTests.{unplaced, no-ends-r, no-ends-s, both-ends, answer}
 
 -- the three answers are different, and so are the two of `endsOf`
@@ -39,16 +40,6 @@ no-ends K r x y e h = ⊎-elim (differ x y) (differ y x) (ends-complete K r x y 
   where
     differ : (a b : ℕ) → endsOf K r ≡ Two a b → ⊥
     differ a b f = let z : _≡_ {A = ℕ} 0 1 = cc in omega arith
-
--- the ends of a centre, named the other way round
-ends-swap : {K : List Edge} {r x y : ℕ} → DegreeTwo K r x y → DegreeTwo K r y x
-ends-swap h =
-    record {
-      apart = λ e. h .apart (sym e);
-      has-x = h .has-y;
-      has-y = h .has-x;
-      only = λ v k. ⊎-elim inr inl (h .only v k);
-    }
 
 -- the edge and the centres: the test and the conditions
 module _ (K : List Edge) (p q r s : ℕ) where
@@ -133,9 +124,9 @@ module _ (out put : ℕ → ℕ → ℕ) (p q r s : ℕ) where
   unfolding labelling?
   closes-of {K} x y z w h c =
       ⊎-elim (λ e. by x y z w (c .ends-r) (c .ends-s) e)
-      (λ h. ⊎-elim (λ e. by x y w z (c .ends-r) (ends-swap (c .ends-s)) e)
-      (λ h. ⊎-elim (λ e. by y x z w (ends-swap (c .ends-r)) (c .ends-s) e)
-      (λ e. by y x w z (ends-swap (c .ends-r)) (ends-swap (c .ends-s)) e)
+      (λ h. ⊎-elim (λ e. by x y w z (c .ends-r) (ends-turned (c .ends-s)) e)
+      (λ h. ⊎-elim (λ e. by y x z w (ends-turned (c .ends-r)) (c .ends-s) e)
+      (λ e. by y x w z (ends-turned (c .ends-r)) (ends-turned (c .ends-s)) e)
       (or-true _ _ h))
       (or-true _ _ h))
       (or-true _ _ h)
@@ -168,11 +159,12 @@ data TestFinds (out put : ℕ → ℕ → ℕ) (K : List Edge) (p q r s : ℕ) :
   some : (x y z w : ℕ) → ThreeOptMoves K p q r s x y z w → threeOptOutcome out put K p q r s ≡ cond (labelling? out put p q r s x y z w) Settled NoSaving
       → TestFinds out put K p q r s
 
--- The proof of the three theorems. The tests of pq, of the centres and of rs are 01's conditions one for one, so a 3-opt closing passes
--- them, and where they pass only the ends are open. `endsOf` answers two ends exactly where a centre has them; so the test finds no
--- 3-opt closing, or the ends x, y, z, w of one. Whoever names the ends of the same centres names these, each pair in this order or swapped:
--- a labelling that saves under one choice of names is one of the four under every other. So the four tests at the ends found decide
--- whether any choice of names saves on both moves, which is what `Closes` asks.
+-- The proof of the three theorems. The tests of pq, of the centres and of rs are 01's conditions one for one, so a
+-- 3-opt closing passes them, and where they pass only the ends are open. `endsOf` answers two ends exactly where a
+-- centre has them; so the test finds no 3-opt closing, or the ends x, y, z, w of one. Whoever names the ends of the
+-- same centres names these, each pair in this order or swapped:
+-- a labelling that saves under one choice of names is one of the four under every other. So the four tests at the
+-- ends found decide whether any choice of names saves on both moves, which is what `Closes` asks.
 module _ (out put : ℕ → ℕ → ℕ) (K : List Edge) (p q r s : ℕ) where
   judged : TestFinds out put K p q r s
   judged = go (placed? K p q r s) refl (endsOf K r) refl (endsOf K s) refl

@@ -7,8 +7,8 @@ use mathlib.Core.Logic.{_⊎_, inl, inr, ⊎-elim}
 use native.Mathlib.Omega.{arith}
 use lib.IntN.{ℤ}
 use lib.Signed.{_≤ℤ_}
-use Rattle.lists.specs.Saving.{saving, smaller, larger}
-use Rattle.lists.proofs.Extremes.{at-most-trans, larger-is, larger-turned, larger-three, smaller-turned}
+use Rattle.lengths.specs.Saving.{saving, smaller, larger}
+use Rattle.lengths.proofs.Extremes.{at-most-trans, larger-is, larger-turned, larger-three, smaller-turned}
 use Rattle.closings.specs.Closing.{firstSaving, secondSaving, labelSaving, crossingSaving}
 
 -- the largest of four savings

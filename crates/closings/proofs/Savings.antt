@@ -1,4 +1,5 @@
--- The savings of a crossing, as 01's inequalities: a labelling saves exactly when both moves shorten, and the best of the four saves exactly when one does. Assumes nothing.
+-- The savings of a crossing, as 01's inequalities: a labelling saves exactly when both moves shorten, and the best of
+-- the four saves exactly when one does. Assumes nothing.
 use Prim.Native.Nat.{ℕ, _+_, _<_}
 use mathlib.Core.Path.{_≡_, sym, _∙_, ap, ap₂}
 use mathlib.Core.Bool.{Bool, true, false, _&&_, _||_}
@@ -6,9 +7,9 @@ use mathlib.Core.Logic.{_↔_}
 use lib.Dec.{ltb}
 use lib.IntN.{ℤ}
 use borrow.Author.Tests.{ltb-true, lt-ltb}
-use Rattle.lists.specs.Saving.{saving, gains?, smaller, larger}
+use Rattle.lengths.specs.Saving.{saving, gains?, smaller, larger}
 use Rattle.lists.proofs.Bools.{and-left, and-right, and-both, and-stop, and-go}
-use Rattle.lists.proofs.Savings.{gains-iff, gains-smaller, gains-larger}
+use Rattle.lengths.proofs.Savings.{gains-iff, gains-smaller, gains-larger}
 use Rattle.closings.specs.Closing.{firstSaving, secondSaving, labelSaving, crossingSaving, Saves}
 use Rattle.closings.specs.ClosingTest.{saves?, labelling?}
 

@@ -4,7 +4,7 @@ use mathlib.Core.Path.{_≡_}
 use mathlib.Core.Bool.{true}
 use mathlib.Core.List.{List}
 use lib.IntN.{ℤ}
-use Rattle.lists.specs.Saving.{saving, gains?, smaller, larger}
+use Rattle.lengths.specs.Saving.{saving, gains?, smaller, larger}
 use Rattle.lengths.specs.Edge.{Edge}
 use Rattle.sets.specs.EdgeSet.{Has, DegreeTwo}
 
@@ -23,13 +23,16 @@ labelSaving out put p q r s x y z w = smaller (firstSaving out put p q r s x w) 
 -- "and of four labellings the best"
 unfoldable pub crossingSaving : (out put : ℕ → ℕ → ℕ) → (p q r s x y z w : ℕ) → ℤ
 crossingSaving out put p q r s x y z w =
-    larger (labelSaving out put p q r s x y z w) (larger (labelSaving out put p q r s x y w z) (larger (labelSaving out put p q r s y x z w) (labelSaving out put p q r s y x w z)))
+    larger (labelSaving out put p q r s x y z w)
+    (larger (labelSaving out put p q r s x y w z)
+    (larger (labelSaving out put p q r s y x z w) (labelSaving out put p q r s y x w z)))
 
 -- both 3-opt moves shorten
 abbrev pub Saves : (out put : ℕ → ℕ → ℕ) → (p q r s x y z w : ℕ) → Type 0
 Saves out put p q r s x y z w = gains? (labelSaving out put p q r s x y z w) ≡ true
 
--- the 3-opt moves of 01's crossing: what its edge pq and centres r and s have to be, with x, y the other ends of r and z, w those of s (refusal 15)
+-- the 3-opt moves of 01's crossing: what its edge pq and centres r and s have to be, with x, y the other ends of r and
+-- z, w those of s (refusal 15)
 pub record ThreeOptMoves (K : List Edge) (p q r s x y z w : ℕ) : Type 0 where
   pub edge-of-K : Has K p q
   pub centres : r ≡ s → ⊥

@@ -1,5 +1,5 @@
--- The 3-opt closing as a test that computes, over the lengths of what is taken out and of what is put in and any list of edges: the twin of `Closes`.
--- Below it stands what the functions of src/closing.rt require of their arguments.
+-- The 3-opt closing as a test that computes, over the lengths of what is taken out and of what is put in and any list
+-- of edges: the twin of `Closes`. Below it stands what the functions of src/closing.rt require of their arguments.
 use Prim.Native.Nat.{ℕ, _+_}
 use mathlib.Core.Bool.{Bool, not, _&&_, _||_, cond}
 use mathlib.Core.List.{List}

@@ -1,5 +1,5 @@
-// The 3-opt closing (01, "Arguments": a crossing): its conditions, and the labelling that saves on both moves. What is taken out is measured by the table `out`,
-// what is put in by the table `put`.
+// The 3-opt closing (01, "Arguments": a crossing): its conditions, and the labelling that saves on both moves. What is
+// taken out is measured by the table `out`, what is put in by the table `put`.
 use lengths::saving::saving;
 use lengths::sums::length_of_three;
 use sets::edge_set::EdgeSet;
@@ -7,7 +7,7 @@ use sets::neighbours::Ends;
 use sets::neighbours::ends_of;
 ghost use mathlib.Core.Path.{_≡_};
 ghost use Rattle.endian.specs.Bytes.{whole32};
-ghost use Rattle.lengths.specs.Table.{lengthOf};
+ghost use Rattle.lengths.specs.Table.{lengthIn};
 ghost use Rattle.closings.specs.ClosingTest.{centresApart?, placed?, saves?, labelling?, threeOptOutcome};
 ghost use Rattle.closings.specs.asks.ClosingTest.{Labelled, ThreeOptAsked, pick};
 ghost use Rattle.sets.specs.asks.Stored.{edgeList, Stored};
@@ -19,7 +19,8 @@ pub enum ThreeOptOutcome {
     NoSaving,
 }
 
-// Do both moves save by this labelling, rs, px, qw for pq, rx, sw, and rs, pz, qy for pq, ry, sz? The second is looked at where the first does.
+// Do both moves save by this labelling, rs, px, qw for pq, rx, sw, and rs, pz, qy for pq, ry, sz? The second is looked
+// at where the first does.
 fn both_moves_save(
     n: u16,
     out: &[u8],
@@ -34,7 +35,7 @@ fn both_moves_save(
     w: u16,
 ) -> bool
     requires { ⌜ Labelled n (whole32 (now out)) p q r s x y z w × Labelled n (whole32 (now put)) p q r s x y z w ⌝ }
-    ensures { λ b. ⌜ b ≡ saves? (lengthOf n (whole32 (now (out .entry)))) (lengthOf n (whole32 (now (put .entry)))) p q r s x y z w ⌝ }
+    ensures { λ b. ⌜ b ≡ saves? (lengthIn n (now (out .entry))) (lengthIn n (now (put .entry))) p q r s x y z w ⌝ }
 {
     let old = length_of_three(n, out, p, q, r, x, s, w);
     if saving(old, length_of_three(n, put, r, s, p, x, q, w)) > 0 {
@@ -69,7 +70,7 @@ fn some_labelling_saves(
     w: u16,
 ) -> bool
     requires { ⌜ Labelled n (whole32 (now out)) p q r s x y z w × Labelled n (whole32 (now put)) p q r s x y z w ⌝ }
-    ensures { λ b. ⌜ b ≡ labelling? (lengthOf n (whole32 (now (out .entry)))) (lengthOf n (whole32 (now (put .entry)))) p q r s x y z w ⌝ }
+    ensures { λ b. ⌜ b ≡ labelling? (lengthIn n (now (out .entry))) (lengthIn n (now (put .entry))) p q r s x y z w ⌝ }
 {
     let mut saves = false;
     'swaps: for i in 0..2u8 {
@@ -142,7 +143,7 @@ pub fn close_by_three_opt(
     s: u16,
 ) -> ThreeOptOutcome
     requires { ⌜ ThreeOptAsked n (whole32 (now out)) k p q r s × ThreeOptAsked n (whole32 (now put)) k p q r s ⌝ }
-    ensures { λ c. ⌜ c ≡ threeOptOutcome (lengthOf n (whole32 (now (out .entry)))) (lengthOf n (whole32 (now (put .entry)))) (edgeList k) p q r s ⌝ }
+    ensures { λ c. ⌜ c ≡ threeOptOutcome (lengthIn n (now (out .entry))) (lengthIn n (now (put .entry))) (edgeList k) p q r s ⌝ }
 {
     if !well_placed(k, p, q, r, s) {
         return ThreeOptOutcome::NoMoves;

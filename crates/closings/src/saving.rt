@@ -1,11 +1,12 @@
-// How much a 3-opt closing saves (02, Paper 5: a crossing), by a table of what is taken out and a table of what is put in.
+// How much a 3-opt closing saves (02, Paper 5: a crossing), by a table of what is taken out and a table
+// of what is put in.
 use lengths::saving::larger;
 use lengths::saving::saving;
 use lengths::saving::smaller;
 use lengths::sums::length_of_three;
 ghost use mathlib.Core.Path.{_≡_};
 ghost use Rattle.endian.specs.Bytes.{whole32};
-ghost use Rattle.lengths.specs.Table.{lengthOf};
+ghost use Rattle.lengths.specs.Table.{lengthIn};
 ghost use Rattle.closings.specs.Closing.{labelSaving, crossingSaving};
 ghost use Rattle.closings.specs.asks.ClosingTest.{Labelled};
 
@@ -24,7 +25,7 @@ fn label_saving(
     w: u16,
 ) -> i64
     requires { ⌜ Labelled n (whole32 (now out)) p q r s x y z w × Labelled n (whole32 (now put)) p q r s x y z w ⌝ }
-    ensures { λ a. ⌜ a ≡ labelSaving (lengthOf n (whole32 (now (out .entry)))) (lengthOf n (whole32 (now (put .entry)))) p q r s x y z w ⌝ }
+    ensures { λ a. ⌜ a ≡ labelSaving (lengthIn n (now (out .entry))) (lengthIn n (now (put .entry))) p q r s x y z w ⌝ }
 {
     let first = saving(
         length_of_three(n, out, p, q, r, x, s, w),
@@ -52,7 +53,7 @@ pub fn crossing_saving(
     w: u16,
 ) -> i64
     requires { ⌜ Labelled n (whole32 (now out)) p q r s x y z w × Labelled n (whole32 (now put)) p q r s x y z w ⌝ }
-    ensures { λ a. ⌜ a ≡ crossingSaving (lengthOf n (whole32 (now (out .entry)))) (lengthOf n (whole32 (now (put .entry)))) p q r s x y z w ⌝ }
+    ensures { λ a. ⌜ a ≡ crossingSaving (lengthIn n (now (out .entry))) (lengthIn n (now (put .entry))) p q r s x y z w ⌝ }
 {
     let as_named = label_saving(n, out, put, p, q, r, s, x, y, z, w);
     let s_swapped = label_saving(n, out, put, p, q, r, s, x, y, w, z);

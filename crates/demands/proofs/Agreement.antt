@@ -13,7 +13,6 @@ use Rattle.lengths.proofs.Limits.{order-same}
 use Rattle.lists.specs.Test.{allAtMost, eachAtMost, unless}
 use Rattle.marks.specs.Mark.{struckMark}
 use Rattle.marks.specs.Packed.{marksOf}
-use Rattle.argument.specs.Sheet.{run}
 use Rattle.admission.specs.Tests.{testedTable, testedLimits, untilMarks, testedBetween, readyBetween, tested, untilPending, ready}
 use Rattle.marking.specs.MarkBetween.{markBetween, markBetweenPacked}
 use Rattle.marking.specs.ListBetween.{listedBetween}
@@ -24,7 +23,7 @@ use Rattle.admission.specs.declared.tested.Tested.{Tested}
 use Rattle.admission.specs.declared.tested.Tested.the-variants.{Points, Refused}
 use Rattle.revosti.specs.Between.{markBetweenInC}
 use Rattle.revosti.specs.Mark.{markInC}
-use Rattle.demands.specs.Run.{Call, Step, marking, marking-between, oneTable, stepped, stepsOf}
+use Rattle.demands.specs.Run.{Call, Step, marking, marking-between, oneTable, stepped, stepsOf, run}
 
 module _ (n : ℕ) (table marks : List ℕ) where
   -- the tests: 2 and 5 made a second time refuse nothing more, and 25 refuses nothing

@@ -17,7 +17,8 @@ use Rattle.marks.specs.Mark.{markAt, setMark, openMark, openUpTo, openIn, markI
 use Rattle.marks.proofs.Marks.{mark-size, mark-same, mark-other, open-mark}
 use Rattle.tours.proofs.Edges.{joins-dec}
 use Rattle.argument.specs.Line.{Struck, strikes, CompleteAt, CompleteLine}
-use Rattle.argument.specs.Sheet.{Place, Result, struck, start, CompleteLines, Answers}
+use Rattle.argument.specs.Sheet.{Place, Result, struck, start}
+use Rattle.argument.specs.Answers.{CompleteLines, Answers}
 use Rattle.sheets.specs.Rules.{rulesBetween, markingBetween}
 use Rattle.demands.specs.Marked.{struckEdges, differences, Changes}
 use Rattle.demands.proofs.Strikes.{differences-none, differences-set, open-joined, marked-same, marked-other}

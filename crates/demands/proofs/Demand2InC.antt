@@ -11,7 +11,8 @@ use Rattle.lengths.specs.Edge.{Edge}
 use Rattle.marks.specs.Mark.{struckMark, openMark, pendingMark}
 use Rattle.marks.specs.Packed.{packed, marksOf}
 use Rattle.argument.specs.Line.{Struck}
-use Rattle.argument.specs.Sheet.{Marking, Place, Result, start, CompleteLines, RefusedAt}
+use Rattle.argument.specs.Sheet.{Marking, Place, Result, start}
+use Rattle.argument.specs.Answers.{CompleteLines, RefusedAt}
 use Rattle.argument.specs.Verdict.{Verdict, accepted, refused}
 use Rattle.sheets.specs.Rules.{markingBy, markingBetween}
 use Rattle.marking.specs.Mark.{packedResult}

@@ -12,7 +12,8 @@ use Rattle.marks.specs.Mark.{struckMark, openMark, pendingMark}
 use Rattle.marks.specs.Packed.{ByteSet, packed, wellPacked, marksOf, repacked}
 use Rattle.marks.proofs.PackedSets.{marks-size, marks-are, marks-packed, repacked-same}
 use Rattle.argument.specs.Line.{Struck}
-use Rattle.argument.specs.Sheet.{Place, Result, start, CompleteLines, Answers, RefusedAt}
+use Rattle.argument.specs.Sheet.{Place, Result, start}
+use Rattle.argument.specs.Answers.{CompleteLines, Answers, RefusedAt}
 use Rattle.argument.specs.Verdict.{accepted, refused}
 use Rattle.sheets.specs.Rules.{markingBy, markingBetween}
 use Rattle.admission.proofs.Passed.{passed-ready, both-passed, passed, passed-well, ready-tested}

@@ -25,7 +25,8 @@ use Rattle.argument.specs.Verdict.{Verdict, accepted, refused}
 use Rattle.argument.specs.Record.{records}
 use Rattle.argument.specs.Layout.{Enters}
 use Rattle.argument.specs.Line.{Struck, strikes, judge, CompleteAt}
-use Rattle.argument.specs.Sheet.{Marking, Place, onward, struck, lineStep, Result, answer, linesFrom, start, sheet, CompleteLines}
+use Rattle.argument.specs.Sheet.{Marking, Place, onward, struck, lineStep, Result, answer, linesFrom, start, sheet}
+use Rattle.argument.specs.Answers.{CompleteLines}
 use Rattle.argument.proofs.Exact.{line-sound}
 use Rattle.argument.proofs.Safe.{step-keeps}
 use Rattle.argument.proofs.Sheet.{step-over, step-8, step-9, step-stops, step-strikes, step-rises, lines-over, lines-stop, lines-go-on}

@@ -16,17 +16,23 @@ use Rattle.marks.proofs.FreshMarks.{fresh-set-left, fresh-byte-set}
 use Rattle.marks.proofs.PackedSets.{marks-packed}
 use Rattle.marks.proofs.Settling.{settled-byte-set}
 use Rattle.tours.specs.Tour.{Shortest, ThreeOptimal}
-use Rattle.argument.specs.Sheet.{run}
 use Rattle.argument.proofs.Safe.{run-keeps}
 use Rattle.marking.specs.MarkBetween.{markBetween}
 use Rattle.admission.specs.Tests.{readyBetween}
 use Rattle.marking.proofs.PackedSheets.{mark-byte-set, tested-byte-set}
 use Rattle.demands.specs.Keeping.{OrderFree, KeepsTours}
-use Rattle.demands.specs.Run.{Tables, Step, marking, asking, confirming, withdrawing, marking-between, turning, stepped, stepsOf, steppedPacked, stepsPacked, steppedInC, stepsInC, stepIn, lengthsIn, freshIn}
+use Rattle.demands.specs.Run.{Tables, Step, marking, asking, confirming, withdrawing, marking-between, turning, stepped, stepsOf, steppedPacked, stepsPacked, steppedInC, stepsInC, stepIn, lengthsIn, freshIn, run}
 use Rattle.demands.proofs.DeskTurns.{turn-stays}
 use Rattle.demands.proofs.OnPacked.{mark-on-packed, mark-between-on-packed, settle-on-packed, turn-on-packed}
 use Rattle.demands.proofs.Runs.{run-open, run-shortest}
 use Rattle.demands.proofs.Sizes.{in-limits}
+
+-- what every call keeps, a run keeps
+run-keeps : {M C : Type 0} (Kept : M → Type 0) (call : C → M → M) → ((c : C) (m : M) → Kept m → Kept (call c m)) → (cs : List C) (m : M) → Kept m
+    → Kept (run call cs m)
+unfolding run
+run-keeps Kept call keeps [] m k = k
+run-keeps Kept call keeps (c ∷ cs) m k = run-keeps Kept call keeps cs (call c m) (keeps c m k)
 
 module _ {p : ℕ} (some : leastPoints ≤ p) (T : Tables) where
   -- what a step leaves of marks of p points are marks of p points

@@ -23,7 +23,6 @@ use Rattle.marks.proofs.PendingMarks.{settled-size, settled-open}
 use Rattle.tours.specs.Tour.{Uses, Shortest, ThreeOptimal}
 use Rattle.tours.proofs.ThreeOptimal.{shortest-optimal}
 use Rattle.argument.specs.Safety.{HasOrder}
-use Rattle.argument.specs.Sheet.{run}
 use Rattle.admission.proofs.Passed.{passed-ready, BetweenPassed, passed, ready-tested}
 use Rattle.marking.specs.MarkBetween.{markBetween}
 use Rattle.admission.specs.Tests.{readyBetween, ready}
@@ -31,7 +30,7 @@ use Rattle.marking.specs.Mark.{markTested, markBy}
 use Rattle.admission.specs.declared.tested.Tested.{Tested}
 use Rattle.admission.specs.declared.tested.Tested.the-variants.{Points, Refused}
 use Rattle.demands.specs.Keeping.{Ordered, Serves, StepOrder, OrderFree, KeepsTours}
-use Rattle.demands.specs.Run.{Tables, Call, Step, marking, asking, confirming, withdrawing, marking-between, turning, stepped, stepsOf, freshFrom}
+use Rattle.demands.specs.Run.{Tables, Call, Step, marking, asking, confirming, withdrawing, marking-between, turning, stepped, stepsOf, freshFrom, run}
 use Rattle.demands.proofs.DeskTurns.{turn-kept}
 use Rattle.demands.proofs.Kept.{Kept, OutOfReach, fresh-kept, tested-kept}
 use Rattle.demands.proofs.Monotone.{LengthsBetween, lengths-between, lengths-same}

@@ -12,7 +12,7 @@ use lib.Dec.{eqb}
 use lib.IntN.{ℤ, pos, negsuc, negℤ, _*ℤ_}
 use lib.ListN.{length}
 use Rattle.endian.specs.Bytes.{whole32}
-use Rattle.lists.specs.Saving.{gains?}
+use Rattle.lengths.specs.Saving.{gains?}
 use Rattle.lists.specs.Test.{allAtMost, unless}
 use Rattle.lengths.specs.Edge.{Edge, edgeCount}
 use Rattle.lengths.specs.Instance.{inRange, mostLength}

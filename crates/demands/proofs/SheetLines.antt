@@ -11,7 +11,8 @@ use Rattle.lengths.specs.Edge.{Edge, edgeCount}
 use Rattle.lists.specs.Test.{unless}
 use Rattle.marks.specs.Mark.{openMark, openIn}
 use Rattle.argument.specs.Line.{Struck, strikes, judge, CompleteLine}
-use Rattle.argument.specs.Sheet.{Place, Result, start, sheet, CompleteLines, ended, Answers, RefusedAt}
+use Rattle.argument.specs.Sheet.{Place, Result, start, sheet}
+use Rattle.argument.specs.Answers.{CompleteLines, ended, Answers, RefusedAt}
 use Rattle.argument.specs.Verdict.{accepted, refused}
 use Rattle.argument.proofs.Exact.{line-sound, line-complete}
 use Rattle.argument.proofs.Numbers.{refusal-told}

@@ -11,7 +11,8 @@ use Rattle.marks.specs.Mark.{struckMark}
 use Rattle.marks.specs.Packed.{packed, marksOf}
 use Rattle.argument.specs.Line.{Struck}
 use Rattle.argument.specs.Record.{records}
-use Rattle.argument.specs.Sheet.{Place, linesFrom, start, sheet, CompleteLines}
+use Rattle.argument.specs.Sheet.{Place, linesFrom, start, sheet}
+use Rattle.argument.specs.Answers.{CompleteLines}
 use Rattle.sheets.specs.Rules.{markingOf}
 use Rattle.desks.specs.HandIn.{handInLeft}
 use Rattle.desks.specs.State.{linesAt, hasLine, nextDesk}

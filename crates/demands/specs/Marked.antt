@@ -1,5 +1,5 @@
 -- What a call of *mark a sheet* or *ask a sheet* answers over a packed set and for C, and what it changes (01, "Each operation and its refusals": "the number of lines accepted in this call"; "An accepted line
--- marks its edge struck"). Which lines it accepts, and where it stops, is `Answers` (argument/specs/Sheet.antt).
+-- marks its edge struck"). Which lines it accepts, and where it stops, is `Answers` (argument/specs/Answers.antt).
 use Prim.Native.Nat.{ℕ, suc}
 use mathlib.Core.Path.{_≡_}
 use mathlib.Core.Bool.{true, false}
@@ -13,7 +13,8 @@ use Rattle.marks.specs.Mark.{markAt, openMark, openIn}
 use Rattle.marks.specs.Packed.{packed}
 use Rattle.argument.specs.Line.{Struck, strikes}
 use Rattle.argument.specs.Rules.{NamesFeasible, Reached}
-use Rattle.argument.specs.Sheet.{Marking, Result, start, Answers}
+use Rattle.argument.specs.Sheet.{Marking, Result, start}
+use Rattle.argument.specs.Answers.{Answers}
 use Rattle.sheets.specs.Rules.{rulesBetween}
 use Rattle.sheets.specs.Sheet.{wholeSheet}
 use Rattle.admission.specs.Tests.{readyBetween, ready}

@@ -1,9 +1,8 @@
 -- Runs (01, "What the contracts and the table of examples carry"; 02, Papers 3, 11 and 14): a whole list of calls from the marks that *fresh marks* left, each handed the
 -- same tables and the marks as the call before left them. Calls may differ in their sheets and in the n they state.
 use Prim.Native.Nat.{ℕ}
-use mathlib.Core.List.{List, []}
+use mathlib.Core.List.{List, [], _∷_}
 use lib.ListN.{length}
-use Rattle.argument.specs.Sheet.{run}
 use Rattle.endian.specs.Bytes.{whole16, whole32}
 use Rattle.marks.specs.Fresh.{freshAnswer, freshLeft, freshSetAnswer, freshSetLeft}
 use Rattle.marks.specs.Mark.{struckMark, openMark, pendingMark}
@@ -14,6 +13,11 @@ use Rattle.revosti.specs.Mark.{markInC}
 use Rattle.desks.specs.Turn.{turnOnMarks, turn}
 use Rattle.marking.specs.MarkBetween.{markBetween, markBetweenPacked}
 use Rattle.marking.specs.Mark.{markSheet, askSheet, markPacked, askPacked}
+
+-- a list of calls, each handed the marks as the one before left them
+unfoldable pub run : {M C : Type 0} → (call : C → M → M) → List C → M → M
+run call [] m = m
+run call (c ∷ cs) m = run call cs (call c m)
 
 -- the tables of a run, which stay: low and high lengths, and the lengths of the board itself. Where these are not known, the table of the board
 -- is [], which has no lengths, and every call over it is refused.

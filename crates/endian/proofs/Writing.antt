@@ -1,5 +1,5 @@
--- Numbers as little-endian bytes: an entry that is written, and numbers that are written one after another, at any width; reading the
--- bytes gives the numbers again. Assumes nothing.
+-- Numbers as little-endian bytes: an entry that is written, and numbers that are written one after another, at any
+-- width; reading the bytes gives the numbers again. Assumes nothing.
 use Prim.Native.Nat.{ℕ, zero, suc, _+_, _*_, _/_, _%_, _^_, _≤_, _<_}
 use mathlib.Core.Path.{_≡_, refl, sym, _∙_, ap, ap₂}
 use mathlib.Core.List.{List, [], _∷_, _++_, append-nil, append-assoc}

@@ -70,7 +70,7 @@ pub fn put16(bytes: &mut [u8], at: usize, number: u16)
     bytes[start + 1] = low(wide / 256);
 }
 
-// Writes the bytes of the numbers to the front of `bytes`; those past them stay.
+// Writes the bytes of the numbers to the front of `bytes`; those past them stay. Ends: i rises to their number.
 pub fn encode16(numbers: &[u16], bytes: &mut [u8])
     requires { ⌜ EncodeAsked 2 (now numbers) (now bytes) ⌝ }
     ensures { λ _. ⌜ now (bytes .exit) ≡ bytes16 (now (numbers .entry)) ++ drop (2 * length (now (numbers .entry))) (now (bytes .entry)) ⌝ }

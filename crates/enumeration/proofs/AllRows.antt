@@ -1,5 +1,6 @@
--- The rows one after another, and the loop of `find_apart`. The numbers written so far and those of the pairs still to come make up the numbers
--- of all pairs; of the row of x come at most n - x pairs, so that there is room for all. Assumes nothing.
+-- The rows one after another, and the loop of `find_apart`. The numbers written so far and those of the pairs still to
+-- come make up the numbers of all pairs; of the row of x come at most n - x pairs, so that there is room for all.
+-- Assumes nothing.
 use Prim.Native.Nat.{ℕ, zero, suc, _+_, _-_, _*_, _≤_, _<_}
 use mathlib.Core.Path.{_≡_, refl, sym, _∙_, ap, ap₂}
 use mathlib.Core.Bool.{Bool, false}

@@ -1,5 +1,6 @@
--- The pairs at an end of K's edge, whose other end is `other`. The row of a point below `other` has one pair that may stand, the one with `other`;
--- in the row of `other` every pair that passes stands; and the rows above it have none. Assumes nothing.
+-- The pairs at an end of K's edge, whose other end is `other`. The row of a point below `other` has one pair that may
+-- stand, the one with `other`; in the row of `other` every pair that passes stands; and the rows above it have none.
+-- Assumes nothing.
 use Prim.Native.Nat.{ℕ, suc, _+_, _-_, _*_, _≤_, _<_}
 use mathlib.Core.Path.{_≡_, refl, sym, _∙_, ap, subst}
 use mathlib.Core.Bool.{false, not, _&&_}

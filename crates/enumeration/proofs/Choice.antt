@@ -1,5 +1,6 @@
--- The pairs that `find_pairs` finds are the feasible ones of K = {ab}. At an end of the edge every pair that passes the comparison and has the other
--- end is feasible; at a point apart from it every pair that passes but ab itself, which the row of its lower point bars. Assumes nothing.
+-- The pairs that `find_pairs` finds are the feasible ones of K = {ab}. At an end of the edge every pair that passes the
+-- comparison and has the other end is feasible; at a point apart from it every pair that passes but ab itself, which
+-- the row of its lower point bars. Assumes nothing.
 use Prim.Native.Nat.{ℕ, _≤_, _<_}
 use mathlib.Core.Path.{_≡_, refl, sym, _∙_, ap, ap₂, subst}
 use mathlib.Core.Bool.{Bool, false, not, _&&_}

@@ -1,5 +1,6 @@
--- The loop of `find_in_row`. Each pair of a row is written at the place after the pairs that stand, and the next one is written over it where it
--- does not stand itself. There are never more pairs that stand than pairs that were looked at, so that the place is in the array. Assumes nothing.
+-- The loop of `find_in_row`. Each pair of a row is written at the place after the pairs that stand, and the next one is
+-- written over it where it does not stand itself. There are never more pairs that stand than pairs that were looked at,
+-- so that the place is in the array. Assumes nothing.
 use Prim.Native.Nat.{ℕ, suc, _+_, _-_, _*_, _^_, _≤_, _<_}
 use mathlib.Core.Path.{_≡_, refl, sym, _∙_, ap, ap₂}
 use mathlib.Core.Bool.{Bool, false, not, _&&_}

@@ -1,5 +1,5 @@
--- A pair is written behind the pairs that stand, and counted if it stands itself: the numbers at the front are then those of the pairs that stand,
--- with this one or without it. Assumes nothing.
+-- A pair is written behind the pairs that stand, and counted if it stands itself: the numbers at the front are then
+-- those of the pairs that stand, with this one or without it. Assumes nothing.
 use Prim.Native.Nat.{ℕ, suc, _+_, _*_, _≤_, _<_}
 use mathlib.Core.Path.{_≡_, refl, sym, _∙_, ap, ap₂}
 use mathlib.Core.Bool.{Bool, true, false}

@@ -14,7 +14,8 @@ ghost use Rattle.lengths.specs.Edge.{edges};
 ghost use Rattle.marks.specs.Packed.{marksOf};
 ghost use Rattle.rules.specs.Pairs.{keep};
 ghost use Rattle.enumeration.specs.Find.{pairsAt};
-ghost use Rattle.enumeration.specs.asks.Find.{ones, barredIn, passesApart?, atEnd?, RowToList, RowFound, RowsToList, RowsFound, EndAsked, FindAsked, Found};
+ghost use Rattle.enumeration.specs.asks.Find.{ones, barredIn, passesApart?, atEnd?, RowToList, RowFound};
+ghost use Rattle.enumeration.specs.asks.Find.{RowsToList, RowsFound, EndAsked, FindAsked, Found};
 
 // 1 where the pair is kept: its cost is at most what it may be, and z is not barred.
 fn kept(cost: u32, most: u32, z: usize, barred: usize) -> u16
@@ -23,8 +24,9 @@ fn kept(cost: u32, most: u32, z: usize, barred: usize) -> u16
     ((cost <= most) & (z != barred)) as u16
 }
 
-// Writes the pairs of x with the points above it behind the pairs that are there already, and answers how many there are then.
-// Each pair is written first and counted only if it stands, so that no branch depends on it. Where c-x is no leg, no pair of x stands.
+// Writes the pairs of x with the points above it behind the pairs that are there already, and answers how
+// many there are then. Each pair is written first and counted only if it stands, so that no branch depends on it. Where
+// c-x is no leg, no pair of x stands. Ends: i rises to the number of points above x.
 fn find_in_row(
     n: u16,
     table: &[u8],
@@ -36,7 +38,8 @@ fn find_in_row(
     before: u16,
 ) -> u16
     requires { ⌜ RowToList n (whole32 (now table)) (now legs) bound x (now found) before ⌝ }
-    ensures { λ r. ⌜ RowFound n (whole32 (now (table .entry))) (now (legs .entry)) bound x barred (now (found .entry)) before r (now (found .exit)) ⌝ }
+    ensures { λ r.
+        ⌜ RowFound n (whole32 (now (table .entry))) (now (legs .entry)) bound x barred (now (found .entry)) before r (now (found .exit)) ⌝ }
 {
     let leg = legs[x as usize];
     if leg == legs::FAR {
@@ -70,7 +73,8 @@ fn barred_in(low: u16, high: u16, x: u16) -> u16
     0
 }
 
-// Writes the feasible pairs at a point apart from K's edge, whose ends are low and high, row by row, and answers how many there are.
+// Writes the feasible pairs at a point apart from K's edge, whose ends are low and high, row by row, and answers
+// how many there are. Ends: x rises to n.
 fn find_apart(
     n: u16,
     table: &[u8],
@@ -81,7 +85,8 @@ fn find_apart(
     found: &mut [u16],
 ) -> u16
     requires { ⌜ RowsToList n (whole32 (now table)) (now legs) bound (now found) ⌝ }
-    ensures { λ r. ⌜ Found (keep (passesApart? n (whole32 (now (table .entry))) (now (legs .entry)) bound low high) (edges n)) r (now (found .exit)) ⌝ }
+    ensures { λ r. ⌜ Found (keep (passesApart? n (whole32 (now (table .entry))) (now (legs .entry)) bound low high) (edges n))
+        r (now (found .exit)) ⌝ }
 {
     let mut count: u16 = 0;
     let mut x: u16 = 1;
@@ -102,6 +107,7 @@ fn find_apart(
 }
 
 // Writes the pairs of `other` with the points below it that pass the one comparison, and answers how many there are.
+// Ends: x rises to `other`.
 fn find_below(
     n: u16,
     table: &[u8],
@@ -111,7 +117,8 @@ fn find_below(
     found: &mut [u16],
 ) -> u16
     requires { ⌜ EndAsked n (whole32 (now table)) (now legs) bound other (now found) ⌝ }
-    ensures { λ r. ⌜ RowsFound n (atEnd? n (whole32 (now (table .entry))) (now (legs .entry)) bound other) (now (found .entry)) (now (found .exit)) other r ⌝ }
+    ensures { λ r. ⌜ RowsFound n (atEnd? n (whole32 (now (table .entry))) (now (legs .entry)) bound other)
+        (now (found .entry)) (now (found .exit)) other r ⌝ }
 {
     let cost = legs[other as usize] + Instance::MOST_LENGTH;
     let mut count: u16 = 0;
@@ -127,7 +134,8 @@ fn find_below(
     count
 }
 
-// Writes the feasible pairs at an end of K's edge, and answers how many there are: `other`, the other end, is one point of each.
+// Writes the feasible pairs at an end of K's edge, and answers how many there are: `other`, the other end, is
+// one point of each.
 fn find_at_end(
     n: u16,
     table: &[u8],
@@ -137,7 +145,8 @@ fn find_at_end(
     found: &mut [u16],
 ) -> u16
     requires { ⌜ EndAsked n (whole32 (now table)) (now legs) bound other (now found) ⌝ }
-    ensures { λ r. ⌜ Found (keep (atEnd? n (whole32 (now (table .entry))) (now (legs .entry)) bound other) (edges n)) r (now (found .exit)) ⌝ }
+    ensures { λ r. ⌜ Found (keep (atEnd? n (whole32 (now (table .entry))) (now (legs .entry)) bound other) (edges n))
+        r (now (found .exit)) ⌝ }
 {
     let count = find_below(n, table, legs, bound, other, found);
     if other < n {
@@ -146,8 +155,8 @@ fn find_at_end(
     count
 }
 
-// Writes the feasible pairs of K = {ab} at c, x then y for each, and answers how many there are. What is taken out is measured by the table `out`,
-// what is put in by the table `put`; the search in the rows reads the latter alone.
+// Writes the feasible pairs of K = {ab} at c, x then y for each, and answers how many there are. What is taken out is
+// measured by the table `out`, what is put in by the table `put`; the search in the rows reads the latter alone.
 pub fn find_pairs(
     n: u16,
     out: &[u8],
@@ -159,12 +168,12 @@ pub fn find_pairs(
     found: &mut [u16],
 ) -> u16
     requires { ⌜ FindAsked n (whole32 (now out)) (whole32 (now put)) (marksOf n (now marks)) a b c (now found) ⌝ }
-    ensures { λ r. ⌜ Found (pairsAt n (whole32 (now (out .entry))) (whole32 (now (put .entry))) (marksOf n (now (marks .entry))) a b c) r (now (found .exit)) ⌝ }
+    ensures { λ r. ⌜ Found (pairsAt n (whole32 (now (out .entry))) (whole32 (now (put .entry))) (marksOf n (now (marks .entry))) a b c)
+        r (now (found .exit)) ⌝ }
 {
     let k = EdgeSet::single(a, b);
-    let split = prepare_single(n, out, put, marks, k, c);
-    let legs = split.legs;
-    let bound = split.bound;
+    let mut legs = [legs::FAR; Instance::PLACES];
+    let bound = prepare_single(n, out, put, marks, k, c, &mut legs);
     if c == a {
         return find_at_end(n, put, &legs, bound, b, found);
     }

@@ -35,8 +35,8 @@ fails-below grows d e f t = elim (decLt d e) [
   | no h ↦ absurd (true≢false (sym (grows e d (omega arith) t) ∙ f))
 ]
 
--- Below `from` everything fails, and from + 2 ^ k - 1 passes: so the least number that passes is among the 2 ^ k from `from` on.
--- The middle one decides the half, and both facts hold of that half again.
+-- Below `from` everything fails, and from + 2 ^ k - 1 passes: so the least number that passes is among the 2 ^
+-- k from `from` on. The middle one decides the half, and both facts hold of that half again.
 pub bisect-least : {test : ℕ → Bool} → Growing test → (k from : ℕ) → ((e : ℕ) → test e ≡ true → from ≤ e)
     → test (from + 2 ^ k - 1) ≡ true → Least test (bisect test k from)
 unfolding bisect

@@ -1,5 +1,5 @@
--- The five rules. Those that round a root test on squares, so `distanceBy` is the least number that passes (`Squares`); and what each rule gives is the d
--- that 01 says, and nothing else is. Assumes nothing.
+-- The five rules. Those that round a root test on squares, so `distanceBy` is the least number that passes (`Squares`);
+-- and what each rule gives is the d that 01 says, and nothing else is. Assumes nothing.
 use Prim.Native.Nat.{ℕ, zero, suc, _+_, _-_, _*_, _/_, _≤_, _<_}
 use mathlib.Core.Path.{_≡_, refl, sym, _∙_, ap, ap₂, subst}
 use mathlib.Core.Logic.{inl, inr, ⊎-elim}

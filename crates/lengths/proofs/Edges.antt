@@ -1,5 +1,5 @@
--- The order of edges: the place of an edge lies in the table, places rise in 01's order, every place is the place of exactly
--- one edge, and the list of edges has each edge at its place. Assumes nothing.
+-- The order of edges: the place of an edge lies in the table, places rise in 01's order, every place is the
+-- place of exactly one edge, and the list of edges has each edge at its place. Assumes nothing.
 use Prim.Native.Nat.{ℕ, zero, suc, _+_, _-_, _*_, _/_, _^_, _≤_, _<_, min}
 use mathlib.Core.Path.{_≡_, refl, sym, _∙_, ap, ap₂}
 use mathlib.Core.Logic.{_⊎_, inl, inr, ⊎-elim}

@@ -1,4 +1,5 @@
--- The loops of `fill` and `measure_row`: up to a place the table has the bytes of its edges' distances, row by row. Assumes nothing.
+-- The loops of `fill` and `measure_row`: up to a place the table has the bytes of its edges' distances, row by row.
+-- Assumes nothing.
 use Prim.Native.Nat.{ℕ, zero, suc, _+_, _-_, _*_, _^_, _≤_, _<_}
 use mathlib.Core.Path.{_≡_, refl, sym, _∙_, ap, subst}
 use mathlib.Core.Logic.{⊎-elim}

@@ -1,4 +1,5 @@
--- A close guess: one below it fails and one above it passes, so the least number that passes is the guess or one above it. Assumes nothing.
+-- A close guess: one below it fails and one above it passes, so the least number that passes is the guess or one above
+-- it. Assumes nothing.
 use Prim.Native.Nat.{ℕ, _+_, _-_, _≤_}
 use mathlib.Core.Path.{_≡_, refl, subst}
 use mathlib.Core.Bool.{Bool, true, false, not}

@@ -2,6 +2,7 @@ pub mod Bisect
 pub mod Coordinates
 pub mod Distances
 pub mod Edges
+pub mod Extremes
 pub mod Filling
 pub mod Guesses
 pub mod Instances
@@ -9,6 +10,7 @@ pub mod Limits
 pub mod Measuring
 pub mod Products
 pub mod RowFilling
+pub mod Savings
 pub mod Searching
 pub mod SignedSavings
 pub mod Squares

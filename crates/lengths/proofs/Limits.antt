@@ -1,4 +1,5 @@
--- The tests of a limit, one for all numbers or one for each, one number after the other, and what they say of each. Assumes nothing.
+-- The tests of a limit, one for all numbers or one for each, one number after the other, and what they say of each.
+-- Assumes nothing.
 use Prim.Native.Nat.{ℕ, zero, suc, _+_, _≤_, _<_}
 use mathlib.Core.Path.{_≡_, refl}
 use mathlib.Core.Bool.{Bool, true, false, _&&_, and-true, and-false}

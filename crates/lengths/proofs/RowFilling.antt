@@ -1,4 +1,5 @@
--- Rows of lengths: where the edges from v stand in the table, how parts of a row join, and what stands after each row. Assumes nothing.
+-- Rows of lengths: where the edges from v stand in the table, how parts of a row join, and what stands after each row.
+-- Assumes nothing.
 use Prim.Native.Nat.{ℕ, _+_, _-_, _*_, _≤_, _<_}
 use mathlib.Core.Path.{_≡_, refl, sym, _∙_, ap}
 use mathlib.Core.Logic.{_⊎_, inl, inr, ⊎-elim}

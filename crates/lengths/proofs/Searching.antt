@@ -1,4 +1,5 @@
--- The loop of `by_halving`: the least number that passes is one of `low` to `high`, and each half keeps it. Assumes nothing.
+-- The loop of `by_halving`: the least number that passes is one of `low` to `high`, and each half keeps it.
+-- Assumes nothing.
 use Prim.Native.Nat.{ℕ, _+_, _/_, _^_, _≤_, _<_}
 use mathlib.Core.Path.{_≡_, subst}
 use mathlib.Core.Bool.{true, false}

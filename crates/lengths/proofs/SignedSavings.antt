@@ -10,7 +10,7 @@ use mir.Syntax.{w64}
 use mir.Val.{SFits, toZ, ofZ}
 use mir.Facts.{toZ-pos, toZ-ofZ}
 use lib.Signed.{mag, leZ}
-use Rattle.lists.specs.Saving.{saving, smaller, larger}
+use Rattle.lengths.specs.Saving.{saving, smaller, larger}
 
 sub-pos : (old new : ℕ) → pos old -ℤ pos new ≡ subℕ old new
 sub-pos old zero = let e : old + 0 ≡ old - 0 = omega arith in ap pos e ∙ sym (rw (le-ltb old 0 (omega arith)))

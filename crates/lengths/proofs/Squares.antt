@@ -1,5 +1,6 @@
--- Tests on squares: that k(bd + c)² reaches a number. Each grows with d, so the search by halves finds the least d that passes: shown once for all
--- numbers needed, all k, b and c, and then used for each of the rules that round a root. Assumes nothing.
+-- Tests on squares: that k(bd + c)² reaches a number. Each grows with d, so the search by halves finds the least d that
+-- passes: shown once for all numbers needed, all k, b and c, and then used for each of the rules that round a root.
+-- Assumes nothing.
 use Prim.Native.Nat.{ℕ, _+_, _-_, _*_, _^_, _≤_}
 use mathlib.Core.Path.{_≡_, sym, _∙_}
 use mathlib.Core.Bool.{Bool, true}

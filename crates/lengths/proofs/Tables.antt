@@ -1,5 +1,5 @@
--- The laws of `lengthOf` that the layers above use: 0 from a point to itself, the same for ab and ba, and where the table holds it.
--- Assumes nothing.
+-- The laws of `lengthOf` that the layers above use: 0 from a point to itself, the same for ab and ba, and where
+-- the table holds it. Assumes nothing.
 use Prim.Native.Nat.{ℕ, _≤_, _<_}
 use mathlib.Core.Path.{_≡_, refl, sym, _∙_, ap}
 use mathlib.Core.Bool.{Bool, true, false}

@@ -1,5 +1,6 @@
--- TSPLIB's distances (01, "Points, lengths, marks"). Rules 1 to 3 go by S, the sum of the two squared coordinate differences: each distance is the least
--- number that passes a growing test on squares. Rules 4 and 5 go by the two differences, the gaps, themselves.
+-- TSPLIB's distances (01, "Points, lengths, marks"). Rules 1 to 3 go by S, the sum of the two squared coordinate
+-- differences: each distance is the least number that passes a growing test on squares. Rules 4 and 5 go by the two
+-- differences, the gaps, themselves.
 use Prim.Native.Nat.{ℕ, zero, suc, _+_, _-_, _*_, _^_, _≤_, _<_, max}
 use mathlib.Core.Path.{_≡_}
 use mathlib.Core.Bool.{Bool, true, false}
@@ -83,7 +84,8 @@ pub record IsAtt (s d : ℕ) : Type 0 where
   pub reaches : s ≤ 10 * (d * d)
   pub least : (e : ℕ) → s ≤ 10 * (e * e) → d ≤ e
 
--- rule 3 as TSPLIB computes it: t is the root of S/10 rounded to the nearest, and d is t, or t + 1 where t is below that root
+-- rule 3 as TSPLIB computes it: t is the root of S/10 rounded to the nearest, and d is t, or t + 1 where t
+-- is below that root
 pub record RoundsAtt (s d : ℕ) : Type 0 where
   pub t : ℕ
   pub low : 1 ≤ t → 10 * ((2 * t - 1) * (2 * t - 1)) ≤ 4 * s

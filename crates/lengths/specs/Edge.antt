@@ -38,7 +38,8 @@ unfoldable pub tri : ℕ → ℕ
 tri zero = 0
 tri (suc k) = tri k + k
 
--- the place, from 0, of the edge ab with a < b: first stand the rows of 1 to a - 1, then a's edges to the points below b
+-- the place, from 0, of the edge ab with a < b: first stand the rows of 1 to a - 1, then a's edges to
+-- the points below b
 unfoldable pub placeUp : ℕ → ℕ → ℕ → ℕ
 placeUp n a b = tri n - tri (n + 1 - a) + (b - a - 1)
 

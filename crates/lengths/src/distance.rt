@@ -78,8 +78,8 @@ fn newton(s: u64, x: u64) -> u64
     (x + s / x) / 2
 }
 
-// A guess at the root of s, by two such steps from an estimate: each doubles the digits that are right. It is a hint: nothing rests on it.
-// The ones keep the divisors above 0.
+// A guess at the root of s, by two such steps from an estimate: each doubles the digits that are right. It is a hint:
+// nothing rests on it. The ones keep the divisors above 0.
 fn guess(s: u64, estimate: u64) -> u64
     requires { ⌜ (s ≤ mostSquares) × (estimate ≤ mostSquares) ⌝ }
 {
@@ -114,7 +114,8 @@ fn step(rounding: Rounding, s: u64, d: u64) -> u64
     (!test(rounding, s, d)) as u64
 }
 
-// The distance at the sum of squares s. A close guess is corrected by one test without a branch; for any other the search halves.
+// The distance at the sum of squares s. A close guess is corrected by one test without a branch; for any other
+// the search halves.
 fn distance(rounding: Rounding, s: u64, guess: u64) -> u64
     requires { ⌜ s ≤ mostSquares ⌝ }
     ensures { λ r. ⌜ Distance (roundedBy rounding) s r ⌝ }
@@ -125,7 +126,8 @@ fn distance(rounding: Rounding, s: u64, guess: u64) -> u64
     by_halving(rounding, s)
 }
 
-// The distance at the sum of squares s: halves the numbers of 21 bits for the least that passes.
+// The distance at the sum of squares s: halves the numbers of 21 bits for the least that passes. Ends: the range from
+// low to high shrinks.
 fn by_halving(rounding: Rounding, s: u64) -> u64
     requires { ⌜ s ≤ mostSquares ⌝ }
     ensures { λ r. ⌜ Distance (roundedBy rounding) s r ⌝ }
@@ -161,8 +163,8 @@ fn estimate(dx: u64, dy: u64) -> u64
     (123 * long + 51 * short) / 128
 }
 
-// The distance by a rule that rounds a root, of points with these gaps. ATT is CEIL_2D at a tenth of the squares, whose root is some 5/16 of theirs.
-// Each arm names its rounding, so that the tests in it are compiled for that one alone.
+// The distance by a rule that rounds a root, of points with these gaps. ATT is CEIL_2D at a tenth of the squares, whose
+// root is some 5/16 of theirs. Each arm names its rounding, so that the tests in it are compiled for that one alone.
 fn rooted(root: Root, dx: u64, dy: u64) -> u64
     requires { ⌜ (dx ≤ mostCoordinate) × (dy ≤ mostCoordinate) ⌝ }
     ensures { λ r. ⌜ Distance root (squares dx dy) r ⌝ }

@@ -6,7 +6,7 @@ ghost use lib.ListN.{length};
 ghost use Rattle.endian.specs.Bytes.{whole32};
 ghost use Rattle.lists.specs.Test.{allAtMost, eachAtMost};
 
-// Is no number above the limit?
+// Is no number above the limit? Ends: i rises to the count.
 pub fn all_at_most(bytes: &[u8], limit: u32) -> bool
     ensures { λ r. ⌜ r ≡ allAtMost limit (whole32 (now (bytes .entry))) ⌝ }
 {
@@ -22,7 +22,7 @@ pub fn all_at_most(bytes: &[u8], limit: u32) -> bool
     within
 }
 
-// Is no number above the one in its place among as many others?
+// Is no number above the one in its place among as many others? Ends: i rises to the count.
 pub fn each_at_most(low: &[u8], high: &[u8]) -> bool
     requires { ⌜ length (whole32 (now low)) ≡ length (whole32 (now high)) ⌝ }
     ensures { λ r. ⌜ r ≡ eachAtMost (whole32 (now (low .entry))) (whole32 (now (high .entry))) ⌝ }

@@ -23,6 +23,7 @@ pub fn length_in(rows: &[u32], at: usize, x: u16) -> u32
 }
 
 // The lengths from v to the points below it: the place of xv moves on by n - x - 1 as x does by 1, and `step` is n - x.
+// Ends: x rises to v.
 fn fill_below(n: u16, table: &[u8], v: u16, rows: &mut [u32], at: usize)
     requires { ⌜ RowFillable n (whole32 (now table)) (now rows) at v ⌝ }
     ensures { λ _. ⌜ RowPart n (whole32 (now (table .entry))) (now (rows .entry)) at v 1 v (now (rows .exit)) ⌝ }
@@ -42,6 +43,7 @@ fn fill_below(n: u16, table: &[u8], v: u16, rows: &mut [u32], at: usize)
 }
 
 // The lengths from v to the points above it stand side by side in the table.
+// Ends: i rises to the number of points above v.
 fn fill_above(n: u16, table: &[u8], v: u16, rows: &mut [u32], at: usize)
     requires { ⌜ RowFillable n (whole32 (now table)) (now rows) at v ⌝ }
     ensures { λ _. ⌜ RowPart n (whole32 (now (table .entry))) (now (rows .entry)) at v (v + 1) (n + 1) (now (rows .exit)) ⌝ }
@@ -69,7 +71,7 @@ pub fn fill_row(n: u16, table: &[u8], v: u16, rows: &mut [u32], at: usize)
     fill_above(n, table, v, rows, at);
 }
 
-// Writes the rows of all points.
+// Writes the rows of all points. Ends: v rises past n.
 pub fn fill_rows(n: u16, table: &[u8], rows: &mut [u32])
     requires { ⌜ RowsFillable n (whole32 (now table)) (now rows) ⌝ }
     ensures { λ _. ⌜ RowsFilled n (whole32 (now (table .entry))) (now (rows .entry)) (now (rows .exit)) ⌝ }

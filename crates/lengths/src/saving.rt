@@ -1,7 +1,7 @@
 // Savings: what is taken out less what is put in, as signed numbers.
 ghost use Prim.Native.Nat.{_<_, _^_};
 ghost use mathlib.Core.Path.{_≡_};
-ghost use Rattle.lists.specs.Saving.{saving, smaller, larger};
+ghost use Rattle.lengths.specs.Saving.{saving, smaller, larger};
 
 // The old sum less the new one.
 pub fn saving(old: u64, new: u64) -> i64

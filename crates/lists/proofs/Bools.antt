@@ -44,6 +44,25 @@ pub and-no : (t : Bool) → t && false ≡ false
 and-no true = refl
 and-no false = refl
 
+-- the order and the grouping are no matter
+pub or-swap : (s t : Bool) → s || t ≡ t || s
+or-swap true true = refl
+or-swap true false = refl
+or-swap false t = sym (or-no t)
+  where
+    or-no : (t : Bool) → t || false ≡ t
+    or-no true = refl
+    or-no false = refl
+
+pub and-assoc : (a b c : Bool) → a && (b && c) ≡ a && b && c
+and-assoc true b c = refl
+and-assoc false b c = refl
+
+pub and-regroup : (a b c : Bool) → a && (b && c) ≡ b && a && c
+and-regroup a true c = refl
+and-regroup true false c = refl
+and-regroup false false c = refl
+
 -- a test that failed, and one that passed, in front of others
 pub and-stop : {a : Bool} (b : Bool) → a ≡ false → false ≡ (a && b)
 and-stop b e = rw e

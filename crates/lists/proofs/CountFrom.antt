@@ -1,4 +1,5 @@
--- How many numbers pass a test: one that passes is counted, and so are two different ones, the lower first. Assumes nothing.
+-- How many numbers pass a test: one that passes is counted, and so are two different ones, the lower first.
+-- Assumes nothing.
 use Prim.Native.Nat.{ℕ, zero, suc, _+_, _≤_, _<_}
 use mathlib.Core.Path.{_≡_, sym, _∙_, ap}
 use mathlib.Core.Bool.{Bool, true, false}

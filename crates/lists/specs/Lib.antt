@@ -1,5 +1,4 @@
 pub mod Count
 pub mod CountFrom
 pub mod FirstFrom
-pub mod Saving
 pub mod Test

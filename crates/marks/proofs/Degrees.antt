@@ -1,4 +1,5 @@
--- How many open edges a point has: two different points with an open edge to it are two. The examples are computed. Assumes nothing.
+-- How many open edges a point has: two different points with an open edge to it are two. The examples are computed.
+-- Assumes nothing.
 use Prim.Native.Nat.{ℕ, _≤_}
 use mathlib.Core.Path.{_≡_, refl, sym, ap}
 use mathlib.Core.Bool.{true, not}

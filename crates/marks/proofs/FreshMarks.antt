@@ -1,4 +1,5 @@
--- Fresh marks: the bytes that `open_all` writes, `freshSetAnswer` at each way out of `fresh_marks`, and what is left: a 1 for each edge, all open. Assumes nothing.
+-- Fresh marks: the bytes that `open_all` writes, `freshSetAnswer` at each way out of `fresh_marks`, and what is left: a
+-- 1 for each edge, all open. Assumes nothing.
 use Prim.Native.Nat.{ℕ, zero, suc, _+_, _-_, _*_, _/_, _^_, _≤_, _<_}
 use mathlib.Core.Path.{_≡_, refl, sym, _∙_, ap, ap₂}
 use mathlib.Core.Bool.{true}

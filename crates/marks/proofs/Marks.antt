@@ -1,5 +1,5 @@
--- Marks that are read and written: the mark at the place written, at another place, and the size; what is open, said by the mark itself; and what
--- the test for pending marks says of each mark. Assumes nothing.
+-- Marks that are read and written: the mark at the place written, at another place, and the size; what is open, said by
+-- the mark itself; and what the test for pending marks says of each mark. Assumes nothing.
 use Prim.Native.Nat.{ℕ, zero, suc, _≤_, _<_}
 use mathlib.Core.Path.{_≡_, refl, sym, _∙_}
 use mathlib.Core.Bool.{true, not}

@@ -1,4 +1,5 @@
--- One byte of a packed set: a mark put into a quarter, the marks above a limit, the byte of open edges, a byte that is settled. Assumes nothing.
+-- One byte of a packed set: a mark put into a quarter, the marks above a limit, the byte of open edges, a byte that is
+-- settled. Assumes nothing.
 use Prim.Native.Nat.{ℕ, zero, suc, _+_, _-_, _*_, _/_, _%_, _^_, _≤_, _<_}
 use mathlib.Core.Path.{_≡_, refl, sym, _∙_, ap}
 use mathlib.Core.Bool.{Bool, true, false, cond, not}

@@ -1,4 +1,5 @@
--- Packed sets of 4 points, computed: the set of docs/FORMATS.md, fresh marks, and sets that test 6 refuses, each by one of its reasons; and the size for 180 points.
+-- Packed sets of 4 points, computed: the set of docs/FORMATS.md, fresh marks, and sets that test 6 refuses, each by one
+-- of its reasons; and the size for 180 points.
 use mathlib.Core.Path.{_≡_, refl}
 use mathlib.Core.Bool.{false}
 use mathlib.Core.List.{[], _∷_}

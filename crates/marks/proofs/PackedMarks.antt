@@ -11,7 +11,7 @@ use Rattle.lengths.specs.Edge.{edgeCount, place}
 use Rattle.lengths.proofs.Edges.{place-below}
 use Rattle.marks.specs.Mark.{markAt, setMark, pendingMark, opens, openAt, openUpTo, markIn}
 use Rattle.marks.specs.Packed.{ByteSet, quarter, quarters, packedBytes, packed, wellPacked, marksOf}
-use Rattle.marks.specs.asks.Mark.{MarkAsked}
+use Rattle.marks.specs.asks.Mark.{MarkSet, MarkAsked}
 use Rattle.marks.specs.asks.Packed.{Put}
 use Rattle.marks.proofs.Marks.{mark-size, marks-set}
 use Rattle.marks.proofs.PackedSets.{quarters-at, packed-as, well-packed, marks-are, whole-well, marks-size, marks-quarter, packed-marks, marks-packed}
@@ -30,9 +30,12 @@ module _ (n : ℕ) (s : List ℕ) {at : ℕ} (whole : length (marksOf n s) ≡ e
   unfolding markAt
   held-mark = marks-quarter n s held-well at
 
-  pub held-open : (most : ℕ) → openAt most (quarters s) at ≡ openAt most (marksOf n s) at
+  pub held-at : markAt (quarters s) at ≡ markAt (marksOf n s) at
   unfolding markAt
-  held-open most = ap (opens most) (quarters-at s at ∙ held-mark)
+  held-at = quarters-at s at ∙ held-mark
+
+  pub held-open : (most : ℕ) → openAt most (quarters s) at ≡ openAt most (marksOf n s) at
+  held-open most = ap (opens most) held-at
 
   module _ {mark r : ℕ} (is-mark : mark ≤ pendingMark) (p : Put (getD s (at / 4) 0) (at % 4) mark r) where
     written : List ℕ
@@ -75,6 +78,10 @@ module _ (n : ℕ) (s : List ℕ) {at : ℕ} (whole : length (marksOf n s) ≡ e
           | no d ↦ omega (arith, getD-set-other s (at / 4) k r 0 d, well-packed n s held-well .bytes k)
         ]
 
+-- two bits written, of whatever points the set is
+pub marked-at : (s : List ℕ) {at mark r : ℕ} → mark ≤ pendingMark → Put (getD s (at / 4) 0) (at % 4) mark r → MarkSet s at mark (set s (at / 4) r)
+marked-at s {at} {mark} {r} is p = record { kept = length-set s (at / 4) r; written = λ n whole h. held-written n s whole h is p }
+
 -- the four marks of a byte, which begins with the edge at place p
 pub byte-open : (n : ℕ) (s : List ℕ) (most p j : ℕ) → length (marksOf n s) ≡ edgeCount n → p % 4 ≡ 0 → j < 4 → p + j < edgeCount n
     → opens most (quarter (getD s (p / 4) 0) j) ≡ openAt most (marksOf n s) (p + j)
@@ -100,6 +107,6 @@ module _ (n : ℕ) (s : List ℕ) {a b : ℕ} (m : MarkAsked n (marksOf n s) a b
   unfolding openUpTo
   edge-open most = held-open n s (m .whole) (place-below (m .is-edge)) most
 
-  pub edge-marked : {mark at r : ℕ} → at ≡ place n a b → mark ≤ pendingMark → Put (getD s (at / 4) 0) (at % 4) mark r → marksOf n (set s (at / 4) r) ≡ markIn mark n (marksOf n s) a b
+  pub edge-marked : {mark at : ℕ} {left : List ℕ} → at ≡ place n a b → MarkSet s at mark left → marksOf n left ≡ markIn mark n (marksOf n s) a b
   unfolding markIn
-  edge-marked {mark} {at} {r} e is p = held-written n s (m .whole) (omega (arith, e, place-below (m .is-edge))) is p ∙ ap (λ (i : ℕ). setMark (marksOf n s) i mark) e
+  edge-marked {mark} e w = w .written n (m .whole) (omega (arith, e, place-below (m .is-edge))) ∙ ap (λ (i : ℕ). setMark (marksOf n s) i mark) e

@@ -1,5 +1,5 @@
--- Packed marks: a set is packed exactly as the marks that it holds say, mark by mark; packing and reading back give the marks, and reading and packing a
--- well packed set give its bytes. Assumes nothing.
+-- Packed marks: a set is packed exactly as the marks that it holds say, mark by mark; packing and reading back give the
+-- marks, and reading and packing a well packed set give its bytes. Assumes nothing.
 use Prim.Native.Nat.{ℕ, zero, suc, _+_, _-_, _*_, _/_, _%_, _≤_, _<_}
 use mathlib.Core.Path.{_≡_, refl, sym, _∙_, ap, ap₂}
 use mathlib.Core.Bool.{Bool, true, false, cond, _&&_}

@@ -44,7 +44,8 @@ pub testing-start : (most : ℕ) (set : List ℕ) → Testing most set true 0
 testing-start most set = record { inside = omega arith; bytes = λ k h. absurd (omega arith); same = refl }
 
 module _ {most : ℕ} {set : List ℕ} {within : Bool} {i : ℕ} (t : Testing most set within i) where
-  -- one turn, by the way that its branch went: A, a byte with a mark above the limit decides; B, any other changes nothing
+  -- one turn, by the way that its branch went: A, a byte with a mark above the limit decides; B, any
+  -- other changes nothing
   pub testing-on : {next : Bool} {r : ℕ} {A B : Type 0} → i < length set → Above most (getD set i 0) r → (A → 0 < r) → (B → r ≡ 0)
       → (A × (next ≡ false)) ⊎ (B × (next ≡ within)) → Testing most set next (i + 1)
   testing-on {next} {r} {A} {B} h a above none way = record { inside = omega arith; bytes = passed; same = rest way }

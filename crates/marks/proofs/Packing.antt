@@ -1,4 +1,5 @@
--- Marks that are packed byte by byte, a set that is unpacked mark by mark, and the answer and the set at each way out of both conversions. Assumes nothing.
+-- Marks that are packed byte by byte, a set that is unpacked mark by mark, and the answer and the set at each way out
+-- of both conversions. Assumes nothing.
 use Prim.Native.Nat.{ℕ, _+_, _*_, _≤_, _<_}
 use mathlib.Core.Path.{_≡_, refl, sym, _∙_, ap}
 use mathlib.Core.Bool.{Bool, true, false}

@@ -62,7 +62,8 @@ left-none to n marks h = by (settledAnswer n marks)
     by Done = settled-none to marks h
     by (Refused k rec) = refl
 
--- what confirming or withdrawing leaves of n points' marks: all settled, also where nothing is pending and it is refused
+-- what confirming or withdrawing leaves of n points' marks: all settled, also where nothing is pending
+-- and it is refused
 pub left-settled : (to n : ℕ) (marks : List ℕ) → inRange n ≡ true → length marks ≡ edgeCount n → areMarks marks ≡ true → settledLeft (settledAnswer n marks) to marks ≡ settledMarks to marks
 unfolding settledAnswer
 left-settled to n marks range size are = by (nonePending marks) refl

@@ -1,4 +1,5 @@
--- A packed set that is settled: a byte, the loop of `settle_all`, and the answer and the set at each way out of `settle`. Assumes nothing.
+-- A packed set that is settled: a byte, the loop of `settle_all`, and the answer and the set at each way out of
+-- `settle`. Assumes nothing.
 use Prim.Native.Nat.{ℕ, _+_, _/_, _%_, _≤_, _<_}
 use mathlib.Core.Path.{_≡_, refl, sym, _∙_, ap}
 use mathlib.Core.Bool.{Bool, true, false, cond, not, true≢false}

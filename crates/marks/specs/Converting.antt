@@ -1,4 +1,5 @@
--- The operations "pack marks" and "unpack marks" (02, Paper 4): "Converting tests 1, then 6 (of the set written, only the size)."
+-- The operations "pack marks" and "unpack marks" (02, Paper 4): "Converting tests 1, then 6 (of the set written,
+-- only the size)."
 use Prim.Native.Nat.{ℕ}
 use mathlib.Core.Path.{_≡_}
 use mathlib.Core.Bool.{Bool, _&&_}
@@ -17,7 +18,8 @@ use Rattle.lengths.specs.declared.outcome.Outcome.the-variants.{Done, Refused}
 unfoldable pub isByteSet : ℕ → List ℕ → Bool
 isByteSet n bytes = eqb (length bytes) (edgeCount n) && areMarks bytes
 
--- the answer, by test 6 of the set that is read, and by the size of the set that is written and the one that it is to have
+-- the answer, by test 6 of the set that is read, and by the size of the set that is written and the one
+-- that it is to have
 abbrev pub converted : ℕ → Bool → (size right : ℕ) → Outcome
 converted n read size right = unless (inRange n) (Refused 1 0) (unless read (Refused 6 0) (unless (eqb size right) (Refused 6 0) Done))
 

@@ -1,4 +1,5 @@
--- Packed marks (02, Paper 4): "Store a mark in two bits, four edges a byte, the first edge in the lowest bits, unused bits 0".
+-- Packed marks (02, Paper 4): "Store a mark in two bits, four edges a byte, the first edge in the lowest
+-- bits, unused bits 0".
 use Prim.Native.Nat.{ℕ, _+_, _*_, _/_, _%_, _^_}
 use mathlib.Core.Path.{_≡_}
 use mathlib.Core.Bool.{Bool, true, cond, _&&_}
@@ -48,7 +49,8 @@ unfoldable pub wellPacked : ℕ → List ℕ → Bool
 wellPacked n set =
     eqb (length set) (packedSize n) && (allAtMost 255 set && (areMarks (quarters set) && allAtMost 0 (drop (edgeCount n) (quarters set))))
 
--- the marks that a packed set of n points holds, one number an edge; a set that is not well packed holds none, which is a wrong size
+-- the marks that a packed set of n points holds, one number an edge; a set that is not well packed holds none,
+-- which is a wrong size
 unfoldable pub marksOf : ℕ → List ℕ → List ℕ
 marksOf n set = cond (wellPacked n set) (take (edgeCount n) (quarters set)) []
 

@@ -1,4 +1,5 @@
--- The operations "confirm" and "withdraw" (02, Paper 3): 1, 6, 21. "Confirming turns every 2 into 0, withdrawing turns every 2 into 1."
+-- The operations "confirm" and "withdraw" (02, Paper 3): 1, 6, 21. "Confirming turns every 2 into 0, withdrawing turns
+-- every 2 into 1."
 use Prim.Native.Nat.{ℕ}
 use mathlib.Core.Path.{_≡_}
 use mathlib.Core.Bool.{cond, not}

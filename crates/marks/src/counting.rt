@@ -5,7 +5,7 @@ use lengths::edge;
 ghost use Rattle.marks.specs.Packed.{marksOf};
 ghost use Rattle.marks.specs.asks.Counting.{CountAsked, OpenIs};
 
-// How many of n points' edges are open.
+// How many of n points' edges are open. Ends: i rises to the number of edges.
 pub fn open_edges(n: u16, set: &[u8]) -> u16
     requires { ⌜ CountAsked n (marksOf n (now set)) ⌝ }
     ensures { λ r. ⌜ OpenIs (marksOf n (now (set .entry))) r ⌝ }

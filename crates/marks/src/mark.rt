@@ -1,4 +1,4 @@
-// What a mark is: its values, and the one reader and the one writer of an edge's mark.
+// What a mark is: its values, and the one reader and the one writer of a mark in a packed set, by its place.
 use crate::packed::PER_BYTE;
 use crate::packed::put_quarter;
 use crate::packed::quarter;
@@ -6,9 +6,9 @@ use lengths::edge;
 ghost use Prim.Native.Nat.{_*_, _<_};
 ghost use mathlib.Core.Path.{_≡_};
 ghost use lib.ListN.{length};
-ghost use Rattle.marks.specs.Mark.{opens, openAt, openUpTo, markIn};
+ghost use Rattle.marks.specs.Mark.{markAt, opens, openAt, openUpTo, markIn};
 ghost use Rattle.marks.specs.Packed.{quarters, marksOf};
-ghost use Rattle.marks.specs.asks.Mark.{MarkAsked, SetAsked};
+ghost use Rattle.marks.specs.asks.Mark.{MarkAtAsked, MarkSet, MarkAsked, SetAsked};
 
 // An edge that is struck.
 pub const STRUCK: u8 = 0;
@@ -26,12 +26,29 @@ pub fn opens(mark: u8, most: u8) -> bool
     (mark as u16 + 255) % 256 < most as u16
 }
 
+// The mark at this place of a packed set.
+pub fn mark_at(set: &[u8], at: usize) -> u8
+    requires { ⌜ at < 4 * length (now set) ⌝ }
+    ensures { λ r. ⌜ r ≡ markAt (quarters (now (set .entry))) at ⌝ }
+{
+    quarter(set[at / PER_BYTE], at % PER_BYTE)
+}
+
+// Writes the mark at this place of a packed set, of whatever points.
+pub fn set_mark_at(set: &mut [u8], at: usize, mark: u8)
+    requires { ⌜ MarkAtAsked (now set) at mark ⌝ }
+    ensures { λ _. ⌜ MarkSet (now (set .entry)) at mark (now (set .exit)) ⌝ }
+{
+    let byte = at / PER_BYTE;
+    set[byte] = put_quarter(set[byte], at % PER_BYTE, mark);
+}
+
 // Is the edge at this place of a packed set open, where marks up to `most` count as open?
 pub fn open_at(set: &[u8], at: usize, most: u8) -> bool
     requires { ⌜ at < 4 * length (now set) ⌝ }
     ensures { λ r. ⌜ r ≡ openAt most (quarters (now (set .entry))) at ⌝ }
 {
-    opens(quarter(set[at / PER_BYTE], at % PER_BYTE), most)
+    opens(mark_at(set, at), most)
 }
 
 // Is the edge ab open, where marks up to `most` count as open?
@@ -47,7 +64,5 @@ pub fn set_mark(n: u16, set: &mut [u8], a: u16, b: u16, mark: u8)
     requires { ⌜ SetAsked n (marksOf n (now set)) a b mark ⌝ }
     ensures { λ _. ⌜ marksOf n (now (set .exit)) ≡ markIn mark n (marksOf n (now (set .entry))) a b ⌝ }
 {
-    let at = edge::place(n, a, b);
-    let byte = at / PER_BYTE;
-    set[byte] = put_quarter(set[byte], at % PER_BYTE, mark);
+    set_mark_at(set, edge::place(n, a, b), mark);
 }

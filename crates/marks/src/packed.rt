@@ -54,7 +54,7 @@ fn marks_above(byte: u8, most: u8) -> u8
         + (byte / 64 % 4 + add) / 4
 }
 
-// Is no mark of the set above this one?
+// Is no mark of the set above this one? Ends: i rises to the set's size.
 pub fn marks_within(set: &[u8], most: u8) -> bool
     requires { ⌜ most ≤ 3 ⌝ }
     ensures { λ r. ⌜ SetWithin most (now (set .entry)) r ⌝ }

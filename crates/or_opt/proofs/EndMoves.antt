@@ -1,4 +1,5 @@
--- The ends of a pair: what the numbers that are read from the rows say, at one edge, at the edges of K one after the other, and for an end. Assumes nothing.
+-- The ends of a pair: what the numbers that are read from the rows say, at one edge, at the edges of K one after the
+-- other, and for an end. Assumes nothing.
 use Prim.Native.Nat.{ℕ, zero, suc, _+_, _*_, _≤_, _<_}
 use mathlib.Core.Path.{_≡_, refl, sym, _∙_, ap, ap₂}
 use mathlib.Core.Bool.{Bool, true, false, not, cond, _&&_, _||_}
@@ -11,7 +12,7 @@ use lib.Dec.{eqb, leb, ltb}
 use lib.ListN.{length, getD, set}
 use lib.Seq.{getD-set-other}
 use borrow.Author.Tests.{eq-eqb, ne-eqb, le-leb, lt-leb, ltb-true, ltb-false}
-use Rattle.lists.proofs.Bools.{and-no, and-stop, true-or}
+use Rattle.lists.proofs.Bools.{and-no, and-regroup, and-stop, true-or}
 use Rattle.lengths.specs.Edge.{Edge, Point}
 use Rattle.lengths.specs.Instance.{mostLength, mostPoints}
 use Rattle.lengths.specs.Table.{lengthOf}
@@ -290,7 +291,7 @@ module _ {n : ℕ} {out put : List ℕ} {k : EdgeSet} {c : ℕ} {legs₀ legs : 
                 (λ (l m : ℕ → ℕ → ℕ) (z : ℕ). endAt? l m (edgeList k) c z q p)
                 (λ (l m : ℕ → ℕ → ℕ) (z : ℕ). every (bothEnds? l m (edgeList k) c z) (edgesOf (k .from) (k .to) (i + 1)))
                 (λ l m z.
-                shuffle (endAt? l m (edgeList k) c z q p) (endAt? l m (edgeList k) c z p q) (every (bothEnds? l m (edgeList k) c z) (edgesOf (k .from) (k .to) i))
+                and-regroup (endAt? l m (edgeList k) c z q p) (endAt? l m (edgeList k) c z p q) (every (bothEnds? l m (edgeList k) c z) (edgesOf (k .from) (k .to) i))
                 ∙ ap (λ (j : ℕ). every (bothEnds? l m (edgeList k) c z) (edgesOf (k .from) (k .to) j)) (sym (add-one i)))
                 (further-then
                 (λ (l m : ℕ → ℕ → ℕ) (z : ℕ). every (bothEnds? l m (edgeList k) c z) (edgesOf (k .from) (k .to) i))
@@ -300,9 +301,3 @@ module _ {n : ℕ} {out put : List ℕ} {k : EdgeSet} {c : ℕ} {legs₀ legs : 
                 (s .told) f)
                 g;
           }
-        where
-          shuffle : (b a e : Bool) → b && (a && e) ≡ a && b && e
-          shuffle true true e = refl
-          shuffle true false e = refl
-          shuffle false true e = refl
-          shuffle false false e = refl

@@ -1,5 +1,6 @@
--- Taking points of degree two into the legs. A leg that is the length l(cx) is kept exactly when l(cx) + l(sw) + l(tw) is at most m(st) + m(cw) + m(xw), which says that
--- w stays; one that is FAR stays FAR. The leg of w itself is kept where its edge to c is one of its two. Assumes nothing.
+-- Taking points of degree two into the legs. A leg that is the length l(cx) is kept exactly when l(cx) + l(sw) + l(tw)
+-- is at most m(st) + m(cw) + m(xw), which says that w stays; one that is FAR stays FAR. The leg of w itself is kept
+-- where its edge to c is one of its two. Assumes nothing.
 use Prim.Native.Nat.{ℕ, _+_, _*_, _≤_, _<_, max}
 use mathlib.Core.Path.{_≡_, refl, sym, _∙_, ap, subst}
 use mathlib.Core.Bool.{Bool, true, false, not, cond, _&&_, _||_}
@@ -12,7 +13,7 @@ use lib.Dec.{eqb, leb, ltb}
 use lib.ListN.{length, getD, set}
 use lib.Seq.{getD-set-other}
 use borrow.Author.Tests.{eq-eqb, ne-eqb, le-leb, lt-leb, ltb-true, ltb-false}
-use Rattle.lists.proofs.Bools.{cond-same, and-yes, and-no, true-or}
+use Rattle.lists.proofs.Bools.{cond-same, and-yes, and-no, and-assoc, true-or}
 use Rattle.lengths.specs.Edge.{Point}
 use Rattle.lengths.specs.Instance.{mostLength, mostPoints}
 use Rattle.lengths.specs.Table.{lengthOf}
@@ -128,11 +129,7 @@ module _ {n : ℕ} {out put : List ℕ} {c w s t : ℕ} {legs : List ℕ} (a : M
               → narrowedBy (cond g (lengthOf n low c x) far) (cond g (lengthOf n low c x) far + (sw + tw)) (cw + st + getD put (at + x) 0) (cw + st + getD put (at + x) 0)
               ≡ cond (stays? (lengthOf n low) (lengthOf n high) w s t c x && g) (lengthOf n low c x) far
           unfolding narrowedBy
-          leg-moved x p nx true = ap (λ (b : Bool). cond b (lengthOf n low c x) far) (leg-test x p nx ∙ sym (yes-and (stays? (lengthOf n low) (lengthOf n high) w s t c x)))
-            where
-              yes-and : (b : Bool) → b && true ≡ b
-              yes-and true = refl
-              yes-and false = refl
+          leg-moved x p nx true = ap (λ (b : Bool). cond b (lengthOf n low c x) far) (leg-test x p nx ∙ sym (and-yes (stays? (lengthOf n low) (lengthOf n high) w s t c x)))
           leg-moved x p nx false =
               cond-same (leb (far + (sw + tw)) (max (cw + st + getD put (at + x) 0) (cw + st + getD put (at + x) 0))) far
               ∙ no-and (stays? (lengthOf n low) (lengthOf n high) w s t c x)
@@ -182,12 +179,8 @@ further-then {n} {out} {put} {c} one two both e f g = record {
   list = g .list;
   each = λ low high rl rh test i x p.
       g .each low high rl rh (λ (z : ℕ). one (lengthOf n low) (lengthOf n high) z && test z) (f .each low high rl rh test i) x p
-      ∙ ap (λ (b : Bool). cond b (lengthOf n low c x) far) (parts (two (lengthOf n low) (lengthOf n high) x) (one (lengthOf n low) (lengthOf n high) x) (test x) ∙ ap (λ (b : Bool). b && test x) (e (lengthOf n low) (lengthOf n high) x));
+      ∙ ap (λ (b : Bool). cond b (lengthOf n low c x) far) (and-assoc (two (lengthOf n low) (lengthOf n high) x) (one (lengthOf n low) (lengthOf n high) x) (test x) ∙ ap (λ (b : Bool). b && test x) (e (lengthOf n low) (lengthOf n high) x));
 }
-  where
-    parts : (a b d : Bool) → a && (b && d) ≡ a && b && d
-    parts true b d = refl
-    parts false b d = refl
 
 -- a test that passes at every point
 pub further-kept : {n : ℕ} {out put : List ℕ} {c : ℕ} {legs : List ℕ} (test : (l m : ℕ → ℕ → ℕ) → ℕ → Bool) → LegList legs → ((l m : ℕ → ℕ → ℕ) (x : ℕ) → test l m x ≡ true)

@@ -1,5 +1,5 @@
-// The ends of a pair: a point x with an edge xq in K stays where the edges of K are, once it is between the split point c and q.
-// What is taken out is measured by the rows `out`, what is put in by the rows `put`.
+// The ends of a pair: a point x with an edge xq in K stays where the edges of K are, once it is between the
+// split point c and q. What is taken out is measured by the rows `out`, what is put in by the rows `put`.
 use lengths::instance::Instance;
 use lengths::rows::length_in;
 use lengths::rows::row_start;
@@ -7,7 +7,8 @@ use rules::legs;
 use sets::edge_set::EdgeSet;
 ghost use Rattle.or_opt.specs.asks.Ends.{OntoAsked, Onto, AllAsked, AtAll, EndAsked, EndTold, LegAsked, LegTold, EndsAsked, EndsTold};
 
-// Does w stay where the edge uv is? Its own two edges are `taken` long together, and the edge of its other ends is `given` long.
+// Does w stay where the edge uv is? Its own two edges are `taken` long together, and the edge of its other ends
+// is `given` long.
 fn stays(n: u16, out: &[u32], put: &[u32], w: u16, taken: u32, given: u32, u: u16, v: u16) -> bool
     requires { ⌜ OntoAsked n (now out) (now put) w taken given u v ⌝ }
     ensures { λ r. ⌜ Onto n (now (out .entry)) (now (put .entry)) w taken given u v r ⌝ }
@@ -23,7 +24,7 @@ fn stays(n: u16, out: &[u32], put: &[u32], w: u16, taken: u32, given: u32, u: u1
     taken + length_in(out, row_start(n, u), v) <= new
 }
 
-// Does w stay where the edges of k are?
+// Does w stay where the edges of k are? Ends: i rises to the count of k.
 fn stays_at_all(
     n: u16,
     out: &[u32],
@@ -60,7 +61,8 @@ fn end_stays(n: u16, out: &[u32], put: &[u32], k: EdgeSet, c: u16, x: u16, q: u1
     stays_at_all(n, out, put, k, x, taken, given)
 }
 
-// Takes x, which k joins to q, as an end into its leg: FAR where it does not stay. A leg that is FAR is not looked at, nor the edge to c.
+// Takes x, which k joins to q, as an end into its leg: FAR where it does not stay. A leg that is FAR is not looked at,
+// nor the edge to c.
 fn settle_end(
     n: u16,
     out: &[u32],
@@ -85,7 +87,7 @@ fn settle_end(
     }
 }
 
-// Takes all points of k into the legs as ends.
+// Takes all points of k into the legs as ends. Ends: i rises to the count of k.
 pub fn settle_ends(
     n: u16,
     out: &[u32],

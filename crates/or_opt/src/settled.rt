@@ -1,5 +1,5 @@
-// The points of degree two of K, which are settled between two others: none may move between the split point c and the end of a leg.
-// What is taken out is measured by the rows `out`, what is put in by the rows `put`.
+// The points of degree two of K, which are settled between two others: none may move between the split point c and
+// the end of a leg. What is taken out is measured by the rows `out`, what is put in by the rows `put`.
 use lengths::instance::Instance;
 use lengths::rows::length_in;
 use lengths::rows::row_start;
@@ -10,7 +10,8 @@ ghost use mathlib.Core.Path.{_≡_};
 ghost use mathlib.Core.Bool.{cond, _||_};
 ghost use lib.Dec.{eqb};
 ghost use Rattle.rules.specs.asks.Legs.{far};
-ghost use Rattle.or_opt.specs.asks.Settled.{MoveAsked, Moved, MeetAsked, Met, TwoAsked, TwoTold, WithAsked, WithTold, AllAsked, Settled};
+ghost use Rattle.or_opt.specs.asks.Settled.{MoveAsked, Moved, MeetAsked, Met, TwoAsked, TwoTold};
+ghost use Rattle.or_opt.specs.asks.Settled.{WithAsked, WithTold, AllAsked, Settled};
 
 // The leg of a point between s and t: without an edge to c it would be the point's third.
 fn own_leg(leg: u32, c: u16, s: u16, t: u16) -> u32
@@ -25,7 +26,8 @@ fn own_leg(leg: u32, c: u16, s: u16, t: u16) -> u32
     legs::FAR
 }
 
-// Takes the point w, between s and t, into the legs: FAR where moving it between c and the leg's end makes the sum smaller.
+// Takes the point w, between s and t, into the legs: FAR where moving it between c and the leg's end makes
+// the sum smaller.
 fn move_between(
     n: u16,
     out: &[u32],
@@ -95,7 +97,7 @@ fn settle_two(
     meet(n, out, put, c, q, v, p, u, legs);
 }
 
-// Takes the points that edge i of k shares with the edges before it into the legs.
+// Takes the points that edge i of k shares with the edges before it into the legs. Ends: j rises to i.
 fn settle_with(
     n: u16,
     out: &[u32],
@@ -117,7 +119,8 @@ fn settle_with(
     }
 }
 
-// Takes all points of degree two of k into the legs: each is shared by two edges. An edge that stands in k before brings nothing new.
+// Takes all points of degree two of k into the legs: each is shared by two edges. An edge that stands in k before
+// brings nothing new. Ends: i rises to the count of k.
 pub fn settle_all(
     n: u16,
     out: &[u32],

@@ -1,4 +1,5 @@
--- The text of a line: its parts as they are written, its length, and that it is what is read from it that makes it again. Assumes nothing.
+-- The text of a line: its parts as they are written, its length, and that it is what is read from it that makes it
+-- again. Assumes nothing.
 use Prim.Native.Nat.{ℕ, zero, suc, _+_, _≤_, _<_}
 use mathlib.Core.Path.{_≡_, refl, sym, _∙_, ap, subst}
 use mathlib.Core.Bool.{Bool, true, false, cond, _&&_}
@@ -13,13 +14,13 @@ use Rattle.lengths.specs.Instance.{mostLength}
 use Rattle.marks.specs.Mark.{struckMark, openMark, pendingMark}
 use Rattle.text.specs.Columns.{padded}
 use Rattle.text.specs.Decimal.{decimal, valueFrom}
-use Rattle.text.specs.Words.{Room, Wrote, blanks, same}
+use Rattle.text.specs.Words.{Room, Wrote, blanks, openWord, struckWord, newline, same}
 use Rattle.text.specs.asks.Columns.{PaddedAsked}
 use Rattle.text.proofs.Decimals.{decimal-length}
 use Rattle.text.proofs.Padding.{padded-length, padded-wider, padded-value}
 use Rattle.text.proofs.SameTexts.{same-self, same-equal}
 use Rattle.text.proofs.Writing.{wrote-both}
-use Rattle.pages.specs.Line.{lineBytes, openWord, pendingWord, struckWord, markWord, newline, lineText, lengthRead, markOfLetter, markRead, isLine}
+use Rattle.pages.specs.Line.{lineBytes, pendingWord, markWord, lineText, lengthRead, markOfLetter, markRead, isLine}
 use Rattle.pages.specs.asks.Line.{lineEnd, ShortPoints, LineAsked, MarkReadIs}
 
 -- the digits that the columns hold
@@ -44,15 +45,15 @@ wrote-whole {out} {t} {left} {r} w h =
 
 -- the end of a line by its mark
 module _ (mark : ℕ) where
-  pub end-open : mark ≡ openMark → lineEnd mark ≡ blanks 1 ++ openWord ++ newline
+  pub end-open : mark ≡ openMark → lineEnd mark ≡ blanks 1 ++ (openWord ++ blanks 4) ++ newline
   unfolding lineEnd markWord
   end-open h = rw (lineEnd, markWord, eq-eqb mark openMark h)
 
-  pub end-pending : (mark ≡ openMark → ⊥) → mark ≡ pendingMark → lineEnd mark ≡ blanks 1 ++ pendingWord ++ newline
+  pub end-pending : (mark ≡ openMark → ⊥) → mark ≡ pendingMark → lineEnd mark ≡ blanks 1 ++ (pendingWord ++ blanks 1) ++ newline
   unfolding lineEnd markWord
   end-pending g h = rw (lineEnd, markWord, ne-eqb mark openMark g, eq-eqb mark pendingMark h)
 
-  pub end-struck : (mark ≡ openMark → ⊥) → (mark ≡ pendingMark → ⊥) → lineEnd mark ≡ blanks 1 ++ struckWord ++ newline
+  pub end-struck : (mark ≡ openMark → ⊥) → (mark ≡ pendingMark → ⊥) → lineEnd mark ≡ blanks 1 ++ (struckWord ++ blanks 2) ++ newline
   unfolding lineEnd markWord
   end-struck g h = rw (lineEnd, markWord, ne-eqb mark openMark g, ne-eqb mark pendingMark h)
 
@@ -60,7 +61,7 @@ module _ (mark : ℕ) where
   unfolding markWord
   word-length = by (eqb mark openMark) (eqb mark pendingMark)
     where
-      by : (s t : Bool) → length (cond s openWord (cond t pendingWord struckWord)) ≡ 8
+      by : (s t : Bool) → length (cond s (openWord ++ blanks 4) (cond t (pendingWord ++ blanks 1) (struckWord ++ blanks 2))) ≡ 8
       by true t = refl
       by false true = refl
       by false false = refl

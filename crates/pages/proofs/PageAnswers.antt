@@ -1,5 +1,6 @@
--- The answers of reading, without the reader: a page is accepted exactly when 1, 2, 6 and 26 pass and the text is the page of some lengths within the limit and
--- some marks; and 27 is told exactly when they pass and it is not, with the first line with which no page begins. Assumes nothing.
+-- The answers of reading, without the reader: a page is accepted exactly when 1, 2, 6 and 26 pass and the text is the
+-- page of some lengths within the limit and some marks; and 27 is told exactly when they pass and it is not, with the
+-- first line with which no page begins. Assumes nothing.
 use Prim.Native.Nat.{ℕ, _≤_}
 use mathlib.Core.Path.{_≡_, refl, sym, _∙_, ap}
 use mathlib.Core.Bool.{Bool, true, false}

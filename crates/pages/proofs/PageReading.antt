@@ -1,5 +1,6 @@
--- Which texts are read as page p, and which line is told of the others, without the reader: a text is accepted exactly when it is the page of some lengths
--- within the limit and some marks; and the line that 27 tells is the first with which no page begins. Assumes nothing.
+-- Which texts are read as page p, and which line is told of the others, without the reader: a text is accepted exactly
+-- when it is the page of some lengths within the limit and some marks; and the line that 27 tells is the first with
+-- which no page begins. Assumes nothing.
 use Prim.Native.Nat.{ℕ, zero, suc, _+_, _-_, _*_, _≤_, _<_}
 use mathlib.Core.Path.{_≡_, refl, sym, _∙_, ap, ap₂}
 use mathlib.Core.Bool.{Bool, true, false, not}
@@ -186,7 +187,8 @@ module _ (n p : ℕ) (q : PartAsked n (firstPlace p) (pageLines n p)) (text : Li
   unfolding found
   before-right j h = not-false _ (firstFrom-before (λ k. not (rightLine n first text k)) 0 lines j (omega arith) h)
 
-  -- 27'S LINE is the first with which no page begins: the lines before it are right, so some page begins with them; and it is wrong, or past the last.
+  -- 27'S LINE is the first with which no page begins: the lines before it are right, so some page begins with them; and
+  -- it is wrong, or past the last.
   pub told-first : FirstWrong n p text (wrongLine n first lines text)
   unfolding wrongLine found
   told-first = record {

@@ -1,5 +1,6 @@
--- What is written is read again: page p, read into any table and marks that pass the tests, sets exactly its edges to what was written; and all pages of an
--- instance, read one after the other, leave its lengths and its marks. Assumes nothing.
+-- What is written is read again: page p, read into any table and marks that pass the tests, sets exactly its edges to
+-- what was written; and all pages of an instance, read one after the other, leave its lengths and its marks.
+-- Assumes nothing.
 use Prim.Native.Nat.{ℕ, zero, suc, _+_, _-_, _*_, _^_, _≤_, _<_}
 use mathlib.Core.Path.{_≡_, refl, sym, _∙_, ap}
 use mathlib.Core.Bool.{true}
@@ -98,8 +99,9 @@ module _ {n : ℕ} (p : ℕ) {lengths marks table set : List ℕ} (i : Instance 
   marks-made = ext-getD 0 (marksRead text (pageLines n p)) (partOf n p marks) (marks-count text (pageLines n p) ∙ sym (part-length marks (i .marked .size)))
       (λ j l. let k : j < pageLines n p = omega (arith, marks-count text (pageLines n p)) in singles-at (λ m. markRead (lineAt text m)) (pageLines n p) j k ∙ mark-made j k ∙ sym (part-at marks j k))
 
-  -- ROUND TRIP, page p: it is accepted, and sets exactly its edges to what was written. Each line says its length and its mark, so what is read is the page's
-  -- part of both; and the numbers of the table's bytes after writing over a part are the numbers with that part written over.
+  -- ROUND TRIP, page p: it is accepted, and sets exactly its edges to what was written. Each line says its length and
+  -- its mark, so what is read is the page's part of both; and the numbers of the table's bytes after writing over a
+  -- part are the numbers with that part written over.
   pub read-accepted : pageAnswer n p (pageText n p lengths marks) table set ≡ Done
   unfolding readAnswer text
   read-accepted = rw (readAnswer, t .tests, h, read-page n p part text the-page)
@@ -200,8 +202,9 @@ module _ {n : ℕ} {lengths marks : List ℕ} (i : Instance n lengths marks) whe
   unfolding pageCount
   covered j h = omega arith
 
-  -- ROUND TRIP, ALL PAGES: reading them one after the other, into whatever table and marks pass the tests, leaves the instance's lengths and its packed
-  -- marks. Each page sets its edges and leaves the others, and every edge is on one of the pages.
+  -- ROUND TRIP, ALL PAGES: reading them one after the other, into whatever table and marks pass the tests, leaves the
+  -- instance's lengths and its packed marks. Each page sets its edges and leaves the others, and every edge is on
+  -- one of the pages.
   module _ {b : Board} (t : Passes n (b .table) (b .set)) where
     abbrev left : Board
     left = readPages n lengths marks (pageCount n) b

@@ -1,10 +1,10 @@
 -- What is read, stored line by line: the lengths into a table's bytes, the marks into a packed set. Assumes nothing.
-use Prim.Native.Nat.{ℕ, _+_, _-_, _*_, _/_, _%_, _≤_, _<_}
+use Prim.Native.Nat.{ℕ, _+_, _-_, _*_, _/_, _≤_, _<_}
 use mathlib.Core.Path.{_≡_, refl, sym, _∙_, ap, ap₂}
 use mathlib.Core.Bool.{true}
 use mathlib.Core.List.{List, [], _∷_, _++_, append-nil}
 use native.Mathlib.Omega.{arith}
-use lib.ListN.{length, getD, take, drop, set, length-set}
+use lib.ListN.{length, take, drop, set}
 use Rattle.endian.specs.Bytes.{littleEndian, bytesOf}
 use Rattle.endian.specs.asks.Bytes.{Entry}
 use Rattle.endian.specs.asks.Bytes as bytes
@@ -12,8 +12,7 @@ use Rattle.endian.proofs.Writing.{bytes-length, bytes-append}
 use Rattle.lengths.specs.Edge.{edgeCount}
 use Rattle.marks.specs.Mark.{setMark}
 use Rattle.marks.specs.Packed.{wellPacked, marksOf}
-use Rattle.marks.specs.asks.Packed.{Put}
-use Rattle.marks.proofs.PackedMarks.{held-written}
+use Rattle.marks.specs.asks.Mark.{MarkSet}
 use Rattle.marks.proofs.PackedSets.{marks-size}
 use Rattle.pages.specs.Line.{lineBytes, lengthRead, markRead}
 use Rattle.pages.specs.Page.{joined}
@@ -108,22 +107,21 @@ module _ {text : List ℕ} {first lines : ℕ} {set₀ s : List ℕ} {i : ℕ} (
       record { kept = o .kept; stored = λ n w g. o .stored n w g ∙ ap (λ (k : ℕ). overlay first (marksRead text k) (marksOf n set₀)) e }
 
   module _ (h : i < lines) where
-    pub mark-inside : (first + i) / 4 < length s
+    pub mark-inside : first + i < 4 * length s
     mark-inside = omega (arith, p .inside, o .kept)
 
-    pub marks-on : {mark r : ℕ} → MarkReadIs (lineAt text i) mark → Put (getD s ((first + i) / 4) 0) ((first + i) % 4) mark r
-        → StoringMarks text first lines set₀ (set s ((first + i) / 4) r) (i + 1)
+    pub marks-on : {mark : ℕ} {left : List ℕ} → MarkReadIs (lineAt text i) mark → MarkSet s (first + i) mark left → StoringMarks text first lines set₀ left (i + 1)
     unfolding setMark
-    marks-on {mark} {r} m w = record {
+    marks-on {mark} m w = record {
       inside = omega arith;
-      kept = length-set s ((first + i) / 4) r ∙ o .kept;
+      kept = w .kept ∙ o .kept;
       stored = λ n g l.
           let old = marksOf n set₀ in
           let new = marksRead text i in
           let size = marks-size n set₀ g in
           let fits : first + length new ≤ length old = omega (arith, marks-count text i, size) in
           let whole : length (marksOf n s) ≡ edgeCount n = ap length (o .stored n g l) ∙ overlay-length first new old fits ∙ size in
-          held-written n s whole (omega arith) (m .is-mark) w
+          w .written n whole (omega arith)
           ∙ ap (λ (x : List ℕ). set x (first + i) mark) (o .stored n g l)
           ∙ ap (λ (k : ℕ). set (overlay first new old) (first + k) mark) (sym (marks-count text i))
           ∙ sym (overlay-one (first + length new) (overlay first new old) mark (omega (arith, overlay-length first new old fits, marks-count text i, size)))

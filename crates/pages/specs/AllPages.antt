@@ -1,4 +1,5 @@
--- Reading the pages of an instance, one after the other (02, Paper 12): "Reading all pages of an instance yields its lengths and marks again".
+-- Reading the pages of an instance, one after the other (02, Paper 12): "Reading all pages of an instance yields its
+-- lengths and marks again".
 use Prim.Native.Nat.{ℕ, zero, suc}
 use mathlib.Core.List.{List}
 use Rattle.pages.specs.Page.{pageText}

@@ -8,32 +8,26 @@ use Rattle.lengths.specs.Instance.{mostLength}
 use Rattle.marks.specs.Mark.{struckMark, openMark, pendingMark}
 use Rattle.text.specs.Columns.{padded}
 use Rattle.text.specs.Decimal.{valueFrom}
-use Rattle.text.specs.Words.{blanks, same}
+use Rattle.text.specs.Words.{blanks, openWord, struckWord, newline, same}
 
 abbrev pub lineBytes : ℕ
 lineBytes = 25
 
 -- "from 17 `open`, `pending` or `struck`", with blanks to column 24
-abbrev pub openWord : List ℕ
-openWord = 111 ∷ 112 ∷ 101 ∷ 110 ∷ 32 ∷ 32 ∷ 32 ∷ 32 ∷ []
-
 abbrev pub pendingWord : List ℕ
-pendingWord = 112 ∷ 101 ∷ 110 ∷ 100 ∷ 105 ∷ 110 ∷ 103 ∷ 32 ∷ []
-
-abbrev pub struckWord : List ℕ
-struckWord = 115 ∷ 116 ∷ 114 ∷ 117 ∷ 99 ∷ 107 ∷ 32 ∷ 32 ∷ []
+pendingWord = 112 ∷ 101 ∷ 110 ∷ 100 ∷ 105 ∷ 110 ∷ 103 ∷ []
 
 unfoldable pub markWord : ℕ → List ℕ
-markWord mark = cond (eqb mark openMark) openWord (cond (eqb mark pendingMark) pendingWord struckWord)
+markWord mark =
+    cond (eqb mark openMark) (openWord ++ blanks 4) (cond (eqb mark pendingMark) (pendingWord ++ blanks 1) (struckWord ++ blanks 2))
 
-abbrev pub newline : List ℕ
-newline = 10 ∷ []
-
--- "lower point in 1 to 3 and higher in 5 to 7, length in 9 to 15, all right-aligned without leading zeros; .. blanks elsewhere"
+-- "lower point in 1 to 3 and higher in 5 to 7, length in 9 to 15, all right-aligned without leading zeros; ..
+-- blanks elsewhere"
 unfoldable pub lineText : (a b length mark : ℕ) → List ℕ
 lineText a b length mark = padded 3 a ++ blanks 1 ++ padded 3 b ++ blanks 1 ++ padded 7 length ++ blanks 1 ++ markWord mark ++ newline
 
--- what is read from a line, whatever bytes it is: the value of columns 9 to 15, and the mark whose word begins with the letter in column 17
+-- what is read from a line, whatever bytes it is: the value of columns 9 to 15, and the mark whose word begins with the
+-- letter in column 17
 unfoldable pub lengthRead : List ℕ → ℕ
 lengthRead line = valueFrom 0 (take 7 (drop 8 line))
 

@@ -1,4 +1,5 @@
--- What a page is, without a reader: the text of some lengths within the limit and some marks. And the first line that is no page's.
+-- What a page is, without a reader: the text of some lengths within the limit and some marks. And the first line
+-- that is no page's.
 use Prim.Native.Nat.{ℕ, _-_, _*_, _≤_}
 use mathlib.Core.Path.{_≡_}
 use mathlib.Core.List.{List}
@@ -27,7 +28,8 @@ pub record Begins (n p : ℕ) (text : List ℕ) (k : ℕ) : Type 0 where
   pub whole : lineBytes * k ≤ length text
   pub begun : take (lineBytes * k) text ≡ take (lineBytes * k) page
 
--- "its first wrong, missing or surplus line": some page begins with the lines before it, and none with it too, or it is not there as a whole
+-- "its first wrong, missing or surplus line": some page begins with the lines before it, and none with it too, or it is
+-- not there as a whole
 pub record FirstWrong (n p : ℕ) (text : List ℕ) (line : ℕ) : Type 0 where
   pub some : 1 ≤ line
   pub right : Begins n p text (line - 1)

@@ -42,7 +42,8 @@ wrongLine n first lines text = suc (firstFrom (λ k. not (rightLine n first text
 
 -- no line is wrong, and there is nothing behind the last
 unfoldable pub isPageText : (n p : ℕ) → List ℕ → Bool
-isPageText n p text = eqb (wrongLine n (firstPlace p) (pageLines n p) text) (suc (pageLines n p)) && eqb (length text) (lineBytes * pageLines n p)
+isPageText n p text =
+    eqb (wrongLine n (firstPlace p) (pageLines n p) text) (suc (pageLines n p)) && eqb (length text) (lineBytes * pageLines n p)
 
 -- a table and a packed set that pass 1, 2 and 6
 pub record Passes (n : ℕ) (table set : List ℕ) : Type 0 where

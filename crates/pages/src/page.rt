@@ -40,7 +40,7 @@ pub fn page_of(n: u16, page: u32) -> Page
     }
 }
 
-// The edge at a place, from 0: as many edges behind 1-2.
+// The edge at a place, from 0: as many edges behind 1-2. Ends: i rises to the place.
 pub fn edge_at(n: usize, place: usize) -> NextEdge
     requires { ⌜ PlaceAsked n place ⌝ }
     ensures { λ r. ⌜ Cursor n place (r .low) (r .high) ⌝ }

@@ -11,8 +11,7 @@ use admission::tests::test_places;
 use endian::bytes::put32;
 use lengths::edge::following;
 use lengths::refusal;
-use marks::packed::PER_BYTE;
-use marks::packed::put_quarter;
+use marks::mark::set_mark_at;
 ghost use mathlib.Core.Path.{_≡_};
 ghost use Prim.Native.Nat.{_*_, _/_};
 ghost use lib.ListN.{length};
@@ -41,7 +40,8 @@ fn has_line(a: u32, b: u32, text: &[u8], k: usize) -> bool
     is_line(a, b, &text[at..end])
 }
 
-// The first wrong of so many lines, counted from 1, or one past the last: line 1 is that of the edge at `first`.
+// The first wrong of so many lines, counted from 1, or one past the last: line 1 is that of the edge at `first`. Ends:
+// i rises to the number of lines.
 fn wrong_line(n: u16, first: usize, lines: usize, text: &[u8]) -> usize
     requires { ⌜ PartAsked n first lines ⌝ }
     ensures { λ r. ⌜ r ≡ wrongLine n first lines (now (text .entry)) ⌝ }
@@ -63,7 +63,7 @@ fn wrong_line(n: u16, first: usize, lines: usize, text: &[u8]) -> usize
     i + 1
 }
 
-// Writes the lengths of so many lines into the table, from a place on.
+// Writes the lengths of so many lines into the table, from a place on. Ends: i rises to the number of lines.
 fn store_lengths(text: &[u8], first: usize, lines: usize, table: &mut [u8])
     requires { ⌜ StoreAsked (now text) first lines (length (now table) / 4) ⌝ }
     ensures { λ _. ⌜ now (table .exit) ≡ overlay (4 * first) (bytes32 (lengthsRead (now (text .entry)) lines)) (now (table .entry)) ⌝ }
@@ -77,7 +77,7 @@ fn store_lengths(text: &[u8], first: usize, lines: usize, table: &mut [u8])
     }
 }
 
-// Writes the marks of so many lines into the packed set, from a place on.
+// Writes the marks of so many lines into the packed set, from a place on. Ends: i rises to the number of lines.
 fn store_marks(text: &[u8], first: usize, lines: usize, set: &mut [u8])
     requires { ⌜ StoreAsked (now text) first lines (4 * length (now set)) ⌝ }
     ensures { λ _. ⌜ MarksStored (now (text .entry)) first lines (now (set .entry)) (now (set .exit)) ⌝ }
@@ -86,17 +86,16 @@ fn store_marks(text: &[u8], first: usize, lines: usize, set: &mut [u8])
     while i < lines {
         let at = line::BYTES * i;
         let end = at + line::BYTES;
-        let mark = mark_read(&text[at..end]);
-        let place = first + i;
-        let byte = place / PER_BYTE;
-        set[byte] = put_quarter(set[byte], place % PER_BYTE, mark);
+        set_mark_at(set, first + i, mark_read(&text[at..end]));
         i += 1;
     }
 }
 
-// Reads page `page` of n points into the table and the marks: only its own edges are changed there, and nothing where it is refused.
+// Reads page `page` of n points into the table and the marks: only its own edges are changed there, and nothing
+// where it is refused.
 pub fn read_page(n: u32, page: u32, text: &[u8], table: &mut [u8], marks: &mut [u8]) -> PageRead
-    ensures { λ r. ⌜ ReadAs n page (now (text .entry)) (now (table .entry)) (now (marks .entry)) r (now (table .exit)) (now (marks .exit)) ⌝ }
+    ensures { λ r.
+        ⌜ ReadAs n page (now (text .entry)) (now (table .entry)) (now (marks .entry)) r (now (table .exit)) (now (marks .exit)) ⌝ }
 {
     let tested = test_places(n, table, marks);
     let points = match tested {

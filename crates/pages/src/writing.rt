@@ -9,8 +9,7 @@ use admission::tests::test_instance;
 use endian::bytes::number32;
 use lengths::edge::following;
 use lengths::refusal;
-use marks::packed::PER_BYTE;
-use marks::packed::quarter;
+use marks::mark::mark_at;
 ghost use Rattle.endian.specs.Bytes.{whole32};
 ghost use Rattle.marks.specs.Packed.{marksOf};
 ghost use Rattle.text.specs.Words.{Wrote};
@@ -23,7 +22,8 @@ pub enum Written {
     Refused { refusal: u8, record: u16 },
 }
 
-// Writes so many lines, from that of the edge at a place on, to the front of the text: the next place.
+// Writes so many lines, from that of the edge at a place on, to the front of the text: the next place. Ends: i rises to
+// the number of lines.
 fn put_lines(
     n: u16,
     table: &[u8],
@@ -33,7 +33,8 @@ fn put_lines(
     text: &mut [u8],
 ) -> usize
     requires { ⌜ LinesAsked n (whole32 (now table)) (marksOf n (now marks)) first lines (now text) ⌝ }
-    ensures { λ r. ⌜ Wrote (now (text .entry)) 0 (linesFrom n (whole32 (now (table .entry))) (marksOf n (now (marks .entry))) first lines) r (now (text .exit)) ⌝ }
+    ensures { λ r. ⌜ Wrote (now (text .entry)) 0
+        (linesFrom n (whole32 (now (table .entry))) (marksOf n (now (marks .entry))) first lines) r (now (text .exit)) ⌝ }
 {
     let points = n as usize;
     let start = edge_at(points, first);
@@ -44,7 +45,7 @@ fn put_lines(
     while i < lines {
         let place = first + i;
         let length = number32(table, place);
-        let mark = quarter(marks[place / PER_BYTE], place % PER_BYTE);
+        let mark = mark_at(marks, place);
         at = put_line(a as u32, b as u32, length, mark, text, at);
         let next = following(points, a, b);
         a = next.low;
@@ -56,7 +57,8 @@ fn put_lines(
 
 // Writes page `page` of n points to the front of the text; the bytes past it stay.
 pub fn write_page(n: u32, table: &[u8], marks: &[u8], page: u32, text: &mut [u8]) -> Written
-    ensures { λ r. ⌜ WrittenAs n (whole32 (now (table .entry))) (marksOf n (now (marks .entry))) page (now (text .entry)) r (now (text .exit)) ⌝ }
+    ensures { λ r.
+        ⌜ WrittenAs n (whole32 (now (table .entry))) (marksOf n (now (marks .entry))) page (now (text .entry)) r (now (text .exit)) ⌝ }
 {
     let tested = test_instance(n, table, marks);
     let points = match tested {

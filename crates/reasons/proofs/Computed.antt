@@ -10,7 +10,7 @@ use lib.Dec.{ltb}
 use lib.IntN.{pos}
 use borrow.Author.Tests.{ltb-true, ltb-false, not-true}
 use Rattle.lists.proofs.Bools.{and-true, and-both, never-true, never-false}
-use Rattle.lists.specs.Saving.{gains?}
+use Rattle.lengths.specs.Saving.{gains?}
 use Rattle.lengths.specs.Edge.{edge, Before}
 use Rattle.sets.specs.EdgeSet.{AtMostTwo, NoShortCycle}
 use Rattle.rules.specs.Pair.{exchangeSaving, moveSaving, FeasiblePair}

@@ -8,7 +8,7 @@ use mathlib.Core.List.{List}
 use native.Mathlib.Omega.{arith}
 use native.Mathlib.Decide.{decLe}
 use lib.IntN.{ℤ, pos, negsuc}
-use Rattle.lists.specs.Saving.{gains?}
+use Rattle.lengths.specs.Saving.{gains?}
 use Rattle.lengths.specs.Edge.{Edge, edge, Before}
 use Rattle.sets.specs.EdgeSet.{Joins, Has}
 use Rattle.sets.proofs.Laws.Joined.{has-sym}

@@ -8,7 +8,7 @@ use native.Mathlib.Omega.{arith}
 use lib.Dec.{ltb}
 use borrow.Author.Tests.{ltb-true, ltb-false, not-true}
 use Rattle.lists.proofs.Bools.{and-true}
-use Rattle.lists.specs.Saving.{gains?}
+use Rattle.lengths.specs.Saving.{gains?}
 use Rattle.lengths.specs.Edge.{edge, Before}
 use Rattle.sets.specs.EdgeSet.{AtMostTwo, NoShortCycle}
 use Rattle.rules.specs.Pair.{exchangeSaving, moveSaving, FeasiblePair}

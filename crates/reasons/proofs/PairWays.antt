@@ -10,8 +10,8 @@ use lib.Signed.{mag, nonNeg, ltZ}
 use borrow.Author.Tests.{eq-eqb, ne-eqb, ltb-true}
 use mir.Syntax.{w32, w64}
 use mir.Val.{Fits, toZ, ofZ}
-use Rattle.lists.specs.Saving.{saving, gains?}
-use Rattle.lists.proofs.Savings.{gains-above}
+use Rattle.lengths.specs.Saving.{saving, gains?}
+use Rattle.lengths.proofs.Savings.{gains-above}
 use Rattle.lengths.specs.Table.{lengthOf}
 use Rattle.lengths.proofs.SignedSavings.{kept}
 use Rattle.lengths.proofs.Tables.{length-small}

@@ -8,7 +8,7 @@ use mathlib.Core.List.{[], _∷_}
 use native.Mathlib.Omega.{arith}
 use lib.IntN.{pos}
 use Rattle.lists.proofs.Bools.{and-both, never-true}
-use Rattle.lists.specs.Saving.{gains?}
+use Rattle.lengths.specs.Saving.{gains?}
 use Rattle.lengths.specs.Edge.{edge, Before}
 use Rattle.sets.specs.EdgeSet.{Joins, Has, AtMostTwo, NoShortCycle, DegreeTwo}
 use Rattle.sets.specs.asks.Shape.{Apart}

@@ -8,7 +8,7 @@ use mathlib.Core.List.{List, [], _∷_}
 use native.Mathlib.Omega.{arith}
 use native.Mathlib.Decide.{ℕ-discrete}
 use lib.ListN.{length}
-use Rattle.lists.specs.Saving.{saving}
+use Rattle.lengths.specs.Saving.{saving}
 use Rattle.lengths.specs.Edge.{Edge, edge}
 use Rattle.sets.specs.EdgeSet.{Joins, Has, AtMostTwo, Cycle, NoShortCycle, DegreeTwo, withPair}
 use Rattle.sets.specs.asks.Shape.{Apart}

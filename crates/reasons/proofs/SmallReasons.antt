@@ -9,7 +9,7 @@ use native.Mathlib.Omega.{arith}
 use lib.Dec.{ltb}
 use lib.IntN.{pos, negsuc}
 use lib.ListN.{length, getD}
-use Rattle.lists.specs.Saving.{saving}
+use Rattle.lengths.specs.Saving.{saving}
 use Rattle.lengths.specs.Edge.{Edge, edge, Point, edges}
 use Rattle.lengths.specs.Instance.{mostLength}
 use Rattle.lengths.specs.Table.{lengthOf, Lengths}

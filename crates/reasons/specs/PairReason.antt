@@ -6,7 +6,7 @@ use Prim.Native.Nat.{ℕ, min, max}
 use mathlib.Core.Bool.{Bool, true, false, not, cond, _&&_, _||_}
 use lib.Dec.{eqb, ltb}
 use lib.IntN.{ℤ, pos, negsuc}
-use Rattle.lists.specs.Saving.{gains?}
+use Rattle.lengths.specs.Saving.{gains?}
 use Rattle.rules.specs.Pair.{exchangeSaving, moveSaving}
 use Rattle.sentences.specs.Reason.{Reason, struck, third, loop, exchange, move}
 

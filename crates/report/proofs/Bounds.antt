@@ -1,4 +1,5 @@
--- How long the texts are: every one of the program fits `textRoom` bytes, since a line of a strike has at most 15. Assumes nothing.
+-- How long the texts are: every one of the program fits `textRoom` bytes, since a line of a strike has at most 15.
+-- Assumes nothing.
 use Prim.Native.Nat.{ℕ, zero, suc, _+_, _-_, _*_, _^_, _≤_, _<_}
 use mathlib.Core.Path.{_≡_, refl, sym}
 use mathlib.Core.Bool.{Bool, true, false}
@@ -11,19 +12,19 @@ use Rattle.lengths.proofs.Edges.{edges-few, length-edges}
 use Rattle.lengths.specs.Instance.{mostEdges, mostPoints, pointPlaces}
 use Rattle.lists.specs.Count.{count}
 use Rattle.marks.specs.Mark.{openAt, openCount, openMark}
-use Rattle.text.specs.Words.{Room, Wrote}
+use Rattle.text.specs.Words.{Room, Wrote, openWord, struckWord, newline}
 use Rattle.text.specs.Decimal.{fieldText}
 use Rattle.text.proofs.Writing.{length-three}
 use Rattle.text.proofs.Decimals.{field-length}
-use Rattle.report.specs.Lines.{pointsWord, edgesWord, struckWord, space, verdictWord, recordWord, openWord, lineEnd, pointsLine, struckLine, markLine, markLines, struckLines, verdictLine, allLines}
+use Rattle.report.specs.Lines.{pointsWord, edgesWord, space, verdictWord, recordWord, pointsLine, struckLine, markLine, markLines, struckLines, verdictLine, allLines}
 use Rattle.report.specs.asks.Lines.{Large, LinesAsked, StrikesAsked}
 
 struck-length : (a b : ℕ) → a ≤ mostPoints → b ≤ mostPoints → length (struckLine a b) ≤ 15
 unfolding struckLine
 struck-length a b h g = omega (
   arith,
-  length-three (fieldText struckWord a) (fieldText space b) lineEnd,
-  field-length 2 struckWord a (omega arith),
+  length-three (fieldText (struckWord ++ space) a) (fieldText space b) newline,
+  field-length 2 (struckWord ++ space) a (omega arith),
   field-length 2 space b (omega arith),
 )
 
@@ -66,7 +67,7 @@ points-length : (n : ℕ) → n ≤ mostPoints → length (pointsLine n) ≤ 23
 unfolding pointsLine
 points-length n h = omega (
   arith,
-  length-three (fieldText pointsWord n) (fieldText edgesWord (edgeCount n)) lineEnd,
+  length-three (fieldText pointsWord n) (fieldText edgesWord (edgeCount n)) newline,
   field-length 2 pointsWord n (omega arith),
   field-length 4 edgesWord (edgeCount n) (omega (arith, edges-few _ h)),
 )
@@ -75,11 +76,11 @@ verdict-length : (number rec opens : ℕ) → number < 2 ^ 8 → rec < 2 ^ 16 �
 unfolding verdictLine
 verdict-length number rec opens h g k = omega (
   arith,
-  length-append (fieldText verdictWord number ++ fieldText recordWord rec ++ fieldText openWord opens) lineEnd,
-  length-three (fieldText verdictWord number) (fieldText recordWord rec) (fieldText openWord opens),
+  length-append (fieldText verdictWord number ++ fieldText recordWord rec ++ fieldText (space ++ openWord ++ space) opens) newline,
+  length-three (fieldText verdictWord number) (fieldText recordWord rec) (fieldText (space ++ openWord ++ space) opens),
   field-length 4 verdictWord number (omega arith),
   field-length 4 recordWord rec (omega arith),
-  field-length 4 openWord opens (omega arith),
+  field-length 4 (space ++ openWord ++ space) opens (omega arith),
 )
 
 count-few : (v : ℕ) (l : List ℕ) → count v l ≤ length l

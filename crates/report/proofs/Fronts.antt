@@ -1,7 +1,7 @@
--- An input may be cut at any place past its 65,448th byte: the text is the same, so a buffer of more bytes than that sees enough.
--- If nothing is cut there is nothing to show. If something is, the header's eight bytes are in front of the cut, so both have the same n.
--- If n is out of range both get 1. If not, the coordinates end before the 1,449th byte, and both are too long, so both get 7.
--- Assumes nothing.
+-- An input may be cut at any place past its 65,448th byte: the text is the same, so a buffer of more bytes than
+-- that sees enough. If nothing is cut there is nothing to show. If something is, the header's eight bytes are in front
+-- of the cut, so both have the same n. If n is out of range both get 1. If not, the coordinates end before the 1,449th
+-- byte, and both are too long, so both get 7. Assumes nothing.
 use Prim.Native.Nat.{ℕ, _+_, _*_, _≤_, _<_}
 use mathlib.Core.Path.{_≡_, refl, sym, _∙_, ap}
 use mathlib.Core.Bool.{Bool, true, false}

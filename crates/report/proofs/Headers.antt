@@ -1,4 +1,5 @@
--- `headerOf` at each way out of `Header::read`, from the tests that led there; and what a header that was read says. Assumes nothing.
+-- `headerOf` at each way out of `Header::read`, from the tests that led there; and what a header that was read says.
+-- Assumes nothing.
 use Prim.Native.Nat.{ℕ, _+_, _*_, _≤_, _<_}
 use mathlib.Core.Path.{_≡_, refl, sym, _∙_, ap}
 use mathlib.Core.Bool.{Bool, true, false}

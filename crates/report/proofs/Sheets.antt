@@ -1,4 +1,5 @@
--- The parts of a file: its coordinates, and the text of its records once they are marked from fresh marks on. Assumes nothing.
+-- The parts of a file: its coordinates, and the text of its records once they are marked from fresh marks on.
+-- Assumes nothing.
 use Prim.Native.Nat.{ℕ, _+_, _-_, _*_, _≤_}
 use mathlib.Core.Path.{_≡_, sym, _∙_, ap, subst}
 use mathlib.Core.List.{List}
@@ -38,7 +39,8 @@ module _ (n : ℕ) (file : List ℕ) where
       let size : length bytes ≡ pointBytes * n = length-take-le (pointBytes * n) (drop headerBytes file) (omega (arith, length-drop headerBytes file)) in
       omega (arith, size, whole-count32 bytes (omega (arith, size)))
 
--- fresh marks, packed and marked: what is left holds a mark for each edge, and the text of the records is that of its marks
+-- fresh marks, packed and marked: what is left holds a mark for each edge, and the text of the records is
+-- that of its marks
 module _ (n : ℕ) (table records : List ℕ) (v : Verdict) (left : List ℕ) {set : List ℕ} (is : resultOf v left ≡ markPacked n table set records) (fresh : set ≡ packed (freshMarks n)) where
   marked-held : resultOf v (marksOf n left) ≡ markSheet n table (freshMarks n) records
   marked-held = mark-held struckMark table records (fresh-byte-set n) v left (omega arith) (is ∙ ap (λ (l : List ℕ). markPacked n table l records) fresh)

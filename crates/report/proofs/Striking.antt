@@ -1,5 +1,5 @@
--- The loop of `put_strikes`: what is written and the lines that are left make the whole, and the edge at the place is at hand.
--- Assumes nothing.
+-- The loop of `put_strikes`: what is written and the lines that are left make the whole, and the edge at the
+-- place is at hand. Assumes nothing.
 use Prim.Native.Nat.{ℕ, suc, _+_, _≤_, _<_}
 use mathlib.Core.Path.{_≡_, refl, sym, _∙_, ap, subst}
 use mathlib.Core.Bool.{Bool, true, false}

@@ -1,4 +1,5 @@
--- The program's input (01, "Layers and program"): rule and n, 2n coordinates, then records to the end; and the tests of the file.
+-- The program's input (01, "Layers and program"): rule and n, 2n coordinates, then records to the end; and the
+-- tests of the file.
 use Prim.Native.Nat.{ℕ, _+_, _*_}
 use mathlib.Core.List.{List}
 use lib.Dec.{leb}
@@ -10,7 +11,8 @@ use Rattle.endian.specs.Bytes.{whole16, whole32}
 use Rattle.report.specs.declared.header.Header.{Header}
 use Rattle.report.specs.declared.header.Header.the-variants.{Read, Refused}
 
--- "rule and n (32 bits each), 2n coordinates (32 bits each, first all of point 1), then records to the end; at most 65,448 bytes"
+-- "rule and n (32 bits each), 2n coordinates (32 bits each, first all of point 1), then records to the end; at
+-- most 65,448 bytes"
 abbrev pub headerBytes : ℕ
 headerBytes = 8
 
@@ -38,7 +40,8 @@ coordinatesIn n file = whole32 (take (pointBytes * n) (drop headerBytes file))
 unfoldable pub recordsIn : ℕ → List ℕ → List ℕ
 recordsIn n file = whole16 (drop (headerBytes + pointBytes * n) file)
 
--- "A file under 8 bytes gets 7. Once n has passed test 1, a file that ends inside the coordinates or is longer than 65,448 bytes gets 7"
+-- "A file under 8 bytes gets 7. Once n has passed test 1, a file that ends inside the coordinates or is longer than
+-- 65,448 bytes gets 7"
 unfoldable pub headerOf : List ℕ → Header
 headerOf file =
     unless (leb headerBytes (length file)) (Refused 7)

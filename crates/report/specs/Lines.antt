@@ -5,16 +5,14 @@ use mathlib.Core.List.{List, [], _∷_, _++_}
 use Rattle.lengths.specs.Edge.{Edge, edge, edges, edgeCount}
 use Rattle.marks.specs.Mark.{openMark, openAt, openCount}
 use Rattle.text.specs.Decimal.{fieldText}
+use Rattle.text.specs.Words.{openWord, struckWord, newline}
 
--- `points `, ` edges `, `struck `, a space, `verdict `, ` record `, ` open ` and the end of a line
+-- `points `, ` edges `, a space, `verdict ` and ` record `
 abbrev pub pointsWord : List ℕ
 pointsWord = 112 ∷ 111 ∷ 105 ∷ 110 ∷ 116 ∷ 115 ∷ 32 ∷ []
 
 abbrev pub edgesWord : List ℕ
 edgesWord = 32 ∷ 101 ∷ 100 ∷ 103 ∷ 101 ∷ 115 ∷ 32 ∷ []
-
-abbrev pub struckWord : List ℕ
-struckWord = 115 ∷ 116 ∷ 114 ∷ 117 ∷ 99 ∷ 107 ∷ 32 ∷ []
 
 abbrev pub space : List ℕ
 space = 32 ∷ []
@@ -25,19 +23,13 @@ verdictWord = 118 ∷ 101 ∷ 114 ∷ 100 ∷ 105 ∷ 99 ∷ 116 ∷ 32 ∷ []
 abbrev pub recordWord : List ℕ
 recordWord = 32 ∷ 114 ∷ 101 ∷ 99 ∷ 111 ∷ 114 ∷ 100 ∷ 32 ∷ []
 
-abbrev pub openWord : List ℕ
-openWord = 32 ∷ 111 ∷ 112 ∷ 101 ∷ 110 ∷ 32 ∷ []
-
-abbrev pub lineEnd : List ℕ
-lineEnd = 10 ∷ []
-
 -- "Line one: n and the edge count"
 unfoldable pub pointsLine : ℕ → List ℕ
-pointsLine n = fieldText pointsWord n ++ fieldText edgesWord (edgeCount n) ++ lineEnd
+pointsLine n = fieldText pointsWord n ++ fieldText edgesWord (edgeCount n) ++ newline
 
 -- a strike, "lower point first"
 unfoldable pub struckLine : ℕ → ℕ → List ℕ
-struckLine a b = fieldText struckWord a ++ fieldText space b ++ lineEnd
+struckLine a b = fieldText (struckWord ++ space) a ++ fieldText space b ++ newline
 
 -- the line of an edge: none if it is open
 unfoldable pub markLine : Bool → ℕ → ℕ → List ℕ
@@ -54,7 +46,8 @@ struckLines n marks = markLines (edges n) marks 0
 
 -- "Last: refusal number or 0, its record or 0, edges open"
 unfoldable pub verdictLine : ℕ → ℕ → ℕ → List ℕ
-verdictLine number rec opens = fieldText verdictWord number ++ fieldText recordWord rec ++ fieldText openWord opens ++ lineEnd
+verdictLine number rec opens =
+    fieldText verdictWord number ++ fieldText recordWord rec ++ fieldText (space ++ openWord ++ space) opens ++ newline
 
 -- "only the last line appears, with open 0"
 unfoldable pub lastLine : ℕ → List ℕ

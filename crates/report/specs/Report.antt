@@ -45,8 +45,8 @@ textFor (Read rule n) file = measuredText rule n (coordinatesIn n file) (records
 unfoldable pub outputOf : List ℕ → List ℕ
 outputOf file = textFor (headerOf file) file
 
--- what `report` ensures: in the buffer the text stands in front, r bytes long, and the bytes past it are as they were; the last two
--- are what a caller that lends the text asks
+-- what `report` ensures: in the buffer the text stands in front, r bytes long, and the bytes past it are as they
+-- were; the last two are what a caller that lends the text asks
 pub record Reported (file out : List ℕ) (r : ℕ) (left : List ℕ) : Type 0 where
   pub whole : left ≡ outputOf file ++ drop r out
   pub size : r ≡ length (outputOf file)

@@ -45,7 +45,7 @@ fn put_mark(opened: bool, a: u32, b: u32, out: &mut [u8], at: usize) -> usize
     at
 }
 
-// The lines of the strikes, in edge order.
+// The lines of the strikes, in edge order. Ends: i rises to the number of edges.
 fn put_strikes(n: u16, marks: &[u8], out: &mut [u8], at: usize) -> usize
     requires { ⌜ StrikesAsked n (marksOf n (now marks)) (now out) at ⌝ }
     ensures { λ r. ⌜ Wrote (now (out .entry)) at (struckLines n (marksOf n (now (marks .entry)))) r (now (out .exit)) ⌝ }

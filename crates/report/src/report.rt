@@ -47,7 +47,9 @@ fn put_marked(n: u16, verdict: Verdict, marks: &[u8], out: &mut [u8]) -> usize
 // The text of the records: marks them from fresh marks on, and writes all lines.
 fn mark_records(n: u16, table: &[u8], records: &[u8], marks: &mut [u8], out: &mut [u8]) -> usize
     requires { ⌜ MarkingAsked n (now marks) (now out) ⌝ }
-    ensures { λ r. ⌜ Wrote (now (out .entry)) 0 (markedText n (markSheet n (whole32 (now (table .entry))) (freshMarks n) (whole16 (now (records .entry))))) r (now (out .exit)) ⌝ }
+    ensures { λ r. ⌜ Wrote (now (out .entry)) 0
+        (markedText n (markSheet n (whole32 (now (table .entry))) (freshMarks n) (whole16 (now (records .entry)))))
+        r (now (out .exit)) ⌝ }
 {
     fresh_marks(n as u32, marks);
     let verdict = mark_sheet(n as u32, table, marks, records);
@@ -65,7 +67,8 @@ fn measure_file(
 ) -> usize
     requires { ⌜ InstanceAsked n (now file) (now out) ⌝ }
     requires { ⌜ Places n (now table) (now marks) ⌝ }
-    ensures { λ r. ⌜ Wrote (now (out .entry)) 0 (measuredText rule n (coordinatesIn n (now (file .entry))) (recordsIn n (now (file .entry)))) r (now (out .exit)) ⌝ }
+    ensures { λ r. ⌜ Wrote (now (out .entry)) 0
+        (measuredText rule n (coordinatesIn n (now (file .entry))) (recordsIn n (now (file .entry)))) r (now (out .exit)) ⌝ }
 {
     let body = Header::BYTES + Header::POINT_BYTES * (n as usize);
     match measure(n as u32, rule, &file[Header::BYTES..body], table) {
@@ -77,7 +80,8 @@ fn measure_file(
 // The same, with places for its lengths and marks.
 fn report_instance(rule: u32, n: u16, file: &[u8], out: &mut [u8]) -> usize
     requires { ⌜ InstanceAsked n (now file) (now out) ⌝ }
-    ensures { λ r. ⌜ Wrote (now (out .entry)) 0 (measuredText rule n (coordinatesIn n (now (file .entry))) (recordsIn n (now (file .entry)))) r (now (out .exit)) ⌝ }
+    ensures { λ r. ⌜ Wrote (now (out .entry)) 0
+        (measuredText rule n (coordinatesIn n (now (file .entry))) (recordsIn n (now (file .entry)))) r (now (out .exit)) ⌝ }
 {
     let mut table = [0u8; 4 * Instance::MOST_EDGES];
     let mut marks = [0u8; MOST_SET];

@@ -9,7 +9,8 @@ use Rattle.lengths.specs.Edge.{Edge, edge}
 use Rattle.sets.specs.EdgeSet.{Has}
 use Rattle.rules.specs.PairTest.{every}
 
--- a test that does not mind the order of an edge's points passes at every edge exactly when it passes at all that the list has
+-- a test that does not mind the order of an edge's points passes at every edge exactly when it passes at all
+-- that the list has
 pub every-has : (t : ℕ → ℕ → Bool) → ((p q : ℕ) → t p q ≡ true → t q p ≡ true) → (K : List Edge) → every t K ≡ true → (a b : ℕ) → Has K a b → t a b ≡ true
 unfolding every
 every-has t turn [] e a b h = absurd h

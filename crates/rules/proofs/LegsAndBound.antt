@@ -1,4 +1,5 @@
--- Legs and bound: how each takes in one more edge of K, and that one comparison of them decides conditions 1, 4 and 5. Assumes nothing.
+-- Legs and bound: how each takes in one more edge of K, and that one comparison of them decides conditions 1, 4 and 5.
+-- Assumes nothing.
 use Prim.Native.Nat.{ℕ, _+_, _-_, _≤_, _<_, min, max}
 use mathlib.Core.Path.{_≡_, refl, sym, _∙_, ap}
 use mathlib.Core.Bool.{Bool, true, false, cond, not, _&&_, _||_}
@@ -127,12 +128,14 @@ unfolding boundOf
 boundOf-le out put [] c = omega arith
 boundOf-le out put (edge u v ∷ es) c = omega (arith, tightened-le out put c u v (boundOf out put es c), boundOf-le out put es c)
 
--- One comparison decides conditions 1, 4 and 5. Write M for 2,000,000, the most that a length can be, l for the lengths of what is taken out, m for those of what is
--- put in, and A for l(cx) + M + l(cy). Condition 5 at an edge uv that does not touch c says l(uv) + l(xc) + l(yc) ≤ m(xy) + m(uc) + m(vc): with M on both sides that is
--- A ≤ m(xy) + (m(uc) + m(vc) + M - l(uv)), where nothing is negative (`room-test`). It holds at every edge exactly when it holds with the
--- least of these rooms, which is the bound (`min-test`, `unmoved-bound`); 6,000,000 is no less than A, so that it asks nothing. A leg that
--- meets conditions 1 and 4 enters with its length. One that does not enters as FAR, 10,000,000, and FAR + M is more than m(xy) and the
--- bound together, 8,000,000 at the most, so that the comparison fails as it should (`legs-bound`).
+-- One comparison decides conditions 1, 4 and 5. Write M for 2,000,000, the most that a length can be, l for the lengths
+-- of what is taken out, m for those of what is put in, and A for l(cx) + M + l(cy). Condition 5 at an edge uv that does
+-- not touch c says l(uv) + l(xc) + l(yc) ≤ m(xy) + m(uc) + m(vc): with M on both sides that is A ≤ m(xy) + (m(uc) +
+-- m(vc) + M - l(uv)), where nothing is negative (`room-test`). It holds at every edge exactly when it holds with the
+-- least of these rooms, which is the bound (`min-test`, `unmoved-bound`); 6,000,000 is no less than A, so that it asks
+-- nothing. A leg that meets conditions 1 and 4 enters with its length. One that does not enters as FAR, 10,000,000, and
+-- FAR + M is more than m(xy) and the bound together, 8,000,000 at the most, so that the comparison fails as it
+-- should (`legs-bound`).
 
 min-test : (a x r b : ℕ) → leb a (x + min r b) ≡ leb a (x + r) && leb a (x + b)
 min-test a x r b = go (leb a (x + r)) (leb a (x + b)) refl refl

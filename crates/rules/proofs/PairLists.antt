@@ -1,5 +1,5 @@
--- The lists of pairs: what follows a pair in 01's order, which pairs a test keeps, that they rise, and that the search may go on
--- from the last pair found. Assumes nothing.
+-- The lists of pairs: what follows a pair in 01's order, which pairs a test keeps, that they rise, and that the
+-- search may go on from the last pair found. Assumes nothing.
 use Prim.Native.Nat.{ℕ, zero, suc, _+_, _-_, _≤_, _<_}
 use mathlib.Core.Path.{_≡_, refl, sym, _∙_, ap, ap₂, subst}
 use mathlib.Core.Bool.{Bool, true, false}

@@ -1,5 +1,5 @@
--- Each test of a pair is true exactly when its condition holds. `Has` reads an edge in both orders of its points and a test in one,
--- so the lengths have to be symmetric. Assumes nothing.
+-- Each test of a pair is true exactly when its condition holds. `Has` reads an edge in both orders of its points
+-- and a test in one, so the lengths have to be symmetric. Assumes nothing.
 use Prim.Native.Nat.{ℕ, _+_, max}
 use mathlib.Core.Path.{_≡_, sym, _∙_, ap, ap₂, fun-ext}
 use mathlib.Core.Bool.{Bool, true, false, not, _&&_, true≢false}
@@ -8,7 +8,7 @@ use mathlib.Core.List.{List, [], _∷_}
 use native.Mathlib.Omega.{arith}
 use lib.Dec.{eqb}
 use borrow.Author.Tests.{ne-eqb, eqb-false, le-leb, leb-true}
-use Rattle.lists.specs.Saving.{gains?}
+use Rattle.lengths.specs.Saving.{gains?}
 use Rattle.lengths.specs.Edge.{Edge, edge, edges}
 use Rattle.lengths.specs.asks.Edge.{IsEdgeUp}
 use Rattle.lists.proofs.Bools.{and-both, and-true, and-yes, never-true, never-false}
@@ -71,7 +71,8 @@ module _ (out put : ℕ → ℕ → ℕ) (out-turns : (a b : ℕ) → out a b �
           (ap not (ne-eqb x c (h .0)))
           (and-both _ _ (h .1) (has-every (compatible? out put c x) K (λ p q k. compatible-iff out put c x p q .1 (h .2 p q k))))
 
-  -- the test of a pair x < y of 1 to n is true exactly when the pair is feasible, given that `shape?` decides conditions 2 and 3 and that no point of K can be moved
+  -- the test of a pair x < y of 1 to n is true exactly when the pair is feasible, given that `shape?` decides
+  -- conditions 2 and 3 and that no point of K can be moved
   pub feasible-iff : (n : ℕ) (open? : ℕ → ℕ → Bool) (K : List Edge) (c x y : ℕ) → IsEdgeUp n x y
       → ((x ≡ c → ⊥) → (y ≡ c → ⊥) → (shape? n K c x y ≡ true) ↔ (AtMostTwo (withPair K c x y) × NoShortCycle n (withPair K c x y)))
       → Unmovable out put K
@@ -134,7 +135,8 @@ module _ (out put : ℕ → ℕ → ℕ) (out-turns : (a b : ℕ) → out a b �
           let e : IsEdgeUp n x y = record { low = f .point-x .low; up = f .rising; high = f .point-y .high } in
           in-feasiblePairs n out put open? K c x y .1 (e, feasible-iff n open? K c x y e (λ nx ny. shape nx ny e) free .1 f)
 
--- THE PAIR LIST OF {ab} is the one that it was (02, Paper 7): no point of {ab} has degree two, and an end that gets a second edge has no edge of K without it to move to
+-- THE PAIR LIST OF {ab} is the one that it was (02, Paper 7): no point of {ab} has degree two, and an end that gets a
+-- second edge has no edge of K without it to move to
 pub single-as-01 : (n : ℕ) (out put : ℕ → ℕ → ℕ) (open? : ℕ → ℕ → Bool) (a b c : ℕ)
     → feasiblePairs n out put open? (edge a b ∷ []) c ≡ keep (feasibleBy01? n out put open? (edge a b ∷ []) c) (edges n)
 unfolding feasiblePairs feasible? candidateLeg? feasibleBy01?

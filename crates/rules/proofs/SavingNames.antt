@@ -3,7 +3,7 @@
 use Prim.Native.Nat.{ℕ, _+_, max}
 use mathlib.Core.Path.{_≡_, ap₂}
 use native.Mathlib.Omega.{arith}
-use Rattle.lists.specs.Saving.{saving}
+use Rattle.lengths.specs.Saving.{saving}
 use Rattle.rules.specs.Pair.{exchangeSaving, moveSaving}
 
 -- savings of equal sums

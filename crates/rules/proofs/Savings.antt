@@ -1,12 +1,12 @@
--- The savings of the rules, as 01's inequalities: exchanging two edges saves nothing exactly when the larger exchange is at least their sum, and moving a
--- point saves exactly when it makes the sum smaller. Assumes nothing.
+-- The savings of the rules, as 01's inequalities: exchanging two edges saves nothing exactly when the larger exchange
+-- is at least their sum, and moving a point saves exactly when it makes the sum smaller. Assumes nothing.
 use Prim.Native.Nat.{ℕ, _+_, _≤_, _<_, max}
 use mathlib.Core.Path.{_≡_, sym, _∙_, ap₂}
 use mathlib.Core.Logic.{_↔_}
 use borrow.Author.Tests.{ltb-true, ltb-false, lt-ltb, le-ltb}
 use lib.IntN.{ℤ}
-use Rattle.lists.specs.Saving.{saving}
-use Rattle.lists.proofs.Savings.{gains-iff}
+use Rattle.lengths.specs.Saving.{saving}
+use Rattle.lengths.proofs.Savings.{gains-iff}
 use Rattle.rules.specs.Pair.{exchangeSaving, moveSaving, Compatible, MoveSaves}
 
 pub compatible-sum : (out put : ℕ → ℕ → ℕ) (p q x y : ℕ) → Compatible out put p q x y ↔ (out p q + out x y ≤ max (put p x + put q y) (put p y + put q x))

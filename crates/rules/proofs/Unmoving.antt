@@ -1,8 +1,10 @@
--- Condition 5 (02, Paper 7), parted by what each test looks at. K with cx and cy added is S, K itself is unmovable, and S has no point with three edges.
--- A point w of degree two in S is c, x, y or another. c lies between x and y, and the edges of S without c are those of K (`unmoved?`). x lies between c and the
--- point t that K leads it on to, and the edges without x are those of K (`endStays?`) and cy; moving it there takes out cy, xc and xt and puts in ct, cx and yx, as
--- moving c onto xt does; y likewise. Every other w has its two edges in K, where it cannot be moved to an edge of K; what is left is cx and cy, each a matter of one leg
--- (`settled?`, which also keeps a leg from a point that has two edges in K already). Conversely each test is about a point of degree two in S. Assumes nothing.
+-- Condition 5 (02, Paper 7), parted by what each test looks at. K with cx and cy added is S, K itself is unmovable, and
+-- S has no point with three edges. A point w of degree two in S is c, x, y or another. c lies between x and y, and the
+-- edges of S without c are those of K (`unmoved?`). x lies between c and the point t that K leads it on to, and the
+-- edges without x are those of K (`endStays?`) and cy; moving it there takes out cy, xc and xt and puts in ct, cx and
+-- yx, as moving c onto xt does; y likewise. Every other w has its two edges in K, where it cannot be moved to an edge
+-- of K; what is left is cx and cy, each a matter of one leg (`settled?`, which also keeps a leg from a point that has
+-- two edges in K already). Conversely each test is about a point of degree two in S. Assumes nothing.
 use Prim.Native.Nat.{ℕ, _+_}
 use mathlib.Core.Path.{_≡_, refl, sym, _∙_, ap, ap₂, subst}
 use mathlib.Core.Bool.{Bool, true, false, not, _&&_, _||_, true≢false}
@@ -12,10 +14,11 @@ use native.Mathlib.Omega.{arith}
 use native.Mathlib.Decide.{ℕ-discrete}
 use lib.Dec.{eqb, ltb}
 use borrow.Author.Tests.{eqb-true, eqb-false, eq-eqb, ne-eqb, ltb-true, ltb-false}
-use Rattle.lists.proofs.Bools.{and-both, and-left, and-right, and-true, true-or}
+use Rattle.lists.proofs.Bools.{and-both, and-left, and-right, and-true, true-or, or-swap}
 use Rattle.lengths.specs.Edge.{Edge, edge}
 use Rattle.sets.specs.EdgeSet.{Joins, Has, AtMostTwo, DegreeTwo, withPair}
 use Rattle.sets.proofs.Laws.Joined.{has-sym}
+use Rattle.sets.proofs.Laws.Neighbours.{ends-turned}
 use Rattle.rules.specs.Pair.{MoveSaves, Unmovable}
 use Rattle.rules.specs.PairTest.{every, stays?, unmoved?, joint?, meeting?, apart?, settled?, endAt?, endStays?}
 use Rattle.rules.proofs.Every.{every-has, has-every}
@@ -43,9 +46,6 @@ stays-iff out put w s t u v = go (eqb u w) (eqb v w) (ltb (put s t + put u w + p
     )
     go false false false eu ev ed =
         ((λ _ nu nv m. omega (arith, move-sum out put w s t u v .0 m, ltb-false (put s t + put u w + put v w) (out u v + out s w + out t w) ed)), λ _. refl)
-
-ends-turn : {K : List Edge} {w s t : ℕ} → DegreeTwo K w s t → DegreeTwo K w t s
-ends-turn d = record { apart = λ e. d .apart (sym e); has-x = d .has-y; has-y = d .has-x; only = λ v h. ⊎-elim (λ e. inr e) (λ e. inl e) (d .only v h) }
 
 module _ (out put : ℕ → ℕ → ℕ) (out-turns : (a b : ℕ) → out a b ≡ out b a) (put-turns : (a b : ℕ) → put a b ≡ put b a) where
   moves-ends : (w s t u v : ℕ) → MoveSaves out put w s t u v → MoveSaves out put w t s u v
@@ -117,13 +117,7 @@ module _ (out put : ℕ → ℕ → ℕ) (out-turns : (a b : ℕ) → out a b �
     unfolding joint?
     joint-turn w s t h =
         let b = and-true (stays? out put w s t c x) _ h in
-        and-both _ _ (stays-iff out put w t s c x .1 (λ nc nx m. stays-iff out put w s t c x .0 (b .0) nc nx (moves-ends w t s c x m))) (ap (λ (d : Bool). not (eqb x w) || d) (turn (eqb t c) (eqb s c)) ∙ b .1)
-      where
-        turn : (d e : Bool) → d || e ≡ e || d
-        turn true true = refl
-        turn true false = refl
-        turn false true = refl
-        turn false false = refl
+        and-both _ _ (stays-iff out put w t s c x .1 (λ nc nx m. stays-iff out put w s t c x .0 (b .0) nc nx (moves-ends w t s c x m))) (ap (λ (d : Bool). not (eqb x w) || d) (or-swap (eqb t c) (eqb s c)) ∙ b .1)
 
     -- an edge that stands in the list already brings nothing new
     pub settled-again : (es : List Edge) → settled? out put es c x ≡ true → (p q : ℕ) → Has es p q → every (apart? out put c x p q) es ≡ true
@@ -246,7 +240,7 @@ module _ (out put : ℕ → ℕ → ℕ) (out-turns : (a b : ℕ) → out a b �
   end-unmoved {K} {S} {c} {x} a hc h s t u v d g nu nv m =
       ⊎-elim
       (λ e. end-at a hc h t u v (subst (λ (r : ℕ). DegreeTwo S x r t) (sym e) d) g nu nv (subst (λ (r : ℕ). MoveSaves out put x r t u v) (sym e) m))
-      (λ e. end-at a hc h s u v (subst (λ (r : ℕ). DegreeTwo S x r s) (sym e) (ends-turn d)) g nu nv (subst (λ (r : ℕ). MoveSaves out put x r s u v) (sym e) (moves-ends out put out-turns put-turns x s t u v m)))
+      (λ e. end-at a hc h s u v (subst (λ (r : ℕ). DegreeTwo S x r s) (sym e) (ends-turned d)) g nu nv (subst (λ (r : ℕ). MoveSaves out put x r s u v) (sym e) (moves-ends out put out-turns put-turns x s t u v m)))
       (d .only c (has-sym S c x (a .new-x)))
 
   -- the split point

@@ -5,7 +5,7 @@ use mathlib.Core.Bool.{Bool, true, false}
 use mathlib.Core.List.{List}
 use Rattle.lengths.specs.Edge.{Edge, Point}
 use lib.IntN.{ℤ}
-use Rattle.lists.specs.Saving.{saving, gains?}
+use Rattle.lengths.specs.Saving.{saving, gains?}
 use Rattle.sets.specs.EdgeSet.{Has, AtMostTwo, NoShortCycle, DegreeTwo, withPair}
 
 -- Savings (02, Paper 5), by the lengths of what is taken out and of what is put in; one table is both.

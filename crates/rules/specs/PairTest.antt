@@ -27,7 +27,8 @@ stays? out put w s t u v = eqb u w || (eqb v w || not (ltb (put s t + put u w + 
 unfoldable pub unmoved? : (out put : ℕ → ℕ → ℕ) → List Edge → (c x y : ℕ) → Bool
 unmoved? out put K c x y = every (stays? out put c x y) K
 
--- w, which K joins to s and to t, does not move between c and x, and is x only where one of the two is c: else cx would be its third edge
+-- w, which K joins to s and to t, does not move between c and x, and is x only where one of the two is c: else cx would
+-- be its third edge
 unfoldable pub joint? : (out put : ℕ → ℕ → ℕ) → (c x w s t : ℕ) → Bool
 joint? out put c x w s t = stays? out put w s t c x && (not (eqb x w) || (eqb s c || eqb t c))
 
@@ -37,7 +38,8 @@ meeting? out put c x w z s t = not (eqb w z) || (eqb s t || (eqb w c || joint? o
 
 -- the edges pq and uv, at each of their ends
 unfoldable pub apart? : (out put : ℕ → ℕ → ℕ) → (c x p q u v : ℕ) → Bool
-apart? out put c x p q u v = meeting? out put c x p u q v && (meeting? out put c x p v q u && (meeting? out put c x q u p v && meeting? out put c x q v p u))
+apart? out put c x p q u v =
+    meeting? out put c x p u q v && (meeting? out put c x p v q u && (meeting? out put c x q u p v && meeting? out put c x q v p u))
 
 -- every two edges of K: no point of degree two of K moves between c and x, and none gets a third edge
 unfoldable pub settled? : (out put : ℕ → ℕ → ℕ) → List Edge → (c x : ℕ) → Bool
@@ -48,20 +50,24 @@ settled? out put (edge p q ∷ es) c x = every (apart? out put c x p q) es && se
 unfoldable pub endAt? : (out put : ℕ → ℕ → ℕ) → List Edge → (c x p q : ℕ) → Bool
 endAt? out put K c x p q = not (eqb x p) || (eqb q c || every (stays? out put x c q) K)
 
--- x, once it is between c and the other end of its edge in K, stays where the edges of K are. That it stays where the pair's other edge cy is needs no test: moving x there
--- takes out and puts in what moving c from between x and y onto x's edge of K does.
+-- x, once it is between c and the other end of its edge in K, stays where the edges of K are. That it stays where the
+-- pair's other edge cy is needs no test: moving x there takes out and puts in what moving c from between x and y onto
+-- x's edge of K does.
 unfoldable pub endStays? : (out put : ℕ → ℕ → ℕ) → List Edge → (c x : ℕ) → Bool
 endStays? out put K c x = every (λ (p q : ℕ). endAt? out put K c x p q && endAt? out put K c x q p) K
 
--- the edge cx of a pair meets conditions 1 and 4, what condition 5 asks of it alone, and of condition 2 that x is no point
--- where two edges of K meet off c
+-- the edge cx of a pair meets conditions 1 and 4, what condition 5 asks of it alone, and of condition 2
+-- that x is no point where two edges of K meet off c
 unfoldable pub candidateLeg? : (out put : ℕ → ℕ → ℕ) → (ℕ → ℕ → Bool) → List Edge → (c x : ℕ) → Bool
 candidateLeg? out put open? K c x = leg? out put open? K c x && (settled? out put K c x && endStays? out put K c x)
 
--- the pair x < y is feasible, where K is {ab} or a set that a pair was added to; 2 and 3 are last, since they are the dearest
+-- the pair x < y is feasible, where K is {ab} or a set that a pair was added to; 2 and 3 are last, since
+-- they are the dearest
 unfoldable pub feasible? : ℕ → (out put : ℕ → ℕ → ℕ) → (ℕ → ℕ → Bool) → List Edge → ℕ → ℕ → ℕ → Bool
-feasible? n out put open? K c x y = candidateLeg? out put open? K c x && (candidateLeg? out put open? K c y && (unmoved? out put K c x y && shape? n K c x y))
+feasible? n out put open? K c x y =
+    candidateLeg? out put open? K c x && (candidateLeg? out put open? K c y && (unmoved? out put K c x y && shape? n K c x y))
 
 -- 01's test of a pair, in which condition 5 moves the split point alone
 unfoldable pub feasibleBy01? : ℕ → (out put : ℕ → ℕ → ℕ) → (ℕ → ℕ → Bool) → List Edge → ℕ → ℕ → ℕ → Bool
-feasibleBy01? n out put open? K c x y = leg? out put open? K c x && (leg? out put open? K c y && (unmoved? out put K c x y && shape? n K c x y))
+feasibleBy01? n out put open? K c x y =
+    leg? out put open? K c x && (leg? out put open? K c y && (unmoved? out put K c x y && shape? n K c x y))

@@ -11,7 +11,8 @@ ghost use mathlib.Core.Path.{_≡_};
 ghost use mathlib.Core.Bool.{cond};
 ghost use Rattle.marks.specs.Mark.{opens};
 ghost use Rattle.marks.specs.Packed.{quarter, marksOf};
-ghost use Rattle.rules.specs.asks.Legs.{far, narrowedBy, OpenFrom, OpenBelow, OpenAbove, SinglyAsked, FourAsked, fourLegs, BytesAsked, ToByte, OpenLegs, NarrowAsked, Narrowed};
+ghost use Rattle.rules.specs.asks.Legs.{far, OpenFrom, OpenBelow, OpenAbove, SinglyAsked, FourAsked, fourLegs, BytesAsked, ToByte};
+ghost use Rattle.rules.specs.asks.Legs.{OpenLegs, narrowedBy, NarrowAsked, Narrowed};
 
 // More than any pair may cost: the leg of a point that conditions 1 and 4 rule out.
 pub const FAR: u32 = 5 * Instance::MOST_LENGTH;
@@ -26,7 +27,8 @@ fn open_leg(opened: bool, length: u32) -> u32
     FAR
 }
 
-// The legs of the points below c where K is empty. `next` is one more than the place of the edge xc, which moves on by n - x - 1, and `step` is n - x.
+// The legs of the points below c where K is empty. `next` is one more than the place of the edge xc, which moves on by
+// n - x - 1, and `step` is n - x. Ends: x rises to c.
 fn open_below(
     n: u16,
     marks: &[u8],
@@ -53,6 +55,7 @@ fn open_below(
 }
 
 // The legs of the points above c where K is empty, from place `from` to place `to` among them, one after the other.
+// Ends: i rises to `to`.
 fn open_singly(
     n: u16,
     marks: &[u8],
@@ -85,7 +88,8 @@ fn quarter_leg(byte: u8, j: usize, most: u8, length: u32) -> u32
     open_leg(opens(quarter(byte, j), most), length)
 }
 
-// The legs of four points from x on, whose edges to c have their marks in one byte and their lengths in a row from `from` on.
+// The legs of four points from x on, whose edges to c have their marks in one byte and their lengths in a
+// row from `from` on.
 fn byte_legs(
     byte: u8,
     most: u8,
@@ -126,7 +130,8 @@ fn sheet_legs(
     byte_legs(byte, most, rows, from, legs, x);
 }
 
-// The legs of the points above c from place `from` on, four at a time: the marks of four edges stand in one byte.
+// The legs of the points above c from place `from` on, four at a time: the marks of four edges stand in one byte. Ends:
+// k rises to `bytes`.
 fn open_bytes(
     n: u16,
     marks: &[u8],
@@ -140,7 +145,8 @@ fn open_bytes(
     bytes: usize,
 )
     requires { ⌜ BytesAsked most n (marksOf n (now marks)) (now rows) c at (now legs) first from bytes ⌝ }
-    ensures { λ _. ⌜ OpenAbove most n (marksOf n (now (marks .entry))) (now (rows .entry)) c at (now (legs .exit)) first (from + 4 * bytes) ⌝ }
+    ensures { λ _.
+        ⌜ OpenAbove most n (marksOf n (now (marks .entry))) (now (rows .entry)) c at (now (legs .exit)) first (from + 4 * bytes) ⌝ }
 {
     let start = c as usize + 1;
     let mut k = 0;
@@ -163,7 +169,8 @@ fn to_byte(first: usize, left: usize) -> usize
     left
 }
 
-// The legs of the points above c where K is empty: their edges to c stand side by side, so whole bytes are read four edges at a time.
+// The legs of the points above c where K is empty: their edges to c stand side by side, so whole bytes are read four
+// edges at a time.
 fn open_above(
     n: u16,
     marks: &[u8],
@@ -199,7 +206,8 @@ fn open_above(
     );
 }
 
-// The legs of all points where K is empty and marks up to `most` count as open, by the row of c that stands at `at`. The legs lent are all FAR.
+// The legs of all points where K is empty and marks up to `most` count as open, by the row of c that stands at `at`.
+// The legs lent are all FAR.
 pub fn open_legs(
     n: u16,
     marks: &[u8],
@@ -229,7 +237,8 @@ fn narrow_leg(leg: u32, both: u32, one: u32, other: u32) -> u32
     FAR
 }
 
-// Takes the edge pq into the legs of all points, by the rows of p and q, which begin at ps and qs, and the lengths pq, cp and cq.
+// Takes the edge pq into the legs of all points, by the rows of p and q, which begin at ps and qs, and the
+// lengths pq, cp and cq. Ends: x rises past n.
 pub fn narrow(
     n: u16,
     rows: &[u32],

@@ -7,7 +7,7 @@ use mathlib.Core.Logic.{_↔_}
 use mathlib.Core.List.{List}
 use native.Mathlib.Omega.{arith}
 use lib.IntN.{ℤ}
-use Rattle.lists.specs.Saving.{gains?}
+use Rattle.lengths.specs.Saving.{gains?}
 use Rattle.lists.specs.Test.{unless}
 use Rattle.lengths.specs.Edge.{Edge}
 use Rattle.lengths.specs.Table.{lengthOf}

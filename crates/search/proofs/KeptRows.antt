@@ -1,5 +1,5 @@
--- What is kept of a row: nothing or one pair where a test passes no more, the same by two tests that agree on it; and the row may be entered at
--- the first number that passes a test which refuses only what is not kept. Assumes nothing.
+-- What is kept of a row: nothing or one pair where a test passes no more, the same by two tests that agree on it; and
+-- the row may be entered at the first number that passes a test which refuses only what is not kept. Assumes nothing.
 use Prim.Native.Nat.{ℕ, zero, suc, _+_, _-_, _≤_, _<_}
 use mathlib.Core.Path.{_≡_, refl, sym, _∙_, ap, ap₂}
 use mathlib.Core.Bool.{Bool, true, false}

@@ -1,5 +1,5 @@
--- One comparison of the legs with the bound decides conditions 1, 4 and 5 (`legs-bound`), so a pair is feasible exactly when it passes it and
--- meets conditions 2 and 3. Assumes nothing.
+-- One comparison of the legs with the bound decides conditions 1, 4 and 5 (`legs-bound`), so a pair is feasible exactly
+-- when it passes it and meets conditions 2 and 3. Assumes nothing.
 use Prim.Native.Nat.{ℕ}
 use mathlib.Core.Path.{_≡_, refl, sym, _∙_, ap}
 use mathlib.Core.Bool.{Bool, true, false, _&&_}

@@ -1,6 +1,6 @@
--- The search over the rows: the first point of a row that fits is its first feasible pair, and rows of points that are no candidates have no
--- feasible pair, so that the first feasible pair after xy is found row by row. One record for the loop, and one lemma for each way on and
--- out. Assumes nothing.
+-- The search over the rows: the first point of a row that fits is its first feasible pair, and rows of points that are
+-- no candidates have no feasible pair, so that the first feasible pair after xy is found row by row. One record for the
+-- loop, and one lemma for each way on and out. Assumes nothing.
 use Prim.Native.Nat.{ℕ, zero, suc, _+_, _-_, _≤_, _<_}
 use mathlib.Core.Path.{_≡_, refl, sym, _∙_, ap, ap₂}
 use mathlib.Core.Bool.{Bool, true, false, not, _&&_}
@@ -25,15 +25,11 @@ use Rattle.sets.specs.declared.edge_set.EdgeSet.{EdgeSet}
 use Rattle.sets.specs.declared.neighbours.Neighbours.{Neighbours}
 use Rattle.search.specs.declared.pairs.NextPair.the-variants.{Pair, End}
 use Rattle.lists.proofs.FirstFrom.{firstFrom-yes, firstFrom-no, firstFrom-low, firstFrom-found}
+use Rattle.lists.proofs.Bools.{and-regroup}
 use Rattle.search.proofs.KeptRows.{keep-none, keep-skip}
 use Rattle.rules.proofs.PairLists.{pairsAfter-end, keep-yes, keep-append, rows-after}
 use Rattle.search.proofs.RowSearch.{far-row-fails}
 use Rattle.search.proofs.OneComparison.{feasible-passes}
-
-regroup : (p w s : Bool) → p && (w && s) ≡ w && p && s
-regroup p true s = refl
-regroup true false s = refl
-regroup false false s = refl
 
 -- a pair is feasible exactly when it fits
 feasible-fits : {n : ℕ} {out table : List ℕ} {open? : ℕ → ℕ → Bool} {K : List Edge} {c : ℕ} {legs : List ℕ} {bound : ℕ} {centre : Neighbours}
@@ -42,7 +38,7 @@ feasible-fits : {n : ℕ} {out table : List ℕ} {open? : ℕ → ℕ → Bool} 
 unfolding fits? allowed? shape?
 feasible-fits {n} {out} {table} {open?} {K} {c} {legs} {bound} {centre} f h p own x y px py =
     feasible-passes f h p x y px py
-    ∙ regroup (passes? n table legs bound x y) (within? (neighboursOf K c) x y) (not (shuts? n K x y (beyond (neighboursOf K x) c) (beyond (neighboursOf K y) c)))
+    ∙ and-regroup (passes? n table legs bound x y) (within? (neighboursOf K c) x y) (not (shuts? n K x y (beyond (neighboursOf K x) c) (beyond (neighboursOf K y) c)))
     ∙ rw own
 
 -- rows of points that are no candidates
@@ -128,8 +124,9 @@ module _ {n : ℕ} {table legs candidates rank : List ℕ} {bound c : ℕ} {cent
       walk-feasible : (i : ℕ) → b < i → i ≤ n → feasible? n (lengthOf n out) (lengthOf n table) open? (edgeList k) c a i ≡ fits? n table legs bound centre (edgeList k) c a i
       walk-feasible i h g = feasible-fits taken (w .asked .beside .row .lengths) p q a i record { low = w .low; high = omega arith } record { low = omega arith; high = g }
 
-      -- What is left after ab is the row of a from b + 1 on, then the rows above. A point of the row that does not fit makes no feasible
-      -- pair with a, so that the row may be entered at the first point z that fits: nothing kept is lost.
+      -- What is left after ab is the row of a from b + 1 on, then the rows above. A point of the row that does not fit
+      -- makes no feasible pair with a, so that the row may be entered at the first point z that fits:
+      -- nothing kept is lost.
       walk-skip : feasibleAfter n (lengthOf n out) (lengthOf n table) open? (edgeList k) c a b
           ≡ keep (feasible? n (lengthOf n out) (lengthOf n table) open? (edgeList k) c) (row a z (n + 1 - z) ++ rows (suc a) (n - suc a))
       unfolding feasibleAfter pairsAfter

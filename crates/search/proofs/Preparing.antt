@@ -1,5 +1,5 @@
--- Preparing a split: the rows of a table hold what the loops over the legs read, the edges of K are taken in one by one, and K = {ab}
--- needs the rows of c, a and b alone. Assumes nothing.
+-- Preparing a split: the rows of a table hold what the loops over the legs read, the edges of K are taken in one by
+-- one, and K = {ab} needs the rows of c, a and b alone. Assumes nothing.
 use Prim.Native.Nat.{ℕ, _+_, _-_, _*_, _≤_, _<_, min, max}
 use mathlib.Core.Path.{_≡_, refl, sym, _∙_, ap, subst}
 use mathlib.Core.Bool.{Bool, true, false, cond, _&&_}
@@ -112,7 +112,8 @@ take-start {n} {out} {put} a e o = record {
   prepared = record { each = row-opens (lengthOf n put) (row-own a e) o; least = refl };
 }
 
--- an edge that touches c changes neither the legs nor the bound: it shares a point with every leg, and no length is above its limit
+-- an edge that touches c changes neither the legs nor the bound: it shares a point with every leg, and no length
+-- is above its limit
 
 touched : (out put : ℕ → ℕ → ℕ) → ((x y : ℕ) → put x y ≡ put y x) → ((x y : ℕ) → out x y ≤ put x y) → (open? : ℕ → ℕ → Bool) (K : List Edge) (c p q : ℕ) → (p ≡ c) ⊎ (q ≡ c)
     → (x : ℕ) → narrowed out put c p q x (legOf out put open? K c x) ≡ legOf out put open? K c x

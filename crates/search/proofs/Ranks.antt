@@ -1,5 +1,5 @@
--- The list of the candidates and the ranks: how one more point is taken in, and that a rank stays over points that are no candidates.
--- Assumes nothing.
+-- The list of the candidates and the ranks: how one more point is taken in, and that a rank stays over points that
+-- are no candidates. Assumes nothing.
 use Prim.Native.Nat.{ℕ, zero, suc, _+_, _-_, _≤_, _<_}
 use mathlib.Core.Path.{_≡_, refl, sym, _∙_, ap, ap₂}
 use mathlib.Core.Bool.{Bool, true, false, not, cond}
@@ -22,7 +22,8 @@ pub far-leg : (legs : List ℕ) (x : ℕ) → candidate? legs x ≡ false → ge
 unfolding candidate?
 far-leg legs x h = eqb-true (getD legs x 0) far (not-false (eqb (getD legs x 0) far) h)
 
--- the points below x are taken in: `candidates` has x behind those that are candidates, and x has their number for its rank
+-- the points below x are taken in: `candidates` has x behind those that are candidates, and x has their
+-- number for its rank
 pub record Ranked (n : ℕ) (legs candidates rank : List ℕ) (count x : ℕ) : Type 0 where
   pub few : n ≤ mostPoints
   pub candidates-size : length candidates ≡ candidatePlaces

@@ -1,5 +1,5 @@
--- The search in a row: the first point after y whose pair with x passes the comparison, found among the candidates alone, and what the
--- split point's neighbours leave of the row. Assumes nothing.
+-- The search in a row: the first point after y whose pair with x passes the comparison, found among the candidates
+-- alone, and what the split point's neighbours leave of the row. Assumes nothing.
 use Prim.Native.Nat.{ℕ, suc, _+_, _-_, _^_, _≤_, _<_}
 use mathlib.Core.Path.{_≡_, refl, sym, _∙_, ap, ap₂}
 use mathlib.Core.Bool.{true, false, _||_}

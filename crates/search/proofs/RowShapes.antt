@@ -1,5 +1,5 @@
--- The row of x with conditions 2 and 3: of the points that are allowed, the first that shuts nothing. A point that is not allowed does not
--- fit, so that the search may go from one allowed point to the next. Assumes nothing.
+-- The row of x with conditions 2 and 3: of the points that are allowed, the first that shuts nothing. A point that is
+-- not allowed does not fit, so that the search may go from one allowed point to the next. Assumes nothing.
 use Prim.Native.Nat.{ℕ, suc, _+_, _-_, _≤_, _<_}
 use mathlib.Core.Path.{_≡_, refl, sym, _∙_, ap, ap₂}
 use mathlib.Core.Bool.{Bool, true, false, not, _&&_}

@@ -1,6 +1,7 @@
--- K = {ab}: conditions 2 and 3 are one test of the pair. At a point c that is neither a nor b they rule out the pair a, b and no other: c has
--- no neighbour in K; beyond c a has b, b has a, and no other point has anything; and c, a, b would be a cycle of three. At an end c of the
--- edge they ask that the other end be one of the pair: it is c's one neighbour, and no point but c has anything beyond c. Assumes nothing.
+-- K = {ab}: conditions 2 and 3 are one test of the pair. At a point c that is neither a nor b they rule out the pair a,
+-- b and no other: c has no neighbour in K; beyond c a has b, b has a, and no other point has anything; and c, a, b
+-- would be a cycle of three. At an end c of the edge they ask that the other end be one of the pair: it is c's one
+-- neighbour, and no point but c has anything beyond c. Assumes nothing.
 use Prim.Native.Nat.{ℕ, zero, suc, _-_, _≤_}
 use mathlib.Core.Path.{_≡_, refl, sym, _∙_, ap}
 use mathlib.Core.Bool.{Bool, true, false, not, _&&_, _||_}

@@ -17,7 +17,8 @@ fn one_if_candidate(leg: u32) -> u16
     (leg != legs::FAR) as u16
 }
 
-// Lists the candidates in `candidates`, rising, and behind them n + 1. rank[w] is the place there of the first that is w or above.
+// Lists the candidates in `candidates`, rising, and behind them n + 1. rank[w] is the place there of the first
+// that is w or above. Ends: x rises past n.
 pub fn list_candidates(
     n: u16,
     legs: &[u32; Instance::PLACES],

@@ -23,7 +23,8 @@ pub enum NextPair {
     End,
 }
 
-// The first point after y whose pair with x passes the one comparison, n + 1 where none does. Only candidates are tried.
+// The first point after y whose pair with x passes the one comparison, n + 1 where none does. Only
+// candidates are tried. Ends: the candidates rise, and the last is n + 1.
 fn next_in_row(
     n: u16,
     table: &[u8],
@@ -72,7 +73,8 @@ fn next_with(
     y: u16,
 ) -> u16
     requires { ⌜ RowSearchAsked n (whole32 (now table)) (now legs) (now candidates) (now rank) bound x y ⌝ }
-    ensures { λ r. ⌜ r ≡ firstFrom (allowed? n (whole32 (now (table .entry))) (now (legs .entry)) bound (Neighbours.One a) x) (suc y) (n - y) ⌝ }
+    ensures { λ r.
+        ⌜ r ≡ firstFrom (allowed? n (whole32 (now (table .entry))) (now (legs .entry)) bound (Neighbours.One a) x) (suc y) (n - y) ⌝ }
 {
     if a == x {
         return next_in_row(n, table, legs, candidates, rank, bound, x, y);
@@ -90,7 +92,8 @@ fn next_with(
     n + 1
 }
 
-// The first point after y that passes the comparison with x and leaves none of c's neighbours out; n + 1 where none does.
+// The first point after y that passes the comparison with x and leaves none of c's neighbours out; n + 1
+// where none does.
 fn next_beside(
     n: u16,
     table: &[u8],
@@ -122,7 +125,8 @@ fn next_beside(
 }
 
 // The first point after y whose pair with x passes the comparison and meets conditions 2 and 3; n + 1 where none does.
-// What x has in k is read once a row, and only where a pair passes: with several edges there, x is in no pair.
+// What x has in k is read once a row, and only where a pair passes: with several edges there, x is in no pair. Ends:
+// each z found is above the one before.
 fn next_in_shape(
     n: u16,
     table: &[u8],
@@ -137,7 +141,8 @@ fn next_in_shape(
     y: u16,
 ) -> u16
     requires { ⌜ Searchable n (whole32 (now table)) (now legs) (now candidates) (now rank) bound centre k x y ⌝ }
-    ensures { λ r. ⌜ r ≡ firstFrom (fits? n (whole32 (now (table .entry))) (now (legs .entry)) bound centre (edgeList k) c x) (suc y) (n - y) ⌝ }
+    ensures { λ r.
+        ⌜ r ≡ firstFrom (fits? n (whole32 (now (table .entry))) (now (legs .entry)) bound centre (edgeList k) c x) (suc y) (n - y) ⌝ }
 {
     let mut z = next_beside(n, table, legs, candidates, rank, bound, centre, x, y);
     if n < z {
@@ -156,7 +161,8 @@ fn next_in_shape(
     z
 }
 
-// The first feasible pair after xy: rows rise, and in a row the points. After 1-1 it is the first of all. Only candidates have rows.
+// The first feasible pair after xy: rows rise, and in a row the points. After 1-1 it is the first of all. Only
+// candidates have rows. Ends: the row a rises to n.
 pub fn next_pair(
     n: u16,
     table: &[u8],

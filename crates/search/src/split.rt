@@ -1,4 +1,5 @@
-// What the search at a split point looks up for every pair, computed once. What is taken out is measured by the table `out`, what is put in by the table `put`.
+// What the search at a split point looks up for every pair, computed once. What is taken out is measured by the table
+// `out`, what is put in by the table `put`.
 use lengths::edge;
 use lengths::instance::Instance;
 use lengths::rows::fill_row;
@@ -20,22 +21,14 @@ ghost use mathlib.Core.List.{[], _∷_};
 ghost use lib.ListN.{replicate};
 ghost use Rattle.endian.specs.Bytes.{whole32};
 ghost use Rattle.rules.specs.asks.Legs.{far};
-ghost use Rattle.search.specs.asks.Split.{TakeAsked, TakenIn, TriangleAsked, TriangleIn, SingleAsked, SplitAsked, AllTaken, SplitOf, EdgeAsked, EdgeRowsAsked, EdgeRows, EdgeTriangle, EdgeLegsAsked, EdgeLegs};
+ghost use Rattle.search.specs.asks.Split.{TakeAsked, TakenIn, TriangleAsked, TriangleIn, SplitAsked, AllTaken, SplitOf};
+ghost use Rattle.search.specs.asks.Split.{SingleAsked, EdgeAsked, EdgeRowsAsked, EdgeRows, EdgeTriangle, EdgeLegsAsked, EdgeLegs};
 ghost use Rattle.rules.specs.asks.Bound.{boundOf};
 ghost use Rattle.lengths.specs.Edge.{edge};
 ghost use Rattle.lengths.specs.Instance.{pointPlaces};
-ghost use Rattle.lengths.specs.Table.{lengthOf};
+ghost use Rattle.lengths.specs.Table.{lengthIn};
 ghost use Rattle.marks.specs.Mark.{openMark, pendingMark};
 ghost use Rattle.marks.specs.Packed.{marksOf};
-
-// legs[x] is the length from the split point c to x, as it is taken out, where cx is open and compatible with every edge of K,
-// no point of degree two of K moves between c and x, x itself stays, and no two edges of K meet in x off c; else FAR. A pair
-// x, y meets conditions 1, 4 and 5, and of 2 that neither is such a point, exactly when legs[x] + legs[y] + MOST_LENGTH is at
-// most put(xy) + bound.
-pub struct Split {
-    pub legs: [u32; Instance::PLACES],
-    pub bound: u32,
-}
 
 // What taking in the edge pq reads: where the rows of p and q begin, and the three lengths between c, p and q.
 struct Triangle {
@@ -80,7 +73,8 @@ fn take_in(
     bound: u32,
 ) -> u32
     requires { ⌜ TakeAsked n (whole32 (now out)) (whole32 (now put)) (now outs) (now puts) c u v (now legs) bound ⌝ }
-    ensures { λ r. ⌜ TakenIn n (whole32 (now (out .entry))) (whole32 (now (put .entry))) c u v (now (legs .entry)) bound (now (legs .exit)) r ⌝ }
+    ensures { λ r.
+        ⌜ TakenIn n (whole32 (now (out .entry))) (whole32 (now (put .entry))) c u v (now (legs .entry)) bound (now (legs .exit)) r ⌝ }
 {
     if u == c {
         return bound;
@@ -93,8 +87,8 @@ fn take_in(
     tighten(c, u, v, t.pq, t.cp, t.cq, bound)
 }
 
-// Takes all edges of k into the legs, which are all FAR when lent, within a sheet, to which a pending edge is struck; and answers the bound.
-// The tables are there to name the lengths: the rows hold them.
+// Takes all edges of k into the legs, which are all FAR when lent, within a sheet, to which a pending edge is struck;
+// and answers the bound. The tables are there to name the lengths: the rows hold them. Ends: i rises to the count of k.
 fn take_in_all(
     n: u16,
     out: &[u8],
@@ -108,7 +102,8 @@ fn take_in_all(
 ) -> u32
     requires { ⌜ SplitAsked n (whole32 (now out)) (whole32 (now put)) (now outs) (now puts) (marksOf n (now marks)) k c ⌝ }
     requires { ⌜ now legs ≡ replicate pointPlaces far ⌝ }
-    ensures { λ r. ⌜ AllTaken n (whole32 (now (out .entry))) (whole32 (now (put .entry))) (marksOf n (now (marks .entry))) k c (now (legs .exit)) r ⌝ }
+    ensures { λ r.
+        ⌜ AllTaken n (whole32 (now (out .entry))) (whole32 (now (put .entry))) (marksOf n (now (marks .entry))) k c (now (legs .exit)) r ⌝ }
 {
     let from = k.from;
     let to = k.to;
@@ -124,7 +119,11 @@ fn take_in_all(
     bound
 }
 
-// What the search looks up for k at c within a sheet: writes the legs, which are all FAR when lent, and answers the bound.
+// What the search looks up for k at c within a sheet: writes the legs, which are all FAR when lent, and answers
+// the bound. legs[x] is then the length from c to x, as it is taken out, where cx is open and compatible with every
+// edge of k, no point of degree two of k moves between c and x, x itself stays, and no two edges of k meet in x off c;
+// else FAR. A pair x, y meets conditions 1, 4 and 5, and of 2 that neither is such a point, exactly when
+// legs[x] + legs[y] + MOST_LENGTH is at most put(xy) + bound.
 pub fn prepare(
     n: u16,
     out: &[u8],
@@ -138,7 +137,8 @@ pub fn prepare(
 ) -> u32
     requires { ⌜ SplitAsked n (whole32 (now out)) (whole32 (now put)) (now outs) (now puts) (marksOf n (now marks)) k c ⌝ }
     requires { ⌜ now legs ≡ replicate pointPlaces far ⌝ }
-    ensures { λ r. ⌜ SplitOf openMark n (whole32 (now (out .entry))) (whole32 (now (put .entry))) (marksOf n (now (marks .entry))) k c (now (legs .exit)) r ⌝ }
+    ensures { λ r. ⌜ SplitOf openMark n (whole32 (now (out .entry))) (whole32 (now (put .entry)))
+        (marksOf n (now (marks .entry))) k c (now (legs .exit)) r ⌝ }
 {
     let bound = take_in_all(n, out, put, outs, puts, marks, k, c, legs);
     settle_all(n, outs, puts, k, c, legs);
@@ -173,7 +173,7 @@ fn edge_triangle(n: u16, out: &[u8], put: &[u8], a: u16, b: u16, c: u16) -> Tria
     }
 }
 
-// The legs of K = {ab} at c, where a pending edge counts as open.
+// Writes the legs of K = {ab} at c, where a pending edge counts as open, over legs that are all FAR when lent.
 fn legs_for_edge(
     n: u16,
     out: &[u8],
@@ -182,41 +182,48 @@ fn legs_for_edge(
     a: u16,
     b: u16,
     c: u16,
-) -> [u32; Instance::PLACES]
+    legs: &mut [u32; Instance::PLACES],
+)
     requires { ⌜ EdgeLegsAsked n (whole32 (now out)) (whole32 (now put)) (marksOf n (now marks)) a b c ⌝ }
-    ensures { λ r. ⌜ EdgeLegs n (whole32 (now (out .entry))) (whole32 (now (put .entry))) (marksOf n (now (marks .entry))) a b c r ⌝ }
+    requires { ⌜ now legs ≡ replicate pointPlaces far ⌝ }
+    ensures { λ _.
+        ⌜ EdgeLegs n (whole32 (now (out .entry))) (whole32 (now (put .entry))) (marksOf n (now (marks .entry))) a b c (now (legs .exit)) ⌝ }
 {
     let mut rows = [0u32; 3 * Instance::PLACES];
     fill_edge_rows(n, out, put, a, b, c, &mut rows);
-    let mut legs = [legs::FAR; Instance::PLACES];
-    open_legs(n, marks, mark::PENDING, c, &rows, 0, &mut legs);
+    open_legs(n, marks, mark::PENDING, c, &rows, 0, legs);
     let t = edge_triangle(n, out, put, a, b, c);
-    narrow(n, &rows, &mut legs, t.ps, t.qs, t.pq, t.cp, t.cq);
-    legs
+    narrow(n, &rows, legs, t.ps, t.qs, t.pq, t.cp, t.cq);
 }
 
 // The bound of K = {ab} at c.
 fn bound_for_edge(n: u16, out: &[u8], put: &[u8], a: u16, b: u16, c: u16) -> u32
     requires { ⌜ EdgeAsked n (whole32 (now out)) (whole32 (now put)) a b c ⌝ }
-    ensures { λ r. ⌜ r ≡ boundOf (lengthOf n (whole32 (now (out .entry)))) (lengthOf n (whole32 (now (put .entry)))) (edge a b ∷ []) c ⌝ }
+    ensures { λ r. ⌜ r ≡ boundOf (lengthIn n (now (out .entry))) (lengthIn n (now (put .entry))) (edge a b ∷ []) c ⌝ }
 {
     let t = edge_triangle(n, out, put, a, b, c);
     tighten(c, a, b, t.pq, t.cp, t.cq, bound::LOOSE)
 }
 
-// What the search looks up for a set k of one edge at c in the pair list, which counts a pending edge as open, by three rows alone.
-pub fn prepare_single(n: u16, out: &[u8], put: &[u8], marks: &[u8], k: EdgeSet, c: u16) -> Split
+// The same for a set k of one edge in the pair list, which counts a pending edge as open, by three rows alone.
+pub fn prepare_single(
+    n: u16,
+    out: &[u8],
+    put: &[u8],
+    marks: &[u8],
+    k: EdgeSet,
+    c: u16,
+    legs: &mut [u32; Instance::PLACES],
+) -> u32
     requires { ⌜ SingleAsked n (whole32 (now out)) (whole32 (now put)) (marksOf n (now marks)) k c ⌝ }
-    ensures { λ r. ⌜ SplitOf pendingMark n (whole32 (now (out .entry))) (whole32 (now (put .entry))) (marksOf n (now (marks .entry))) k c (r .legs) (r .bound) ⌝ }
+    requires { ⌜ now legs ≡ replicate pointPlaces far ⌝ }
+    ensures { λ r. ⌜ SplitOf pendingMark n (whole32 (now (out .entry))) (whole32 (now (put .entry)))
+        (marksOf n (now (marks .entry))) k c (now (legs .exit)) r ⌝ }
 {
     let from = k.from;
     let to = k.to;
     let a = from[0];
     let b = to[0];
-    let legs = legs_for_edge(n, out, put, marks, a, b, c);
-    let bound = bound_for_edge(n, out, put, a, b, c);
-    Split {
-        legs: legs,
-        bound: bound,
-    }
+    legs_for_edge(n, out, put, marks, a, b, c, legs);
+    bound_for_edge(n, out, put, a, b, c)
 }

@@ -5,7 +5,7 @@ use sets::edge_set::EdgeSet;
 ghost use mathlib.Core.Path.{_≡_};
 ghost use lib.ListN.{take};
 ghost use Rattle.endian.specs.Bytes.{whole32};
-ghost use Rattle.lengths.specs.Table.{lengthOf};
+ghost use Rattle.lengths.specs.Table.{lengthIn};
 ghost use Rattle.sets.specs.EdgeSet.{pathEdges};
 ghost use Rattle.tours.specs.Tour.{total};
 ghost use Rattle.segments.specs.SegmentTest.{named?, samePoints?, reordered};
@@ -56,7 +56,7 @@ impl Order {
         self
     }
 
-    // Is x one of the points?
+    // Is x one of the points? Ends: i rises to the count.
     fn names(self, x: u16) -> bool
         requires { ⌜ Fits (self .points) (self .count) ⌝ }
         ensures { λ r. ⌜ r ≡ named? x (orderList self) ⌝ }
@@ -74,7 +74,7 @@ impl Order {
     }
 }
 
-// Does the order name the segment's points, each once, and nothing else?
+// Does the order name the segment's points, each once, and nothing else? Ends: i rises to the count.
 fn same_points(order: Order, segment: Segment) -> bool
     requires { ⌜ SameAsked order segment ⌝ }
     ensures { λ r. ⌜ r ≡ samePoints? (orderList order) (innerPoints segment) ⌝ }
@@ -94,7 +94,7 @@ fn same_points(order: Order, segment: Segment) -> bool
     true
 }
 
-// The length of the path from u over the first `count` points to v.
+// The length of the path from u over the first `count` points to v. Ends: i rises to `count`.
 fn path_length(
     n: u16,
     table: &[u8],
@@ -104,7 +104,7 @@ fn path_length(
     v: u16,
 ) -> u64
     requires { ⌜ PathAsked n (whole32 (now table)) u points count v ⌝ }
-    ensures { λ r. ⌜ r ≡ total (lengthOf n (whole32 (now (table .entry)))) (pathEdges u (take count points) v) ⌝ }
+    ensures { λ r. ⌜ r ≡ total (lengthIn n (now (table .entry))) (pathEdges u (take count points) v) ⌝ }
 {
     let mut sum: u64 = 0;
     let mut at = u;
@@ -130,8 +130,8 @@ pub fn reorder(
     order: Order,
 ) -> Reordered
     requires { ⌜ ReorderAsked n (whole32 (now out)) (whole32 (now put)) segment u v order ⌝ }
-    ensures { λ r. ⌜ r ≡ reordered (lengthOf n (whole32 (now (out .entry)))) (lengthOf n (whole32 (now (put .entry))))
-        (innerPoints segment) u v (orderList order) ⌝ }
+    ensures { λ r.
+        ⌜ r ≡ reordered (lengthIn n (now (out .entry))) (lengthIn n (now (put .entry))) (innerPoints segment) u v (orderList order) ⌝ }
 {
     if !same_points(order, segment) {
         return Reordered::OtherPoints;

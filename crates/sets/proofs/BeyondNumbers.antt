@@ -1,4 +1,5 @@
--- What a point has beyond c: how its number takes in a neighbour, an edge, and the edges of K one by one. Assumes nothing.
+-- What a point has beyond c: how its number takes in a neighbour, an edge, and the edges of K one by one.
+-- Assumes nothing.
 use Prim.Native.Nat.{ℕ, zero, suc, _+_, _-_, _≤_, _<_}
 use mathlib.Core.Path.{_≡_, refl, sym, _∙_, ap, subst}
 use mathlib.Core.Bool.{Bool, true, false, cond}

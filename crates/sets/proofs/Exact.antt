@@ -1,6 +1,7 @@
--- The tests of conditions 2 and 3 against the conditions (01, "Standing pairs"): `shape?` is true exactly when K with the pair has
--- both, for a K that has the shape; {ab} has the shape, and a pair that passes keeps it. Assumes nothing.
--- The other tests' theorems are named here too: `has?`, the neighbours of a point, and the two ends of a centre.
+-- The tests of conditions 2 and 3 against the conditions (01, "Standing pairs"): `shape?` is true exactly when K
+-- with the pair has both, for a K that has the shape; {ab} has the shape, and a pair that passes keeps it.
+-- Assumes nothing. The other tests' theorems are named here too: `has?`, the neighbours of a point, and the two
+-- ends of a centre.
 pub use Rattle.sets.proofs.Laws.Joined.{has-exact}
 pub use Rattle.sets.proofs.Laws.Neighbours.{neighbours-exact, onward-exact, within-exact, ends-sound, ends-complete}
 use Prim.Native.Nat.{ℕ, _-_, _≤_, _<_}
@@ -177,9 +178,10 @@ module _ (n : ℕ) (K : List Edge) (c x y : ℕ) (shape : Shape n K) (apart : Ap
       (ap not e)
 
   -- THEOREM: the test is passed exactly when K with the pair has conditions 2 and 3.
-  -- With condition 2, c's neighbours are x and y, so a cycle through c runs from c over x, and each of its points leads on to just
-  -- one other: the test follows it and meets y. A cycle that does not run through c is one of K, and is not short.
-  -- The other way round, the points that the test passes are all different, so where it meets y they are a cycle.
+  -- With condition 2, c's neighbours are x and y, so a cycle through c runs from c over x, and each of its points
+  -- leads on to just one other: the test follows it and meets y. A cycle that does not run through c is one of K,
+  -- and is not short. The other way round, the points that the test passes are all different, so where it meets y
+  -- they are a cycle.
   pub shape-exact : (shape? n K c x y ≡ true) ↔ (AtMostTwo (withPair K c x y) × NoShortCycle n (withPair K c x y))
   shape-exact = (shape-sound, shape-complete)
 

@@ -28,8 +28,9 @@ before-one-way a b c d (inr h) (inr g) = omega (arith, h .1, g .1)
 pub rising-once : (a b : ℕ) (es : List Edge) → Rising (edge a b ∷ es) → Among es a b → ⊥
 rising-once a b es r m = before-other a b a b (r .0 a b m) refl
 
--- Two rising lists with the same edges are the same list. If their first edges differed, each would stand further on in the other list,
--- and so before the other. So the first edges are the same, and neither stands again in what follows.
+-- Two rising lists with the same edges are the same list. If their first edges differed, each would stand further on
+-- in the other list, and so before the other. So the first edges are the same, and neither stands again
+-- in what follows.
 pub rising-unique : (es fs : List Edge) → Rising es → Rising fs → ((x y : ℕ) → Among es x y → Among fs x y) → ((x y : ℕ) → Among fs x y → Among es x y) → es ≡ fs
 rising-unique [] [] r q to from = refl
 rising-unique [] (edge c d ∷ fs) r q to from = absurd (List·Memᴰ·not-nil (from c d (List·Memᴰ·head refl)))

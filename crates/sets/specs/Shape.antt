@@ -1,5 +1,5 @@
--- Conditions 2 and 3 of a feasible pair (01, "Standing pairs"), computed: K with cx and cy added has no point with three edges
--- and no cycle of fewer than n edges, where K itself is such a set.
+-- Conditions 2 and 3 of a feasible pair (01, "Standing pairs"), computed: K with cx and cy added has no point
+-- with three edges and no cycle of fewer than n edges, where K itself is such a set.
 use Prim.Native.Nat.{ℕ, zero, suc, _-_}
 use mathlib.Core.Bool.{Bool, true, false, _&&_, _||_, not}
 use mathlib.Core.List.{List}
@@ -27,7 +27,8 @@ unfoldable pub reaches? : ℕ → List Edge → ℕ → ℕ → ℕ → Bool
 reaches? zero K from at y = false
 reaches? (suc f) K from at y = eqb at y || goesOn (beyond (neighboursOf K at) from) (λ v. reaches? f K at v y)
 
--- with what x and y have in K beyond c: x or y gets a third edge, or the path from c over x meets y in time to close a short cycle
+-- with what x and y have in K beyond c: x or y gets a third edge, or the path from c over x meets y in time to
+-- close a short cycle
 unfoldable pub shuts? : ℕ → List Edge → ℕ → ℕ → PathStep → PathStep → Bool
 shuts? n K x y Fork my = true
 shuts? n K x y Stop Fork = true

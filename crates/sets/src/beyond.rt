@@ -40,6 +40,7 @@ fn pass(met: u16, p: u16, q: u16, v: u16, c: u16) -> u16
 }
 
 // What v has in k beyond c: 0 for nothing, the point where it is one, FORK for several.
+// Ends: i rises to the count of k.
 pub fn look_beyond(k: EdgeSet, v: u16, c: u16) -> u16
     requires { ⌜ BeyondAsked k ⌝ }
     ensures { λ r. ⌜ nextOf r ≡ beyond (neighboursOf (edgeList k) v) c ⌝ }

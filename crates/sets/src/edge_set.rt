@@ -62,7 +62,7 @@ impl EdgeSet {
         }
     }
 
-    // Is ab one of the edges?
+    // Is ab one of the edges? Ends: i falls to 0.
     pub fn has(self, a: u16, b: u16) -> bool
         requires { ⌜ Stored self ⌝ }
         ensures { λ r. ⌜ r ≡ has? (edgeList self) a b ⌝ }

@@ -90,7 +90,7 @@ impl Neighbours {
     }
 }
 
-// The different neighbours of v in k.
+// The different neighbours of v in k. Ends: i rises to the count of k.
 pub fn neighbours_of(k: EdgeSet, v: u16) -> Neighbours
     requires { ⌜ Stored k ⌝ }
     ensures { λ r. ⌜ r ≡ neighboursOf (edgeList k) v ⌝ }

@@ -12,7 +12,7 @@ ghost use Rattle.sets.specs.Shape.{reaches?, shuts?};
 ghost use Rattle.sets.specs.asks.Stored.{edgeList, Stored};
 
 // Is y met on the path of k that comes from `start` to `first`, in time to close a cycle of fewer than n points?
-// Three points of the cycle are known where the path begins: c, start and first.
+// Three points of the cycle are known where the path begins: c, start and first. Ends: `points` rises to n.
 fn reaches(n: u16, k: EdgeSet, start: u16, first: u16, y: u16) -> bool
     requires { ⌜ Stored k ⌝ }
     ensures { λ r. ⌜ r ≡ reaches? (n - 3) (edgeList k) start first y ⌝ }

@@ -1,5 +1,5 @@
--- One line in code, judged and then marked, and the lines of a sheet one after another: one lemma for each way out of `judgeRecord`,
--- `judge`, `lineStep` and `linesFrom`. Assumes nothing.
+-- One line in code, judged and then marked, and the lines of a sheet one after another: one lemma for each way out
+-- of `judgeRecord`, `judge`, `lineStep` and `linesFrom`. Assumes nothing.
 use Prim.Native.Nat.{ℕ, suc, _+_, _-_, _≤_, _<_}
 use mathlib.Core.Path.{_≡_, refl, sym, _∙_, ap}
 use mathlib.Core.Bool.{Bool, true, false}

@@ -1,5 +1,6 @@
-// One line of a sheet: judged against the marks as they are, and then marked; and a sheet as the repetition of one line. What is taken out is measured
-// by the table `out`, what is put in by the table `put`; `outs` and `puts` are their rows.
+// One line of a sheet: judged against the marks as they are, and then marked; and a sheet as the repetition of one
+// line. What is taken out is measured by the table `out`, what is put in by the table `put`; `outs` and
+// `puts` are their rows.
 use lengths::refusal;
 use marks::mark;
 use marks::mark::is_open;
@@ -22,10 +23,11 @@ ghost use Rattle.argument.specs.Line as judging;
 ghost use Rattle.argument.specs.Sheet as lines;
 ghost use Rattle.sheet_lines.specs.asks.Line.{MarkingAsked, LineAsked, SteppedAs, judgedOf};
 ghost use Rattle.sheets.specs.Verdict.{resultOf};
-ghost use Rattle.sheets.specs.Rules.{rulesBetween, markingBetween};
+ghost use Rattle.sheets.specs.Rules.{rulesIn, markingIn};
 ghost use Rattle.sheets.specs.asks.Sheet.{recordOf};
 
-// What a line that was entered comes to: it strikes its edge, with the next index and the highest record entered, or it is refused.
+// What a line that was entered comes to: it strikes its edge, with the next index and the highest record entered,
+// or it is refused.
 pub enum Judged {
     Strikes {
         a: u16,
@@ -56,8 +58,10 @@ fn judge_line(
     i: u16,
     line: Line,
 ) -> Judged
-    requires { ⌜ LineAsked n (whole32 (now out)) (whole32 (now put)) (now outs) (now puts) (marksOf n (now marks)) (whole16 (now sheet)) count i ⌝ }
-    ensures { λ r. ⌜ judgedOf r ≡ judgeRecord (rulesBetween n (whole32 (now (out .entry))) (whole32 (now (put .entry))) (marksOf n (now (marks .entry)))) (openIn n (marksOf n (now (marks .entry)))) (whole16 (now (sheet .entry))) i (recordOf (Record.Line line)) ⌝ }
+    requires { ⌜ LineAsked n (whole32 (now out)) (whole32 (now put)) (now outs) (now puts)
+        (marksOf n (now marks)) (whole16 (now sheet)) count i ⌝ }
+    ensures { λ r. ⌜ judgedOf r ≡ judgeRecord (rulesIn n (now (out .entry)) (now (put .entry)) (now (marks .entry)))
+        (openIn n (marksOf n (now (marks .entry)))) (whole16 (now (sheet .entry))) i (recordOf (Record.Line line)) ⌝ }
 {
     let closing = Closing::Split {
         point: line.point,
@@ -107,8 +111,10 @@ pub fn judge(
     count: u16,
     i: u16,
 ) -> Judged
-    requires { ⌜ LineAsked n (whole32 (now out)) (whole32 (now put)) (now outs) (now puts) (marksOf n (now marks)) (whole16 (now sheet)) count i ⌝ }
-    ensures { λ r. ⌜ judgedOf r ≡ judging.judge (rulesBetween n (whole32 (now (out .entry))) (whole32 (now (put .entry))) (marksOf n (now (marks .entry)))) (openIn n (marksOf n (now (marks .entry)))) (whole16 (now (sheet .entry))) i ⌝ }
+    requires { ⌜ LineAsked n (whole32 (now out)) (whole32 (now put)) (now outs) (now puts)
+        (marksOf n (now marks)) (whole16 (now sheet)) count i ⌝ }
+    ensures { λ r. ⌜ judgedOf r ≡ judging.judge (rulesIn n (now (out .entry)) (now (put .entry)) (now (marks .entry)))
+        (openIn n (marksOf n (now (marks .entry)))) (whole16 (now (sheet .entry))) i ⌝ }
 {
     match Sheet::record(sheet, i) {
         Record::Line(line) => judge_line(n, out, put, outs, puts, marks, sheet, count, i, line),
@@ -133,8 +139,10 @@ pub fn mark_line(
     index: u16,
     high: u16,
 ) -> Stepped
-    requires { ⌜ MarkingAsked by n (whole32 (now out)) (whole32 (now put)) (now outs) (now puts) (marksOf n (now marks)) (whole16 (now sheet)) count ⌝ }
-    ensures { λ r. ⌜ SteppedAs by n (whole32 (now (out .entry))) (whole32 (now (put .entry))) (marksOf n (now (marks .entry))) (whole16 (now (sheet .entry))) last index high r (marksOf n (now (marks .exit))) ⌝ }
+    requires { ⌜ MarkingAsked by n (whole32 (now out)) (whole32 (now put)) (now outs) (now puts)
+        (marksOf n (now marks)) (whole16 (now sheet)) count ⌝ }
+    ensures { λ r. ⌜ SteppedAs by n (whole32 (now (out .entry))) (whole32 (now (put .entry)))
+        (marksOf n (now (marks .entry))) (whole16 (now (sheet .entry))) last index high r (marksOf n (now (marks .exit))) ⌝ }
 {
     if index == 0 {
         return Stepped::Over;
@@ -157,7 +165,8 @@ pub fn mark_line(
     }
 }
 
-// The lines of a sheet of so many records, from record 1 on; an accepted line marks its edge with `by`.
+// The lines of a sheet of so many records, from record 1 on; an accepted line marks its edge with `by`. Ends: each
+// record entered is above the highest before.
 pub fn mark_lines(
     n: u16,
     by: u8,
@@ -169,8 +178,11 @@ pub fn mark_lines(
     sheet: &[u8],
     count: u16,
 ) -> Verdict
-    requires { ⌜ MarkingAsked by n (whole32 (now out)) (whole32 (now put)) (now outs) (now puts) (marksOf n (now marks)) (whole16 (now sheet)) count ⌝ }
-    ensures { λ r. ⌜ resultOf r (marksOf n (now (marks .exit))) ≡ lines.sheet (markingBetween by n (whole32 (now (out .entry))) (whole32 (now (put .entry)))) (whole16 (now (sheet .entry))) (marksOf n (now (marks .entry))) ⌝ }
+    requires { ⌜ MarkingAsked by n (whole32 (now out)) (whole32 (now put)) (now outs) (now puts)
+        (marksOf n (now marks)) (whole16 (now sheet)) count ⌝ }
+    ensures { λ r. ⌜ resultOf r (marksOf n (now (marks .exit))) ≡
+        lines.sheet (markingIn by n (now (out .entry)) (now (put .entry))) (whole16 (now (sheet .entry)))
+        (marksOf n (now (marks .entry))) ⌝ }
 {
     let mut lines: u16 = 0;
     let mut last: u16 = 0;

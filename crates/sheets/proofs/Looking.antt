@@ -1,5 +1,6 @@
--- One step of a chain in code: the tests of points, the reading of a case, and the look at an index, each with one lemma for each way
--- out. A look asks the rules for the number of points only, and a spot for its first pair only (`look-heads`). Assumes nothing.
+-- One step of a chain in code: the tests of points, the reading of a case, and the look at an index, each with one
+-- lemma for each way out. A look asks the rules for the number of points only, and a spot for its first pair only
+-- (`look-heads`). Assumes nothing.
 use Prim.Native.Nat.{ℕ, _≤_, _<_}
 use mathlib.Core.Path.{_≡_, refl, sym, _∙_, ap, ap₂}
 use mathlib.Core.Bool.{Bool, true, false, not, _&&_}

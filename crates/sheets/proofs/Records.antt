@@ -1,5 +1,5 @@
--- Sheets: `sheetAdmission` at each way out of `Sheet::admit`, what an admitted sheet is, and `recordAt` at each way out of
--- `Sheet::record`. Assumes nothing.
+-- Sheets: `sheetAdmission` at each way out of `Sheet::admit`, what an admitted sheet is, and `recordAt`
+-- at each way out of `Sheet::record`. Assumes nothing.
 use Prim.Native.Nat.{ℕ, _+_, _-_, _*_, _/_, _%_, _≤_, _<_}
 use mathlib.Core.Path.{_≡_, refl, sym, _∙_, ap}
 use mathlib.Core.Bool.{Bool, true, false, not, _&&_}

@@ -1,5 +1,5 @@
--- A chain of points in code (02, Paper 10): the look at an index, the loop over the points, and the comparison at its end, each with one lemma for each way on and each way
--- out. Assumes nothing.
+-- A chain of points in code (02, Paper 10): the look at an index, the loop over the points, and the comparison at its
+-- end, each with one lemma for each way on and each way out. Assumes nothing.
 use Prim.Native.Nat.{ℕ, _-_, _<_}
 use mathlib.Core.Path.{_≡_, refl, sym, _∙_, ap}
 use mathlib.Core.Bool.{true, false}

@@ -1,6 +1,6 @@
--- The chain of a split and the closing of a case, in code. A chain's loop stands at the spot whose pairs are the feasible ones after the
--- last pair taken, and `Following` says that the walk from there is the walk from the chain's opening; there is one lemma for each way
--- on and each way out. Assumes nothing.
+-- The chain of a split and the closing of a case, in code. A chain's loop stands at the spot whose pairs are the
+-- feasible ones after the last pair taken, and `Following` says that the walk from there is the walk from the chain's
+-- opening; there is one lemma for each way on and each way out. Assumes nothing.
 use Prim.Native.Nat.{ℕ, suc, _+_, _-_, _≤_, _<_}
 use mathlib.Core.Path.{_≡_, sym, _∙_, ap, ap₂}
 use mathlib.Core.Bool.{true}
@@ -23,7 +23,6 @@ use Rattle.closings.specs.asks.ClosingTest.{ThreeOptAsked}
 use Rattle.sets.specs.declared.edge_set.EdgeSet.{EdgeSet}
 use Rattle.sets.specs.declared.neighbours.Neighbours.{Neighbours}
 use Rattle.search.specs.declared.pairs.NextPair.{NextPair}
-use Rattle.search.specs.declared.split.Split as split
 use Rattle.closings.specs.declared.closing.ThreeOptOutcome.{ThreeOptOutcome}
 use Rattle.closings.specs.declared.closing.ThreeOptOutcome.the-variants.{Settled, NoMoves, NoSaving}
 use Rattle.sets.proofs.BeyondNumbers.{two-apart}

@@ -2,10 +2,12 @@
 use Prim.Native.Nat.{ℕ}
 use mathlib.Core.Bool.{Bool}
 use mathlib.Core.List.{List}
+use Rattle.endian.specs.Bytes.{whole32}
 use Rattle.lengths.specs.Table.{lengthOf}
 use Rattle.closings.specs.Closing.{Closes}
 use Rattle.closings.specs.ClosingTest.{threeOptOutcome, refusalOf}
 use Rattle.marks.specs.Mark.{struckMark, openIn, markIn}
+use Rattle.marks.specs.Packed.{marksOf}
 use Rattle.rules.specs.Pair.{FeasiblePair}
 use Rattle.rules.specs.Pairs.{feasiblePairs}
 use Rattle.segments.specs.Segment.{Reorders}
@@ -31,12 +33,20 @@ rulesWhere n out put open? =
 abbrev pub rulesBetween : ℕ → (low high marks : List ℕ) → Rules
 rulesBetween n low high marks = rulesWhere n low high (openIn n marks)
 
+-- the same by the bytes of the two tables and a packed set
+abbrev pub rulesIn : ℕ → (low high set : List ℕ) → Rules
+rulesIn n low high set = rulesBetween n (whole32 low) (whole32 high) (marksOf n set)
+
 abbrev pub rulesOf : ℕ → (table marks : List ℕ) → Rules
 rulesOf n table marks = rulesBetween n table table marks
 
 -- marks of n points with these lengths, where an accepted line writes the mark `by`
 abbrev pub markingBetween : (by : ℕ) → ℕ → (low high : List ℕ) → Marking (List ℕ)
 markingBetween by n low high = record { rules = rulesBetween n low high; open? = openIn n; strike = markIn by n }
+
+-- the same by the bytes of the two tables
+abbrev pub markingIn : (by : ℕ) → ℕ → (low high : List ℕ) → Marking (List ℕ)
+markingIn by n low high = markingBetween by n (whole32 low) (whole32 high)
 
 abbrev pub markingBy : (by : ℕ) → ℕ → List ℕ → Marking (List ℕ)
 markingBy by n table = markingBetween by n table table

@@ -18,8 +18,8 @@ pub enum SheetAdmission {
     Refused,
 }
 
-// How a case is closed: by a split at a point whose first case is the record `first`, by 3-opt (01's crossing), or by a new order of the
-// segment from u to v, whose first point the record `first` names (02, Paper 10: a stretch).
+// How a case is closed: by a split at a point whose first case is the record `first`, by 3-opt (01's crossing), or by a
+// new order of the segment from u to v, whose first point the record `first` names (02, Paper 10: a stretch).
 pub enum Closing {
     Split { point: u16, first: u16 },
     ThreeOpt { p: u16, q: u16, r: u16, s: u16 },
@@ -43,8 +43,8 @@ pub struct Line {
     pub next: u16,
 }
 
-// What a record is. `Visit` names a point of a new order and the index of the next; `Other` is a record of no kind, or one with a field
-// that should be 0 and is not.
+// What a record is. `Visit` names a point of a new order and the index of the next; `Other` is a record of no kind, or
+// one with a field that should be 0 and is not.
 pub enum Record {
     Line(Line),
     Case(Case),

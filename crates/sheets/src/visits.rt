@@ -11,7 +11,7 @@ use segments::segment::segment_of;
 use sets::edge_set::EdgeSet;
 ghost use mathlib.Core.Path.{_≡_};
 ghost use Rattle.endian.specs.Bytes.{whole16, whole32};
-ghost use Rattle.lengths.specs.Table.{lengthOf};
+ghost use Rattle.lengths.specs.Table.{lengthIn};
 ghost use Rattle.sets.specs.asks.Stored.{edgeList};
 ghost use Rattle.argument.specs.Walk.{lookVisit, closeByOrder};
 ghost use Rattle.segments.specs.SegmentTest.{segment?, reordering};
@@ -31,7 +31,8 @@ pub struct Visited {
     pub end: Walked,
 }
 
-// What a chain of points does at its index, behind the record `high`, the highest entered; `count` is how many records there are.
+// What a chain of points does at its index, behind the record `high`, the highest entered; `count` is how many
+// records there are.
 fn next_visit(n: u16, sheet: &[u8], count: u16, high: u16, index: u16) -> NextVisit
     requires { ⌜ WholeRecords (whole16 (now sheet)) count ⌝ }
     ensures { λ r. ⌜ nextVisitOf r ≡ lookVisit n (whole16 (now (sheet .entry))) high index ⌝ }
@@ -58,7 +59,8 @@ fn next_visit(n: u16, sheet: &[u8], count: u16, high: u16, index: u16) -> NextVi
     }
 }
 
-// The points that the chain from the index `first` on names, behind the record i. It ends since each record entered is above the last.
+// The points that the chain from the index `first` on names, behind the record i. It ends since each record entered
+// is above the last.
 fn visit_all(n: u16, sheet: &[u8], count: u16, i: u16, first: u16) -> Visited
     requires { ⌜ WholeRecords (whole16 (now sheet)) count ⌝ }
     ensures { λ r. ⌜ VisitedAs n (whole16 (now (sheet .entry))) i first r ⌝ }
@@ -89,8 +91,8 @@ fn visit_all(n: u16, sheet: &[u8], count: u16, i: u16, first: u16) -> Visited
     }
 }
 
-// The new order of the segment from u to v under k that record i holds: 23 where there is no such segment, what the chain of points
-// is refused by, 23 where it does not name the segment's points, 24 where it is not shorter.
+// The new order of the segment from u to v under k that record i holds: 23 where there is no such segment, what
+// the chain of points is refused by, 23 where it does not name the segment's points, 24 where it is not shorter.
 pub fn close_by_order(
     n: u16,
     out: &[u8],
@@ -105,7 +107,8 @@ pub fn close_by_order(
 ) -> Walked
     requires { ⌜ OrderAsked n (whole32 (now out)) (whole32 (now put)) (whole16 (now sheet)) count k u v ⌝ }
     ensures { λ r. ⌜ walkedOf r ≡ closeByOrder n (segment? (edgeList k) u v)
-        (reordering (lengthOf n (whole32 (now (out .entry)))) (lengthOf n (whole32 (now (put .entry)))) (edgeList k) u v) (whole16 (now (sheet .entry))) i first ⌝ }
+        (reordering (lengthIn n (now (out .entry))) (lengthIn n (now (put .entry))) (edgeList k) u v)
+        (whole16 (now (sheet .entry))) i first ⌝ }
 {
     let segment = segment_of(k, u, v);
     if segment.count == 0 {

@@ -26,7 +26,7 @@ ghost use Rattle.argument.specs.Record.{howFits, fits};
 ghost use Rattle.argument.specs.Walk.{readCase, opening, close, walk};
 ghost use Rattle.argument.specs.Walk as walking;
 ghost use Rattle.sheets.specs.asks.Sheet.{howOf, recordOf};
-ghost use Rattle.sheets.specs.Rules.{rulesBetween};
+ghost use Rattle.sheets.specs.Rules.{rulesIn};
 ghost use Rattle.sheets.specs.asks.Walk.{walkedOf, lookedOf, pointsOnly, spotOf, WholeRecords, ChainAsked, CaseAsked};
 
 // Where a walk ends: all is closed, with the highest record entered, or it is refused with the number and the record.
@@ -105,7 +105,8 @@ fn look_at_case(n: u16, case: Case, last: u16, index: u16, high: u16, next: Next
     Looked::Takes(case)
 }
 
-// What a chain does at its index, which the record `last` has; `high` is the highest record entered, and `count` how many there are.
+// What a chain does at its index, which the record `last` has; `high` is the highest record entered, and `count`
+// how many there are.
 fn look(
     n: u16,
     sheet: &[u8],
@@ -138,8 +139,10 @@ fn look(
     }
 }
 
-// The chain of the split at c that record i holds, under k, from the index `first` on; `left` more splits may lie inside a case.
-// What is taken out is measured by the table `out`, what is put in by the table `put`; `outs` and `puts` are their rows, and `count` is how many records the sheet has.
+// The chain of the split at c that record i holds, under k, from the index `first` on; `left` more splits may
+// lie inside a case. What is taken out is measured by the table `out`, what is put in by the table `put`; `outs` and
+// `puts` are their rows, and `count` is how many records the sheet has. Ends: each record entered is above the highest
+// before, and a split inside a case leaves one split less.
 pub fn chain(
     n: u16,
     out: &[u8],
@@ -155,9 +158,10 @@ pub fn chain(
     c: u16,
     first: u16,
 ) -> Walked
-    requires { ⌜ ChainAsked n (whole32 (now out)) (whole32 (now put)) (now outs) (now puts) (marksOf n (now marks)) (whole16 (now sheet)) count k left c ⌝ }
-    ensures { λ r. ⌜ walkedOf r ≡ walk (rulesBetween n (whole32 (now (out .entry))) (whole32 (now (put .entry))) (marksOf n (now (marks .entry)))) (whole16 (now (sheet .entry)))
-        (opening (rulesBetween n (whole32 (now (out .entry))) (whole32 (now (put .entry))) (marksOf n (now (marks .entry)))) (suc left) (edgeList k) i c first) ⌝ }
+    requires { ⌜ ChainAsked n (whole32 (now out)) (whole32 (now put)) (now outs) (now puts)
+        (marksOf n (now marks)) (whole16 (now sheet)) count k left c ⌝ }
+    ensures { λ r. ⌜ walkedOf r ≡ walk (rulesIn n (now (out .entry)) (now (put .entry)) (now (marks .entry))) (whole16 (now (sheet .entry)))
+        (opening (rulesIn n (now (out .entry)) (now (put .entry)) (now (marks .entry))) (suc left) (edgeList k) i c first) ⌝ }
 {
     let mut legs = [legs::FAR; Instance::PLACES];
     let bound = prepare(n, out, put, outs, puts, marks, k, c, &mut legs);
@@ -204,7 +208,7 @@ pub fn chain(
     }
 }
 
-// The closing that record i holds, under k with the case's pair.
+// The closing that record i holds, under k with the case's pair. Ends: its split leaves one split less to `chain`.
 fn close_case(
     n: u16,
     out: &[u8],
@@ -219,9 +223,12 @@ fn close_case(
     i: u16,
     closing: Closing,
 ) -> Walked
-    requires { ⌜ CaseAsked n (whole32 (now out)) (whole32 (now put)) (now outs) (now puts) (marksOf n (now marks)) (whole16 (now sheet)) count k left closing ⌝ }
-    ensures { λ r. ⌜ walkedOf r ≡ close (rulesBetween n (whole32 (now (out .entry))) (whole32 (now (put .entry))) (marksOf n (now (marks .entry)))) (whole16 (now (sheet .entry)))
-        (walk (rulesBetween n (whole32 (now (out .entry))) (whole32 (now (put .entry))) (marksOf n (now (marks .entry)))) (whole16 (now (sheet .entry)))) left (edgeList k) i (howOf closing) ⌝ }
+    requires { ⌜ CaseAsked n (whole32 (now out)) (whole32 (now put)) (now outs) (now puts)
+        (marksOf n (now marks)) (whole16 (now sheet)) count k left closing ⌝ }
+    ensures { λ r. ⌜ walkedOf r ≡ close (rulesIn n (now (out .entry)) (now (put .entry)) (now (marks .entry)))
+        (whole16 (now (sheet .entry)))
+        (walk (rulesIn n (now (out .entry)) (now (put .entry)) (now (marks .entry))) (whole16 (now (sheet .entry))))
+        left (edgeList k) i (howOf closing) ⌝ }
 {
     match closing {
         Closing::Split { point, first } => {

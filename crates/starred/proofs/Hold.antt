@@ -1,5 +1,6 @@
--- Every entry of the table of starred examples holds. For each kind of entry a lemma proves the claim from equations between numbers
--- or lists, which antt computes: the rules' answers, the lengths, the list of standing pairs, the ends of the centres. Assumes nothing.
+-- Every entry of the table of starred examples holds. For each kind of entry a lemma proves the claim from
+-- equations between numbers or lists, which antt computes: the rules' answers, the lengths, the list of standing pairs,
+-- the ends of the centres. Assumes nothing.
 use Prim.Native.Nat.{ℕ, zero, suc, _+_, _≤_, _<_, max}
 use mathlib.Core.Path.{_≡_, refl, sym, _∙_, ap, subst}
 use mathlib.Core.Bool.{true, false≢true}
@@ -22,7 +23,7 @@ use Rattle.sets.specs.Joined.{joins?, has?}
 use Rattle.marks.specs.Mark.{openUpTo, markAt}
 use Rattle.sets.specs.Neighbours.{withPoint, seen, neighboursOf, bothOf, endsOf, within?, either?, beyond}
 use lib.IntN.{pos}
-use Rattle.lists.specs.Saving.{gains?, smaller, larger}
+use Rattle.lengths.specs.Saving.{gains?, smaller, larger}
 use Rattle.closings.specs.Closing.{firstSaving, secondSaving, labelSaving, crossingSaving}
 use Rattle.closings.proofs.Savings.{saves-sums}
 use Rattle.rules.proofs.Savings.{compatible-sum, move-sum}
@@ -32,6 +33,7 @@ use Rattle.rules.specs.Pairs.{keep, feasiblePairs}
 use Rattle.sets.specs.Shape.{shape?, shuts?, reaches?, goesOn}
 use Rattle.closings.specs.declared.closing.ThreeOptOutcome.the-variants.{NoSaving}
 use Rattle.closings.proofs.ClosingExact.{no-saving-exact}
+use Rattle.sets.proofs.Laws.Neighbours.{ends-turned}
 use Rattle.sets.proofs.Exact.{has-exact, ends-sound, shape-exact, single-shape}
 use Rattle.rules.proofs.PairTests.{compatible-iff, feasible-iff, feasiblePairs-iff}
 use Rattle.rules.proofs.Unmoving.{single-unmovable}
@@ -56,7 +58,8 @@ compares-hold : (c x y u v new old : ℕ) → old ≤ new → square x y + squar
     → Claim (compares c x y u v new old)
 compares-hold c x y u v new old h one two = (one, two, λ k. omega (arith, move-sum square square c x y u v .0 k))
 
--- the list that the test computes has exactly the feasible pairs, since {ab} has the shape that conditions 2 and 3 go by
+-- the list that the test computes has exactly the feasible pairs, since {ab} has the shape that
+-- conditions 2 and 3 go by
 feasible-hold : (a b c : ℕ) (pairs : List Edge) → (a ≡ b → ⊥) → feasiblePairs 4 square square allOpen (edge a b ∷ []) c ≡ pairs → Claim (feasible a b c pairs)
 unfolding square
 feasible-hold a b c pairs apart e x y =
@@ -64,10 +67,6 @@ feasible-hold a b c pairs apart e x y =
     (λ xc yc e. shape-exact 4 (edge a b ∷ []) c x y (single-shape 4 a b apart) (record { x-y = λ q. omega (arith, e .up); x-c = xc; y-c = yc }))
     (single-unmovable square square a b) in
     subst (λ (es : List Edge). List·Memᴰ (edge x y) es ↔ FeasiblePair 4 square square allOpen (edge a b ∷ []) c x y) e r
-
--- the ends of a centre, named the other way round
-ends-swap : {K : List Edge} {r x y : ℕ} → DegreeTwo K r x y → DegreeTwo K r y x
-ends-swap h = record { apart = λ e. h .apart (sym e); has-x = h .has-y; has-y = h .has-x; only = λ v k. ⊎-elim inr inl (h .only v k) }
 
 are-moves : ThreeOptMoves centres 1 2 3 4 5 6 7 8
 unfolding centres endsOf bothOf neighboursOf seen withPoint has? joins?
@@ -79,8 +78,8 @@ are-moves = record {
   s-not-p = λ e. omega arith;
   s-not-q = λ e. omega arith;
   rs-free = λ h. false≢true (has-exact centres 3 4 .1 h);
-  ends-r = ends-swap (ends-sound centres 3 6 5 refl);
-  ends-s = ends-swap (ends-sound centres 4 8 7 refl);
+  ends-r = ends-turned (ends-sound centres 3 6 5 refl);
+  ends-s = ends-turned (ends-sound centres 4 8 7 refl);
 }
 
 eight-lengths : (rs : ℕ) → Eight (eight rs) 1 2 3 4 5 6 7 8 rs
@@ -125,7 +124,8 @@ unsaved-hold rs h e =
       no-saving-exact (eight rs) (eight rs) centres 1 2 3 4 .0 e .unsettled,
     )
 
--- the first pair is feasible by its test; the second is not, since 1 lies between 2 and 3 and would lie better between 4 and 5
+-- the first pair is feasible by its test; the second is not, since 1 lies between 2 and 3 and would lie
+-- better between 4 and 5
 moved-hold : (saved : ℕ) → 1 ≤ saved → feasible? 5 five five fiveOpen (edge 1 2 ∷ []) 1 2 3 ≡ true → feasibleBy01? 5 five five fiveOpen second 4 3 5 ≡ true → moveSaving five five 1 2 3 4 5 ≡ pos saved → Claim (moved saved)
 unfolding five second withPair gains?
 moved-hold (suc d) h first old gain = (

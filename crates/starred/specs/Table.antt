@@ -1,5 +1,6 @@
--- 01's starred examples ("What the contracts and the table of examples carry"): `starred` is the table, an entry an example in 01's
--- order, and `Claim` says what an entry claims, of the definitions that 01's sentences are stated by.
+-- 01's starred examples ("What the contracts and the table of examples carry"): `starred` is the table, an entry
+-- an example in 01's order, and `Claim` says what an entry claims, of the definitions that 01's
+-- sentences are stated by.
 use Prim.Native.Nat.{ℕ, _+_, max}
 use mathlib.Core.Path.{_≡_}
 use mathlib.Core.Bool.{Bool, true}
@@ -31,12 +32,13 @@ pub data Example : Type 0 where
   feasible : (a b c : ℕ) → List Edge → Example
   -- square, split c: for the pair x, y and the edge uv test 5 compares these two sums, and does not shut the pair out
   compares : (c x y u v new old : ℕ) → Example
-  -- 3-opt closing with rs of this length: each move takes out one sum and puts in the other, and so saves the difference
+  -- 3-opt closing with rs of this length: each move takes out one sum and puts in the other, and so
+  -- saves the difference
   saves : (rs taken put difference : ℕ) → Example
   -- 3-opt closing with rs of this length: no labelling saves
   unsaved : (rs : ℕ) → Example
-  -- the square with the point 5 (0,5), split 4 after the pair 2, 3 at 1 under {12}: by 01's test 5 the pair 3, 5 would stand, but moving 1 from between 2 and 3 to between 4 and 5
-  -- saves so much, so it does not (02, Paper 7)
+  -- the square with the point 5 (0,5), split 4 after the pair 2, 3 at 1 under {12}: by 01's test 5 the pair 3, 5 would
+  -- stand, but moving 1 from between 2 and 3 to between 4 and 5 saves so much, so it does not (02, Paper 7)
   moved : (saved : ℕ) → Example
 
 -- 01's stars in its order, and one example more; the sums of test 5 belong to the standing pair before them
@@ -86,7 +88,8 @@ second = withPair (edge 1 2 ∷ []) 1 2 3
 unfoldable pub eight : ℕ → ℕ → ℕ → ℕ
 eight rs =
     lengthOf 8
-    (10 ∷ 20 ∷ 20 ∷ 9 ∷ 20 ∷ 9 ∷ 20 ∷ 20 ∷ 20 ∷ 20 ∷ 9 ∷ 20 ∷ 9 ∷ rs ∷ 10 ∷ 10 ∷ 20 ∷ 20 ∷ 20 ∷ 20 ∷ 10 ∷ 10 ∷ 20 ∷ 20 ∷ 20 ∷ 20 ∷ 20 ∷ 20 ∷ [])
+    (10 ∷ 20 ∷ 20 ∷ 9 ∷ 20 ∷ 9 ∷ 20 ∷ 20 ∷ 20 ∷ 20 ∷ 9 ∷ 20 ∷ 9 ∷ rs
+    ∷ 10 ∷ 10 ∷ 20 ∷ 20 ∷ 20 ∷ 20 ∷ 10 ∷ 10 ∷ 20 ∷ 20 ∷ 20 ∷ 20 ∷ 20 ∷ 20 ∷ [])
 
 -- K: pq and the centres' edges
 unfoldable pub centres : List Edge

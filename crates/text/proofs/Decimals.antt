@@ -1,4 +1,5 @@
--- Decimal digits: the text of a number from that of its tenth, its length, that it is the number, and fields. Assumes nothing.
+-- Decimal digits: the text of a number from that of its tenth, its length, that it is the number, and fields.
+-- Assumes nothing.
 use Prim.Native.Nat.{ℕ, zero, suc, _+_, _-_, _*_, _/_, _%_, _^_, _≤_, _<_}
 use mathlib.Core.Path.{_≡_, refl, sym, _∙_, ap}
 use mathlib.Core.List.{List, [], _∷_, _++_}

@@ -1,4 +1,5 @@
--- Numbers in columns: how many digits there are, blanks one after another, blanks and digits together, and the value of what is written. Assumes nothing.
+-- Numbers in columns: how many digits there are, blanks one after another, blanks and digits together, and the value of
+-- what is written. Assumes nothing.
 use Prim.Native.Nat.{ℕ, zero, suc, _+_, _-_, _/_, _%_, _^_, _≤_, _<_}
 use mathlib.Core.Path.{_≡_, refl, _∙_, ap}
 use mathlib.Core.List.{List, [], _∷_, _++_}

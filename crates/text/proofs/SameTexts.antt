@@ -1,18 +1,15 @@
 -- Two texts are the same exactly when they are equal, and the loop that compares them. Assumes nothing.
 use Prim.Native.Nat.{ℕ, _≤_, _<_}
 use mathlib.Core.Path.{_≡_, refl, sym, _∙_, ap, ap₂}
-use mathlib.Core.Bool.{Bool, true, false, _&&_}
+use mathlib.Core.Bool.{Bool, true, false}
 use mathlib.Core.List.{List, [], _∷_}
 use native.Mathlib.Omega.{arith}
 use lib.Dec.{eqb}
 use lib.ListN.{length, getD}
 use lib.Seq.{ext-getD}
 use borrow.Author.Tests.{eq-eqb, eqb-true}
+use Rattle.lists.proofs.Bools.{and-true}
 use Rattle.text.specs.Words.{same}
-
-both : (s t : Bool) → (s && t) ≡ true → (s ≡ true) × (t ≡ true)
-both true t h = (refl, h)
-both false t h = absurd (let z : _≡_ {A = Bool} false true = h in let w : _≡_ {A = ℕ} 0 1 = cc in omega arith)
 
 pub same-self : (xs : List ℕ) → same xs xs ≡ true
 unfolding same
@@ -24,7 +21,7 @@ unfolding same
 same-equal [] [] h = refl
 same-equal [] (y ∷ ys) h = absurd (let z : _≡_ {A = Bool} false true = h in let w : _≡_ {A = ℕ} 0 1 = cc in omega arith)
 same-equal (x ∷ xs) [] h = absurd (let z : _≡_ {A = Bool} false true = h in let w : _≡_ {A = ℕ} 0 1 = cc in omega arith)
-same-equal (x ∷ xs) (y ∷ ys) h = let b = both (eqb x y) (same xs ys) h in ap₂ (λ (a : ℕ) (l : List ℕ). a ∷ l) (eqb-true x y (b .0)) (same-equal xs ys (b .1))
+same-equal (x ∷ xs) (y ∷ ys) h = let b = and-true (eqb x y) (same xs ys) h in ap₂ (λ (a : ℕ) (l : List ℕ). a ∷ l) (eqb-true x y (b .0)) (same-equal xs ys (b .1))
 
 pub same-not : (xs ys : List ℕ) → (xs ≡ ys → ⊥) → false ≡ same xs ys
 same-not xs ys h = by (same xs ys) refl

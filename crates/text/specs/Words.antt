@@ -10,7 +10,8 @@ use lib.ListN.{length, replicate, take, drop}
 pub record Room (out : List ℕ) (at : ℕ) (text : List ℕ) : Type 0 where
   pub room : at + length text ≤ length out
 
--- what writing a text at a place leaves: the bytes before the place, then the text, then the bytes past it; r is the next place
+-- what writing a text at a place leaves: the bytes before the place, then the text, then the bytes past it; r
+-- is the next place
 pub record Wrote (out : List ℕ) (at : ℕ) (text : List ℕ) (r : ℕ) (left : List ℕ) : Type 0 where
   pub next : r ≡ at + length text
   pub front : take r left ≡ take at out ++ text
@@ -23,6 +24,16 @@ blank = 32
 
 abbrev pub blanks : ℕ → List ℕ
 blanks k = replicate k blank
+
+-- `open`, `struck`, and the end of a line
+abbrev pub openWord : List ℕ
+openWord = 111 ∷ 112 ∷ 101 ∷ 110 ∷ []
+
+abbrev pub struckWord : List ℕ
+struckWord = 115 ∷ 116 ∷ 114 ∷ 117 ∷ 99 ∷ 107 ∷ []
+
+abbrev pub newline : List ℕ
+newline = 10 ∷ []
 
 -- two texts are the same, byte for byte
 unfoldable pub same : List ℕ → List ℕ → Bool

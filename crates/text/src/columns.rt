@@ -8,7 +8,7 @@ ghost use Rattle.text.specs.Decimal.{decimal, valueFrom};
 ghost use Rattle.text.specs.Columns.{padded};
 ghost use Rattle.text.specs.asks.Columns.{PaddedAsked, DigitIs, mostColumns};
 
-// How many digits a number has: a tenth of it has one less.
+// How many digits a number has: a tenth of it has one less. Ends: `rest` shrinks.
 pub fn digit_count(n: u32) -> usize
     ensures { λ r. ⌜ r ≡ length (decimal n) ⌝ }
 {
@@ -21,7 +21,7 @@ pub fn digit_count(n: u32) -> usize
     count
 }
 
-// Writes so many blanks.
+// Writes so many blanks. Ends: i rises to the count.
 fn put_blanks(count: usize, out: &mut [u8], at: usize) -> usize
     requires { ⌜ Room (now out) at (blanks count) ⌝ }
     ensures { λ r. ⌜ Wrote (now (out .entry)) at (blanks count) r (now (out .exit)) ⌝ }
@@ -54,7 +54,7 @@ fn digit_value(b: u8) -> u32
     (b - b'0') as u32
 }
 
-// The value of columns, whatever bytes they are.
+// The value of columns, whatever bytes they are. Ends: i rises to their number.
 pub fn value_of(columns: &[u8]) -> u32
     requires { ⌜ length (now columns) ≤ mostColumns ⌝ }
     ensures { λ r. ⌜ r ≡ valueFrom 0 (now (columns .entry)) ⌝ }

@@ -15,7 +15,7 @@ fn put_digit(digit: u32, out: &mut [u8], at: usize) -> usize
     at + 1
 }
 
-// Writes a number in decimal: the digits of a tenth of it, then its last digit.
+// Writes a number in decimal: the digits of a tenth of it, then its last digit. Ends: a tenth of it is smaller.
 pub fn put_number(n: u32, out: &mut [u8], at: usize) -> usize
     requires { ⌜ Room (now out) at (decimal n) ⌝ }
     ensures { λ r. ⌜ Wrote (now (out .entry)) at (decimal n) r (now (out .exit)) ⌝ }

@@ -2,7 +2,7 @@
 ghost use mathlib.Core.Path.{_≡_};
 ghost use Rattle.text.specs.Words.{Room, Wrote, same};
 
-// Writes a word.
+// Writes a word. Ends: i rises to its length.
 pub fn put_word(word: &[u8], out: &mut [u8], at: usize) -> usize
     requires { ⌜ Room (now out) at (now word) ⌝ }
     ensures { λ r. ⌜ Wrote (now (out .entry)) at (now (word .entry)) r (now (out .exit)) ⌝ }
@@ -15,7 +15,7 @@ pub fn put_word(word: &[u8], out: &mut [u8], at: usize) -> usize
     at + i
 }
 
-// Are two words the same?
+// Are two words the same? Ends: i rises to their length.
 pub fn same(a: &[u8], b: &[u8]) -> bool
     ensures { λ r. ⌜ r ≡ same (now (a .entry)) (now (b .entry)) ⌝ }
 {

@@ -1,4 +1,5 @@
--- A decision as a number: 1 where it holds and 0 where it does not, so that `omega` can count with it; and how a sum is at least 1.
+-- A decision as a number: 1 where it holds and 0 where it does not, so that `omega` can count with it; and how a
+-- sum is at least 1.
 -- `same` is 1 at two equal numbers.
 -- Assumes nothing.
 use Prim.Native.Nat.{ℕ, _+_, _≤_}

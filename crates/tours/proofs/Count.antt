@@ -1,6 +1,6 @@
--- How often a point stands in a list: `count` as a sum of `same`, what that gives of a tour, how long a list is that has each of 1 to n, and
--- which lists of n numbers are tours. The last two go by the sum of the counts of 1 to k, which one more point in the list raises by at most 1.
--- Assumes nothing.
+-- How often a point stands in a list: `count` as a sum of `same`, what that gives of a tour, how long a list is that
+-- has each of 1 to n, and which lists of n numbers are tours. The last two go by the sum of the counts of 1 to k, which
+-- one more point in the list raises by at most 1. Assumes nothing.
 use Prim.Native.Nat.{ℕ, zero, suc, _+_, _≤_, _<_}
 use mathlib.Core.Path.{_≡_, refl, _∙_, ap}
 use mathlib.Core.Bool.{Bool, true, false}

@@ -1,6 +1,6 @@
--- Taking segments apart: at an edge that is used (`cut`), at a point (`meet`, `inner`), at an end (`snoc`, `cons`). Each says where every
--- point and every length goes. `cut`, `meet` and `snoc` go by the tree; the rest follows by reversal.
--- Assumes nothing.
+-- Taking segments apart: at an edge that is used (`cut`), at a point (`meet`, `inner`), at an end (`snoc`, `cons`).
+-- Each says where every point and every length goes. `cut`, `meet` and `snoc` go by the tree; the rest
+-- follows by reversal. Assumes nothing.
 use Prim.Native.Nat.{ℕ, _+_, _≤_}
 use mathlib.Core.Path.{_≡_, refl, sym, ap, subst, subst₂}
 use mathlib.Core.Logic.{_⊎_, inl, inr, ⊎-elim, ⊎-map}

@@ -1,5 +1,5 @@
--- Lists of edges as sets, and an edge as a length: `mark p q` is 1 on the edge pq, in either order, and 0 on every other, so that a list
--- of edges has pq exactly when its total under `mark p q` is at least 1.
+-- Lists of edges as sets, and an edge as a length: `mark p q` is 1 on the edge pq, in either order, and 0 on every
+-- other, so that a list of edges has pq exactly when its total under `mark p q` is at least 1.
 -- So each law of the lengths of tours is a law of which edges a tour uses.
 -- Assumes nothing.
 pub use Rattle.sets.proofs.Laws.Joined.{has-sym}

@@ -1,5 +1,5 @@
--- Tours that are joined anew from segments. A segment with the counts of a tour is a tour; that its length is balanced, for all symmetric
--- lengths at once, is one sum. The three exchanges cite `rejoin`.
+-- Tours that are joined anew from segments. A segment with the counts of a tour is a tour; that its length is balanced,
+-- for all symmetric lengths at once, is one sum. The three exchanges cite `rejoin`.
 -- Assumes nothing.
 use Prim.Native.Nat.{ℕ, _+_}
 use mathlib.Core.Path.{_≡_, _∙_}

@@ -1,6 +1,6 @@
--- A tour turned, and reversed if need be, so that a given edge that it uses is the closing one: it is then a segment between the two
--- points of that edge. Wherever the tour is cut at first, a cut at the edge and a join at the old closing edge turn it.
--- Assumes nothing.
+-- A tour turned, and reversed if need be, so that a given edge that it uses is the closing one: it is then a
+-- segment between the two points of that edge. Wherever the tour is cut at first, a cut at the edge and a join at the
+-- old closing edge turn it. Assumes nothing.
 use Prim.Native.Nat.{ℕ, _+_, _≤_}
 use mathlib.Core.Path.{_≡_, refl, sym, _∙_, subst, subst₂}
 use mathlib.Core.Logic.{_⊎_, inl, inr}

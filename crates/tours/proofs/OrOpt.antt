@@ -1,5 +1,5 @@
--- The exchange of three edges that moves one point: c leaves its place between x and y for a place between u and v. The point is a
--- parameter, and u or v may be x or y. Assumes nothing.
+-- The exchange of three edges that moves one point: c leaves its place between x and y for a place between u and
+-- v. The point is a parameter, and u or v may be x or y. Assumes nothing.
 use Prim.Native.Nat.{ℕ}
 use mathlib.Core.Path.{_≡_}
 use mathlib.Core.Logic.{_⊎_, inl, inr}
@@ -15,9 +15,9 @@ use Rattle.tours.proofs.Cut.{Cut, cut}
 use Rattle.tours.proofs.TourNeighbours.{Around, around}
 use Rattle.tours.proofs.Exchange.{Exchanged, rejoin, inside-three}
 
--- Without c, the tour is a path from y to x. The edge uv does not touch c, so the path uses it: cut it there. With c between the two
--- parts, y .. u, c, v .. x (or y .. v, c, u .. x), closed by xy, it is a tour with xy, uc and vc for uv, xc and yc. That u or v may be
--- x or y makes a part a single point and changes nothing.
+-- Without c, the tour is a path from y to x. The edge uv does not touch c, so the path uses it: cut it there. With
+-- c between the two parts, y .. u, c, v .. x (or y .. v, c, u .. x), closed by xy, it is a tour with xy, uc and vc for
+-- uv, xc and yc. That u or v may be x or y makes a part a single point and changes nothing.
 pub or-opt :
     {n : ℕ} {t : List ℕ} →
     Tour n t →

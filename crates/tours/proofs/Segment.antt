@@ -1,5 +1,6 @@
--- Segments: a part of a tour as a tree of joins, indexed by its first and its last point. Counts, lengths and reversal go by the tree,
--- so a tour that is joined anew from parts has the counts and the length that the parts give, and nothing ever compares two lists.
+-- Segments: a part of a tour as a tree of joins, indexed by its first and its last point. Counts, lengths and
+-- reversal go by the tree, so a tour that is joined anew from parts has the counts and the length that the parts give,
+-- and nothing ever compares two lists.
 -- `list` and `segment` are the border to lists. Assumes nothing.
 use Prim.Native.Nat.{ℕ, _+_, _≤_}
 use mathlib.Core.Path.{_≡_, refl, sym, _∙_, ap, ap₂}

@@ -1,6 +1,6 @@
--- A cycle of edges of a tour has all its points. Each point of the cycle has two edges of the cycle, which are its two edges in the tour,
--- so the tour never leaves the cycle; and it has at least n points, since each of 1 to n stands in it.
--- Assumes nothing.
+-- A cycle of edges of a tour has all its points. Each point of the cycle has two edges of the cycle, which are its two
+-- edges in the tour, so the tour never leaves the cycle; and it has at least n points, since each of 1
+-- to n stands in it. Assumes nothing.
 use Prim.Native.Nat.{ℕ, _≤_}
 use mathlib.Core.Path.{_≡_, sym, subst}
 use mathlib.Core.Logic.{_⊎_, inl, inr, ⊎-elim}

@@ -1,6 +1,6 @@
 -- The exchange of three edges around an edge pq and two centres r and s.
--- `Pieces` is the tour cut at pq, r and s; the four moves that can be needed are terms over its parts, and the mirror image serves the
--- other order of r and s. Assumes nothing.
+-- `Pieces` is the tour cut at pq, r and s; the four moves that can be needed are terms over its parts, and the mirror
+-- image serves the other order of r and s. Assumes nothing.
 use Prim.Native.Nat.{ℕ, _+_, _≤_}
 use mathlib.Core.Path.{_≡_, refl, sym, subst, subst₂}
 use mathlib.Core.Logic.{_⊎_, inl, inr}
@@ -186,14 +186,16 @@ mirror-second : {n : ℕ} {t : List ℕ} (p q r s x w : ℕ) → Uses t p q → 
 unfolding total
 mirror-second {t = t} p q r s x w h hx hw X = exchanged-as X (inside-three t p q r x s w h hx hw) (λ l m. omega (arith, m p q)) (λ l m. omega arith)
 
--- Cut the tour at pq into a path from p to q. The centres r and s lie inside it, and between them at least one point, as rs is not used.
--- Say r comes first: p .. a, r, b .. c, s, d .. q. The ends x, y of r are a, b in one order, and z, w are c, d in one order.
---   y = b, z = c: the second move gives s, d .. q, b .. c, p .. a, r, closed by rs (the first would close r .. s into a loop).
+-- Cut the tour at pq into a path from p to q. The centres r and s lie inside it, and between them at least one point,
+-- as rs is not used. Say r comes first: p .. a, r, b .. c, s, d .. q. The ends x, y of r are a, b in one order, and z,
+-- w are c, d in one order.
+--   y = b, z = c: the second move gives s, d .. q, b .. c, p .. a, r, closed by rs (the first would close r
+-- .. s into a loop).
 --   y = b, z = d: the second move gives r, a .. p, d .. q, b .. c, s, closed by sr (the first would close p .. a).
 --   y = a, z = c: the second move gives p .. a, q .. d, s, r, b .. c, closed by cp (the first would close d .. q).
 --   x = b, w = c: the first move gives p .. a, r, s, d .. q, c .. b, closed by bp (the second would close r .. s).
--- If s comes first, r does on the way from q to p, and the mirror image (p and q, x and y, z and w exchanged) gives the other move.
--- Nowhere need the parts have more than one point, so ends may be p or q or one another.
+-- If s comes first, r does on the way from q to p, and the mirror image (p and q, x and y, z and w exchanged)
+-- gives the other move. Nowhere need the parts have more than one point, so ends may be p or q or one another.
 pub three-opt :
     {n : ℕ} {t : List ℕ} →
     Tour n t →

@@ -1,4 +1,5 @@
--- 3-optimal tours: a shortest tour is one, and no exchange of at most three edges of such a tour gains. Assumes nothing.
+-- 3-optimal tours: a shortest tour is one, and no exchange of at most three edges of such a tour gains.
+-- Assumes nothing.
 use Prim.Native.Nat.{ℕ, _≤_}
 use mathlib.Core.List.{List}
 use lib.ListN.{length}

@@ -1,6 +1,6 @@
--- The edges of a tour at a point c: the tour without c is a segment between its two neighbours (`around`), in which no edge touches c,
--- so that c has no third edge. Stated of any list that has no point twice, so that it holds of a cycle too.
--- Assumes nothing.
+-- The edges of a tour at a point c: the tour without c is a segment between its two neighbours (`around`), in which
+-- no edge touches c, so that c has no third edge. Stated of any list that has no point twice, so that it
+-- holds of a cycle too. Assumes nothing.
 use Prim.Native.Nat.{ℕ, _+_, _≤_}
 use mathlib.Core.Path.{_≡_, refl, sym, _∙_, subst}
 use mathlib.Core.Logic.{_⊎_, inl, inr, ⊎-elim}
@@ -215,8 +215,8 @@ tour-neighbours {n} {t} T three c p =
     apart : (v : ℕ) → Uses t c v → v ≡ c → ⊥
     apart v h e = tour-no-loop T (omega arith) c (subst (λ (u : ℕ). Uses t c u) e h)
 
--- an edge at c that a list of three points or more, none of them twice, uses is there once: the list without c has no edge at c, and of the
--- two edges that join c to it the other one is another edge
+-- an edge at c that a list of three points or more, none of them twice, uses is there once: the list without c has no
+-- edge at c, and of the two edges that join c to it the other one is another edge
 pub uses-once : (t : List ℕ) → ((v : ℕ) → count v t ≤ 1) → 3 ≤ length t → (c x : ℕ) → Uses t c x → tourLength (mark c x) t ≡ 1
 uses-once t once long c x h = go (ℕ-discrete (E .x) x)
   where

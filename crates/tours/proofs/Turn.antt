@@ -1,5 +1,5 @@
--- A closed list may begin at any of its points and run either way: its counts, and so whether it is a tour, and its length stay the same.
--- Assumes nothing.
+-- A closed list may begin at any of its points and run either way: its counts, and so whether it is a tour, and its
+-- length stay the same. Assumes nothing.
 use Prim.Native.Nat.{ℕ}
 use mathlib.Core.Path.{_≡_, refl, sym, _∙_, ap, ap₂}
 use mathlib.Core.List.{List, [], _∷_, _++_, append-nil, reverse}

@@ -1,5 +1,5 @@
--- The exchange of two edges: of the two ways to join the ends of pq and xy anew, one makes a tour, and which one depends on the order in
--- which the tour passes them. Touching edges need no case of their own. Assumes nothing.
+-- The exchange of two edges: of the two ways to join the ends of pq and xy anew, one makes a tour, and which one
+-- depends on the order in which the tour passes them. Touching edges need no case of their own. Assumes nothing.
 use Prim.Native.Nat.{ℕ}
 use mathlib.Core.Logic.{_⊎_, inl, inr}
 use mathlib.Core.List.{List, [], _∷_}
@@ -13,9 +13,9 @@ use Rattle.tours.proofs.Cut.{Cut, cut}
 use Rattle.tours.proofs.Opened.{Opened, opened}
 use Rattle.tours.proofs.Exchange.{Exchanged, rejoin, inside-two}
 
--- Turn the tour so that pq closes it: a path from q to p. Cut the path at xy, which is not pq. If x comes first, the path is q .. x and
--- y .. p; with its second part reversed it is q .. x, p .. y, closed by yq: a tour with px and qy for pq and xy. If y comes first, the
--- same with x and y exchanged gives py and qx.
+-- Turn the tour so that pq closes it: a path from q to p. Cut the path at xy, which is not pq. If x comes first, the
+-- path is q .. x and y .. p; with its second part reversed it is q .. x, p .. y, closed by yq: a tour with px and qy
+-- for pq and xy. If y comes first, the same with x and y exchanged gives py and qx.
 pub two-opt :
     {n : ℕ} {t : List ℕ} →
     Tour n t →

@@ -38,7 +38,8 @@ atEnd? n table legs bound other x z = passes? n table legs bound x z && either? 
 unfoldable pub unbarredOf : ℕ → List ℕ → List ℕ → ℕ → ℕ → ℕ → List Edge
 unbarredOf n table legs bound x barred = keep (unbarred? n table legs bound barred) (row x (suc x) (n - x))
 
--- what the search of a row is asked about: a table, legs and bound of it, the row's point, and room for a pair with each point above it
+-- what the search of a row is asked about: a table, legs and bound of it, the row's point, and room for a pair with
+-- each point above it
 pub record RowToList (n : ℕ) (table legs : List ℕ) (bound x : ℕ) (found : List ℕ) (before : ℕ) : Type 0 where
   pub lengths : Lengths n table
   pub bounded : Bounded legs bound

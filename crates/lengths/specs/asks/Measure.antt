@@ -41,7 +41,8 @@ pub record Fillable (n : ℕ) (cs table : List ℕ) : Type 0 where
   pub small : AtMost mostCoordinate cs
   pub whole : length (whole32 table) ≡ edgeCount n
 
--- what `measure_row` is given: a point and one above it, the coordinates, the bytes of a table, and the place of the first edge from a upwards
+-- what `measure_row` is given: a point and one above it, the coordinates, the bytes of a table, and the place of the
+-- first edge from a upwards
 pub record RowToMeasure (n : ℕ) (cs table : List ℕ) (a at : ℕ) : Type 0 where
   pub few : n ≤ mostPoints
   pub located : length cs ≡ 2 * n
@@ -50,7 +51,9 @@ pub record RowToMeasure (n : ℕ) (cs table : List ℕ) (a at : ℕ) : Type 0 wh
   pub first : IsEdgeUp n a (a + 1)
   pub place : placeUp n a (a + 1) ≡ at
 
--- what it leaves: where the table was measured up to `at`, over whatever bytes, it is now measured to the end of the row of a
+-- what it leaves: where the table was measured up to `at`, over whatever bytes, it is now measured to the
+-- end of the row of a
 pub record RowMeasured (n : ℕ) (rule : Rule) (cs : List ℕ) (a at : ℕ) (table left : List ℕ) : Type 0 where
   pub kept : length left ≡ length table
-  pub written : (before : List ℕ) → Encoding 4 (measuredTable rule cs n) before table at → Encoding 4 (measuredTable rule cs n) before left (at + (n - a))
+  pub written : (before : List ℕ) → Encoding 4 (measuredTable rule cs n) before table at
+      → Encoding 4 (measuredTable rule cs n) before left (at + (n - a))

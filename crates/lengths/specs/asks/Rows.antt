@@ -1,4 +1,5 @@
--- Rows of lengths: the lengths from one point to all points side by side, so that a search over points reads them in order.
+-- Rows of lengths: the lengths from one point to all points side by side, so that a search over points
+-- reads them in order.
 use Prim.Native.Nat.{ℕ, _+_, _*_, _≤_, _<_}
 use mathlib.Core.Path.{_≡_}
 use mathlib.Core.Logic.{_⊎_}

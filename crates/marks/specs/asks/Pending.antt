@@ -11,4 +11,6 @@ pub record SettledQuarter (mark byte j r : ℕ) : Type 0 where
 
 -- a byte of four marks with `mark` in the place of each that is pending
 unfoldable pub settledByte : (mark byte : ℕ) → ℕ
-settledByte mark byte = byteOf (settledMark mark (quarter byte 0)) (settledMark mark (quarter byte 1)) (settledMark mark (quarter byte 2)) (settledMark mark (quarter byte 3))
+settledByte mark byte =
+    byteOf (settledMark mark (quarter byte 0)) (settledMark mark (quarter byte 1))
+    (settledMark mark (quarter byte 2)) (settledMark mark (quarter byte 3))

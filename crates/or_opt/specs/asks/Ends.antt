@@ -1,4 +1,5 @@
--- What the functions of `src/ends.rt` ask of their callers, and what they ensure, for every two tables whose rows are lent.
+-- What the functions of `src/ends.rt` ask of their callers, and what they ensure, for every two tables
+-- whose rows are lent.
 use Prim.Native.Nat.{ℕ, _+_, _*_, _≤_}
 use mathlib.Core.Path.{_≡_}
 use mathlib.Core.Bool.{Bool}
@@ -29,7 +30,8 @@ pub record OntoAsked (n : ℕ) (out put : List ℕ) (w taken given u v : ℕ) : 
 
 -- where the numbers are the lengths of w's edges to s and t together, and of st
 pub record Onto (n : ℕ) (out put : List ℕ) (w taken given u v : ℕ) (r : Bool) : Type 0 where
-  pub told : (s t : ℕ) (low high : List ℕ) → Rows n low out → Rows n high put → taken ≡ lengthOf n low w s + lengthOf n low w t → given ≡ lengthOf n high s t
+  pub told : (s t : ℕ) (low high : List ℕ) → Rows n low out → Rows n high put
+      → taken ≡ lengthOf n low w s + lengthOf n low w t → given ≡ lengthOf n high s t
       → r ≡ stays? (lengthOf n low) (lengthOf n high) w s t u v
 
 pub record AllAsked (n : ℕ) (out put : List ℕ) (k : EdgeSet) (w taken given : ℕ) : Type 0 where
@@ -40,7 +42,8 @@ pub record AllAsked (n : ℕ) (out put : List ℕ) (k : EdgeSet) (w taken given 
   pub one : given ≤ mostLength
 
 pub record AtAll (n : ℕ) (out put : List ℕ) (k : EdgeSet) (w taken given : ℕ) (r : Bool) : Type 0 where
-  pub told : (s t : ℕ) (low high : List ℕ) → Rows n low out → Rows n high put → taken ≡ lengthOf n low w s + lengthOf n low w t → given ≡ lengthOf n high s t
+  pub told : (s t : ℕ) (low high : List ℕ) → Rows n low out → Rows n high put
+      → taken ≡ lengthOf n low w s + lengthOf n low w t → given ≡ lengthOf n high s t
       → r ≡ every (stays? (lengthOf n low) (lengthOf n high) w s t) (edgeList k)
 
 pub record EndAsked (n : ℕ) (out put : List ℕ) (k : EdgeSet) (c x q : ℕ) : Type 0 where
@@ -51,7 +54,8 @@ pub record EndAsked (n : ℕ) (out put : List ℕ) (k : EdgeSet) (c x q : ℕ) :
   pub next : Point n q
 
 pub record EndTold (n : ℕ) (out put : List ℕ) (k : EdgeSet) (c x q : ℕ) (r : Bool) : Type 0 where
-  pub told : (low high : List ℕ) → Rows n low out → Rows n high put → r ≡ every (stays? (lengthOf n low) (lengthOf n high) x c q) (edgeList k)
+  pub told : (low high : List ℕ) → Rows n low out → Rows n high put
+      → r ≡ every (stays? (lengthOf n low) (lengthOf n high) x c q) (edgeList k)
 
 pub record LegAsked (n : ℕ) (out put : List ℕ) (k : EdgeSet) (c x q : ℕ) (legs : List ℕ) : Type 0 where
   pub end : EndAsked n out put k c x q

@@ -1,5 +1,5 @@
--- What the functions of `src/settled.rt` ask of their callers, and what they ensure: for every two tables whose rows are lent, what is said of the legs
--- is said by the lengths of the first, taken out, and of the second, put in.
+-- What the functions of `src/settled.rt` ask of their callers, and what they ensure: for every two tables whose rows
+-- are lent, what is said of the legs is said by the lengths of the first, taken out, and of the second, put in.
 use Prim.Native.Nat.{ℕ, _≤_, _<_}
 use mathlib.Core.Path.{_≡_}
 use mathlib.Core.Bool.{Bool, _&&_}
@@ -14,7 +14,8 @@ use Rattle.sets.specs.declared.edge_set.EdgeSet.{EdgeSet}
 use Rattle.rules.specs.PairTest.{every, joint?, meeting?, apart?, settled?}
 use Rattle.rules.specs.asks.Legs.{LegList, LegsBy, RowsLent}
 
--- the legs pass a further test: where they were the lengths to the points that pass one, they are those to the points that pass both
+-- the legs pass a further test: where they were the lengths to the points that pass one, they are those to the
+-- points that pass both
 pub record Further (n : ℕ) (out put : List ℕ) (c : ℕ) (test : (l m : ℕ → ℕ → ℕ) → ℕ → Bool) (legs left : List ℕ) : Type 0 where
   pub list : LegList left
   pub each : (low high : List ℕ) → Rows n low out → Rows n high put → (g : ℕ → Bool) → LegsBy n (lengthOf n low) c g legs
@@ -63,7 +64,10 @@ pub record WithAsked (n : ℕ) (out put : List ℕ) (k : EdgeSet) (c i : ℕ) (l
   pub stored : i < k .count
 
 abbrev pub WithTold : (n : ℕ) → (out put : List ℕ) → (k : EdgeSet) → (c i : ℕ) → (legs left : List ℕ) → Type 0
-WithTold n out put k c i legs left = Further n out put c (λ (l m : ℕ → ℕ → ℕ) (x : ℕ). every (apart? l m c x (getD (k .from) i 0) (getD (k .to) i 0)) (edgesOf (k .from) (k .to) i)) legs left
+WithTold n out put k c i legs left =
+    Further n out put c
+    (λ (l m : ℕ → ℕ → ℕ) (x : ℕ). every (apart? l m c x (getD (k .from) i 0) (getD (k .to) i 0)) (edgesOf (k .from) (k .to) i))
+    legs left
 
 abbrev pub Settled : (n : ℕ) → (out put : List ℕ) → (k : EdgeSet) → (c : ℕ) → (legs left : List ℕ) → Type 0
 Settled n out put k c legs left = Further n out put c (λ (l m : ℕ → ℕ → ℕ) (x : ℕ). settled? l m (edgeList k) c x) legs left

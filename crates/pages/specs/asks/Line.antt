@@ -5,8 +5,8 @@ use mathlib.Core.List.{List, _++_}
 use lib.ListN.{length}
 use Rattle.lengths.specs.Instance.{mostLength}
 use Rattle.marks.specs.Mark.{pendingMark}
-use Rattle.text.specs.Words.{blanks}
-use Rattle.pages.specs.Line.{lineBytes, markWord, newline, markRead}
+use Rattle.text.specs.Words.{blanks, newline}
+use Rattle.pages.specs.Line.{lineBytes, markWord, markRead}
 
 -- the end of a line, from column 16
 unfoldable pub lineEnd : ℕ → List ℕ

@@ -24,7 +24,9 @@ pub record StoreAsked (text : List ℕ) (first lines places : ℕ) : Type 0 wher
   pub whole : lineBytes * lines ≤ length text
   pub inside : first + lines ≤ places
 
--- what storing the marks leaves: of whatever points the packed set is, the marks that were read at their places, the others as they were
+-- what storing the marks leaves: of whatever points the packed set is, the marks that were read at their places, the
+-- others as they were
 pub record MarksStored (text : List ℕ) (first lines : ℕ) (set left : List ℕ) : Type 0 where
   pub kept : length left ≡ length set
-  pub stored : (n : ℕ) → wellPacked n set ≡ true → first + lines ≤ edgeCount n → marksOf n left ≡ overlay first (marksRead text lines) (marksOf n set)
+  pub stored : (n : ℕ) → wellPacked n set ≡ true → first + lines ≤ edgeCount n
+      → marksOf n left ≡ overlay first (marksRead text lines) (marksOf n set)

@@ -10,8 +10,8 @@ use Rattle.lengths.specs.Instance.{mostLength}
 abbrev pub loose : ℕ
 loose = 3 * mostLength
 
--- the bound b with the edge uv taken in: by condition 5 a pair x, y has out(xc) + out(yc) - put(xy) at most put(uc) + put(vc) - out(uv).
--- The longest length is added on both sides, so that nothing is negative.
+-- the bound b with the edge uv taken in: by condition 5 a pair x, y has out(xc) + out(yc) - put(xy) at most put(uc) +
+-- put(vc) - out(uv). The longest length is added on both sides, so that nothing is negative.
 unfoldable pub tightened : (out put : ℕ → ℕ → ℕ) → ℕ → ℕ → ℕ → ℕ → ℕ
 tightened out put c u v b = cond (eqb u c) b (cond (eqb v c) b (min (put u c + put v c + mostLength - out u v) b))
 

@@ -1,4 +1,5 @@
--- The length of each leg at a split point. A leg that conditions 1 and 4 rule out is `far`: more than any pair may cost.
+-- The length of each leg at a split point. A leg that conditions 1 and 4 rule out is `far`: more than
+-- any pair may cost.
 use Prim.Native.Nat.{ℕ, _+_, _*_, _%_, _≤_, _<_, max}
 use mathlib.Core.Path.{_≡_}
 use mathlib.Core.Bool.{Bool, cond}
@@ -128,7 +129,8 @@ pub record Sums (pq cp cq : ℕ) : Type 0 where
   pub second : cp ≤ 2 * mostLength
   pub third : cq ≤ 2 * mostLength
 
--- what taking pq into all legs is asked about: the rows of p and q, which begin at ps and qs, and the lengths pq, cp and cq
+-- what taking pq into all legs is asked about: the rows of p and q, which begin at ps and qs, and the
+-- lengths pq, cp and cq
 pub record NarrowAsked (n : ℕ) (rows legs : List ℕ) (ps qs pq cp cq : ℕ) : Type 0 where
   pub few : n ≤ mostPoints
   pub list : LegList legs

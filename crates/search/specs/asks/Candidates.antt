@@ -23,8 +23,8 @@ pub record CandidatesAsked (n : ℕ) (candidates rank : List ℕ) : Type 0 where
   pub candidates-room : length candidates ≡ candidatePlaces
   pub rank-room : length rank ≡ candidatePlaces
 
--- `candidates` has the candidates of 1 to n, rising, and behind them n + 1; `rank` has for each point the place there of the first
--- candidate that is it or above
+-- `candidates` has the candidates of 1 to n, rising, and behind them n + 1; `rank` has for each point the place
+-- there of the first candidate that is it or above
 pub record CandidatesOf (n : ℕ) (legs candidates rank : List ℕ) : Type 0 where
   pub candidates-size : length candidates ≡ candidatePlaces
   pub rank-size : length rank ≡ candidatePlaces

@@ -31,14 +31,16 @@ allowed? n table legs bound centre x y = within? centre x y && passes? n table l
 
 -- the same, and conditions 2 and 3 at x and y
 unfoldable pub fits? : ℕ → List ℕ → List ℕ → ℕ → Neighbours → List Edge → ℕ → ℕ → ℕ → Bool
-fits? n table legs bound centre K c x y = allowed? n table legs bound centre x y && not (shuts? n K x y (beyond (neighboursOf K x) c) (beyond (neighboursOf K y) c))
+fits? n table legs bound centre K c x y =
+    allowed? n table legs bound centre x y && not (shuts? n K x y (beyond (neighboursOf K x) c) (beyond (neighboursOf K y) c))
 
 -- the first of a list of pairs, as `next_pair` answers it
 unfoldable pub firstOf : List Edge → NextPair
 firstOf [] = End
 firstOf (edge x y ∷ es) = Pair x y
 
--- a table, legs and bound of it, the candidates, and the pair xy that the search comes after: x = y stands before the row of x
+-- a table, legs and bound of it, the candidates, and the pair xy that the search comes after: x = y stands
+-- before the row of x
 pub record RowSearchAsked (n : ℕ) (table legs candidates rank : List ℕ) (bound x y : ℕ) : Type 0 where
   pub lengths : Lengths n table
   pub bounded : Bounded legs bound
@@ -57,7 +59,11 @@ pub record Searchable (n : ℕ) (table legs candidates rank : List ℕ) (bound :
   pub beside : BesideAsked n table legs candidates rank bound centre x y
   pub held : Held n k
 
--- the first feasible pair after xy at c, for every table of what is taken out and every open test whose legs and bound these are, where c has these neighbours; `table` is of what is put in
-pub record NextPairOf (n : ℕ) (table legs : List ℕ) (bound c : ℕ) (centre : Neighbours) (k : EdgeSet) (x y : ℕ) (r : NextPair) : Type 0 where
-  pub first : (out : List ℕ) (open? : ℕ → ℕ → Bool) → Lengths n out → Prepared n (lengthOf n out) (lengthOf n table) open? (edgeList k) c legs bound → centre ≡ neighboursOf (edgeList k) c
+-- the first feasible pair after xy at c, for every table of what is taken out and every open test whose legs and bound
+-- these are, where c has these neighbours; `table` is of what is put in
+pub record NextPairOf (n : ℕ) (table legs : List ℕ) (bound c : ℕ) (centre : Neighbours) (k : EdgeSet) (x y : ℕ) (r : NextPair)
+    : Type 0 where
+  pub first : (out : List ℕ) (open? : ℕ → ℕ → Bool) → Lengths n out
+      → Prepared n (lengthOf n out) (lengthOf n table) open? (edgeList k) c legs bound
+      → centre ≡ neighboursOf (edgeList k) c
       → r ≡ firstOf (feasibleAfter n (lengthOf n out) (lengthOf n table) open? (edgeList k) c x y)

@@ -44,7 +44,8 @@ pub record TriangleAsked (n : ℕ) (out put : List ℕ) (c p q : ℕ) : Type 0 w
   pub from : Point n p
   pub to : Point n q
 
--- what `triangle_of` answers: where the rows of p and q begin, the length pq as it is taken out, and cp and cq as they are put in
+-- what `triangle_of` answers: where the rows of p and q begin, the length pq as it is taken out, and cp and cq
+-- as they are put in
 pub record TriangleIn (n : ℕ) (out put : List ℕ) (c p q : ℕ) (t : Triangle) : Type 0 where
   pub start-p : t .ps ≡ (n + 1) * p
   pub start-q : t .qs ≡ (n + 1) * q
@@ -76,7 +77,8 @@ pub record TakeAsked (n : ℕ) (out put outs puts : List ℕ) (c u v : ℕ) (leg
 -- what it leaves: where the legs were those of K, they are those of K with uv, and so is the bound
 pub record TakenIn (n : ℕ) (out put : List ℕ) (c u v : ℕ) (legs : List ℕ) (bound : ℕ) (left : List ℕ) (r : ℕ) : Type 0 where
   pub list : LegList left
-  pub each : (open? : ℕ → ℕ → Bool) (K : List Edge) → LegsOf n (lengthOf n out) (lengthOf n put) open? K c legs → LegsOf n (lengthOf n out) (lengthOf n put) open? (edge u v ∷ K) c left
+  pub each : (open? : ℕ → ℕ → Bool) (K : List Edge) → LegsOf n (lengthOf n out) (lengthOf n put) open? K c legs
+      → LegsOf n (lengthOf n out) (lengthOf n put) open? (edge u v ∷ K) c left
   pub least : r ≡ tightened (lengthOf n out) (lengthOf n put) c u v bound
 
 -- what writing three rows is asked about: an edge and a point, and room for three rows

@@ -1,5 +1,5 @@
--- Condition 2 of K with cx and cy added, where K has it: c's neighbours in K are x or y, and x and y have each at most one neighbour
--- in K besides c. Assumes nothing.
+-- Condition 2 of K with cx and cy added, where K has it: c's neighbours in K are x or y, and x and y have each at
+-- most one neighbour in K besides c. Assumes nothing.
 use Prim.Native.Nat.{ℕ}
 use native.Mathlib.Decide.{ℕ-discrete}
 use mathlib.Core.Path.{_≡_, refl, sym, _∙_, subst}

@@ -1,6 +1,6 @@
--- The cycle test against cycles: where it meets y in time there is a short cycle, and where a short cycle runs through c it meets y in
--- time. For the second, the points of the cycle are closed under neighbours, so the path stays among them; each is new, so
--- there is no room for as many as the test passes. Assumes nothing.
+-- The cycle test against cycles: where it meets y in time there is a short cycle, and where a short cycle runs
+-- through c it meets y in time. For the second, the points of the cycle are closed under neighbours, so the path stays
+-- among them; each is new, so there is no room for as many as the test passes. Assumes nothing.
 use Prim.Native.Nat.{ℕ, zero, suc, _+_, _-_, _≤_, _<_}
 use native.Mathlib.Omega.{arith}
 use native.Mathlib.Decide.{ℕ-discrete}

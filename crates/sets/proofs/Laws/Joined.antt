@@ -1,5 +1,5 @@
--- What a list of edges has: `has?` is true exactly when `Has` holds, an edge joins its points either way round, and a point of
--- three with two places to stand shares one. Assumes nothing.
+-- What a list of edges has: `has?` is true exactly when `Has` holds, an edge joins its points either way
+-- round, and a point of three with two places to stand shares one. Assumes nothing.
 use Prim.Native.Nat.{ℕ}
 use mathlib.Core.Path.{_≡_, sym, _∙_}
 use mathlib.Core.Bool.{true, _&&_, false≢true}

@@ -1,5 +1,5 @@
--- What `neighboursOf`, `beyond`, `within?` and `endsOf` say of a list of edges, each in full: their answers exclude one another, so
--- each answer is given exactly when what it says holds. Assumes nothing.
+-- What `neighboursOf`, `beyond`, `within?` and `endsOf` say of a list of edges, each in full: their answers
+-- exclude one another, so each answer is given exactly when what it says holds. Assumes nothing.
 use Prim.Native.Nat.{ℕ}
 use mathlib.Core.Path.{_≡_, refl, sym, _∙_, subst₂}
 use native.Mathlib.Omega.{arith}
@@ -296,6 +296,10 @@ two-ends K r x y (Two a b) h e = go (h .only x (e .has-x)) (h .only y (e .has-y)
     go (inr p) (inr q) = absurd (e .apart (p ∙ sym q))
 two-ends K r x y More h e =
     absurd (⊎-elim (h .a-b) (⊎-elim (h .a-c) (h .b-c)) (pigeon (e .only (h .a) (h .has-a)) (e .only (h .b) (h .has-b)) (e .only (h .c) (h .has-c))))
+
+-- r's two ends, named in the other order
+pub ends-turned : {K : List Edge} {r x y : ℕ} → DegreeTwo K r x y → DegreeTwo K r y x
+ends-turned d = record { apart = λ e. d .apart (sym e); has-x = d .has-y; has-y = d .has-x; only = λ v h. ⊎-elim inr inl (d .only v h) }
 
 -- what `endsOf` answers are r's two ends
 pub ends-sound : (K : List Edge) (r x y : ℕ) → endsOf K r ≡ Both x y → DegreeTwo K r x y

@@ -1,5 +1,5 @@
--- Points of a list: membership, lists without a repeated point, and that such a list is no longer than one that has all its points.
--- Assumes nothing.
+-- Points of a list: membership, lists without a repeated point, and that such a list is no longer than one that
+-- has all its points. Assumes nothing.
 use Prim.Native.Nat.{ℕ, suc, _+_, _≤_}
 use native.Mathlib.Omega.{arith}
 use native.Mathlib.Decide.{ℕ-discrete}

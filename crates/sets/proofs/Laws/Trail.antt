@@ -1,5 +1,6 @@
--- Trails: the points that the cycle test has passed, the present one first, back to c. In a set with no point of three edges a
--- trail that goes on meets a new point each time, so it closes to a cycle where it meets y. Assumes nothing.
+-- Trails: the points that the cycle test has passed, the present one first, back to c. In a set with no point
+-- of three edges a trail that goes on meets a new point each time, so it closes to a cycle where it meets y.
+-- Assumes nothing.
 use Prim.Native.Nat.{ℕ, _≤_}
 use native.Mathlib.Omega.{arith}
 use mathlib.Core.Path.{_≡_, sym, subst, subst₂}
@@ -43,8 +44,8 @@ path-inside E a (b ∷ vs) z ch h p q (inl (inr e)) = subst₂ (Has E) (e .1) (e
 path-inside E a (b ∷ vs) z ch h p q (inr k) = path-inside E b vs z (ch .1) h p q k
 
 module _ (E : List Edge) (two : AtMostTwo E) (plain : (v : ℕ) → Has E v v → ⊥) (c y : ℕ) (cy : Has E c y) where
-  -- v, a neighbour of `at`, is none of the points before the last but one: each of these has its two neighbours on the trail,
-  -- and c has its two in the trail's second point and in y
+  -- v, a neighbour of `at`, is none of the points before the last but one: each of these has its two
+  -- neighbours on the trail, and c has its two in the trail's second point and in y
   fresh : (at v w : ℕ) (us : List ℕ) → Has E v at → PathIn E w us → Distinct (w ∷ us) → (In at (w ∷ us) → ⊥) → lastOf w us ≡ c
       → (In y (w ∷ us) → ⊥) → (at ≡ y → ⊥) → In v us → ⊥
   fresh at v w [] va ch d na l ny ay h = h

@@ -1,5 +1,5 @@
--- What a point has in K beyond the split point c, kept as a number: 0 for nothing, the point where it is one, `fork` for several.
--- It is found in one pass over the edges of K.
+-- What a point has in K beyond the split point c, kept as a number: 0 for nothing, the point where it is one,
+-- `fork` for several. It is found in one pass over the edges of K.
 use Prim.Native.Nat.{ℕ, _≤_, _<_}
 use mathlib.Core.Path.{_≡_}
 use mathlib.Core.Bool.{cond}

@@ -1,5 +1,5 @@
--- The edges that an EdgeSet stores, last in first, and what its functions keep: arrays of its size, a count that fits, points of 1 to n.
--- These are the readings that the contracts of src/edge_set.rt cite.
+-- The edges that an EdgeSet stores, last in first, and what its functions keep: arrays of its size, a count that fits,
+-- points of 1 to n. These are the readings that the contracts of src/edge_set.rt cite.
 use Prim.Native.Nat.{ℕ, zero, suc, _+_, _*_, _≤_, _<_}
 use mathlib.Core.Path.{_≡_}
 use mathlib.Core.List.{List, [], _∷_}

@@ -1,4 +1,5 @@
--- One line and the lines of a sheet: the declared answers in terms of the argument layer's verdicts, and what the functions ask.
+-- One line and the lines of a sheet: the declared answers in terms of the argument layer's verdicts, and what
+-- the functions ask.
 use Prim.Native.Nat.{ℕ, suc, _≤_}
 use mathlib.Core.Path.{_≡_}
 use mathlib.Core.List.{List}
@@ -29,7 +30,8 @@ pub record MarkingAsked (by n : ℕ) (out put outs puts marks sheet : List ℕ) 
   pub tried : Tried n out put outs puts marks sheet count
   pub is-mark : by ≤ pendingMark
 
--- where the lines stand: the marks, the lines accepted, the record that has the index, the index, the highest record entered
+-- where the lines stand: the marks, the lines accepted, the record that has the index, the index, the
+-- highest record entered
 abbrev pub placeOf : List ℕ → (lines last index high : ℕ) → Place (List ℕ)
 placeOf marks lines last index high = record { marks = marks; lines = lines; last = last; index = index; high = high }
 
@@ -47,6 +49,9 @@ marksAfter p (refused number rec) = p .marks
 
 -- what `mark_line` ensures, which writes the mark `by`, however many lines were accepted before
 pub record SteppedAs (by n : ℕ) (out put marks sheet : List ℕ) (last index high : ℕ) (r : Stepped) (left : List ℕ) : Type 0 where
-  pub answered : (lines : ℕ) → steppedOf (placeOf marks lines last index high) r left ≡ lineStep (markingBetween by n out put) sheet (placeOf marks lines last index high)
+  pub answered : (lines : ℕ) → steppedOf (placeOf marks lines last index high) r left
+      ≡ lineStep (markingBetween by n out put) sheet (placeOf marks lines last index high)
   pub size : length left ≡ length marks
-  pub marks-left : (lines : ℕ) → left ≡ marksAfter (placeOf marks lines last index high) (lineStep (markingBetween by n out put) sheet (placeOf marks lines last index high))
+  pub marks-left : (lines : ℕ) → left
+      ≡ marksAfter (placeOf marks lines last index high)
+      (lineStep (markingBetween by n out put) sheet (placeOf marks lines last index high))

@@ -1,4 +1,5 @@
--- What the functions over sheets ensure: test 7's answer, and the declared records as the records of the argument's layer.
+-- What the functions over sheets ensure: test 7's answer, and the declared records as the records of the
+-- argument's layer.
 use Prim.Native.Nat.{ℕ, _/_}
 use mathlib.Core.Bool.{true, false}
 use Rattle.argument.specs.Record.{recordSize}

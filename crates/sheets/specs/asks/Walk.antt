@@ -83,7 +83,8 @@ pub record ChainAsked (n : ℕ) (out put outs puts marks sheet : List ℕ) (coun
   pub centre : Point n c
 
 -- what a case is asked about: its points are among 1 to n, and K has its pair
-pub record CaseAsked (n : ℕ) (out put outs puts marks sheet : List ℕ) (count : ℕ) (k : EdgeSet) (left : ℕ) (closing : Closing) : Type 0 where
+pub record CaseAsked (n : ℕ) (out put outs puts marks sheet : List ℕ) (count : ℕ) (k : EdgeSet) (left : ℕ) (closing : Closing)
+    : Type 0 where
   pub tried : Tried n out put outs puts marks sheet count
   pub held : Held n k
   pub room : k .count + 2 * left ≤ mostKnown

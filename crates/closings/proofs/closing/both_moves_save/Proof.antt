@@ -1,7 +1,8 @@
--- `closings::closing::both_moves_save` meets its contract: the first move decides whether the second is looked at. Assumes nothing.
+-- `closings::closing::both_moves_save` meets its contract: the first move decides whether the second is looked at.
+-- Assumes nothing.
 use mathlib.Core.Path.{sym, _∙_, ap}
-use Rattle.lists.specs.Saving.{gains?}
-use Rattle.lists.proofs.Savings.{gains-above}
+use Rattle.lengths.specs.Saving.{gains?}
+use Rattle.lengths.proofs.Savings.{gains-above}
 use Rattle.lengths.proofs.SignedSavings.{kept}
 use Rattle.closings.proofs.Savings.{first-made, second-made, both-test, first-fails}
 use borrow.Author.Needs.{needs}

@@ -1,4 +1,5 @@
--- `closings::closing::centres_apart` meets its contract: each return rewrites with the tests that led there. Assumes nothing.
+-- `closings::closing::centres_apart` meets its contract: each return rewrites with the tests that led there.
+-- Assumes nothing.
 use borrow.Author.Tests.{eq-eqb, ne-eqb}
 use Rattle.closings.specs.ClosingTest.{centresApart?}
 use Rattle.closings.proofs.closing.centres_apart.Statement.{statement}

@@ -1,4 +1,5 @@
--- `closings::closing::close_by_three_opt` meets its contract: each return is a way out of `threeOptOutcome`. Assumes nothing.
+-- `closings::closing::close_by_three_opt` meets its contract: each return is a way out of `threeOptOutcome`.
+-- Assumes nothing.
 use mathlib.Core.Path.{_≡_, sym, _∙_}
 use mathlib.Core.Bool.{true}
 use borrow.Author.Needs.{needs}

@@ -1,5 +1,6 @@
--- `closings::closing::some_labelling_saves` meets its contract. The invariants: no labelling passed so far saves, neither in the rows of
--- the swaps of x and y before this one, nor in this row. The measures are what is left of the two swaps. Assumes nothing.
+-- `closings::closing::some_labelling_saves` meets its contract. The invariants: no labelling passed so far saves,
+-- neither in the rows of the swaps of x and y before this one, nor in this row. The measures are what is left of the
+-- two swaps. Assumes nothing.
 use Prim.Native.Nat.{ℕ, _-_, _≤_, _<_}
 use mathlib.Core.Path.{_≡_, refl, sym, _∙_}
 use mathlib.Core.Bool.{Bool, false}

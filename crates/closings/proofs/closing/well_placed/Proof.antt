@@ -1,4 +1,5 @@
--- `closings::closing::well_placed` meets its contract: each return rewrites with the tests that led there. Assumes nothing.
+-- `closings::closing::well_placed` meets its contract: each return rewrites with the tests that led there.
+-- Assumes nothing.
 use borrow.Author.Needs.{needs}
 use borrow.Author.Tests.{not-true, not-false}
 use Rattle.closings.specs.ClosingTest.{placed?}

@@ -1,7 +1,7 @@
 -- `closings::saving::crossing_saving` meets its contract: the best of four. Assumes nothing.
 use mathlib.Core.Path.{_∙_, ap₂}
 use Rattle.lengths.proofs.SignedSavings.{kept}
-use Rattle.lists.specs.Saving.{larger}
+use Rattle.lengths.specs.Saving.{larger}
 use borrow.Author.Needs.{needs}
 use Rattle.closings.proofs.Savings.{crossing-made}
 use Rattle.closings.proofs.saving.crossing_saving.Statement.{statement}

@@ -1,7 +1,7 @@
 -- `closings::saving::label_saving` meets its contract: four sums, two savings, the smaller. Assumes nothing.
 use mathlib.Core.Path.{_∙_, ap₂}
 use Rattle.lengths.proofs.SignedSavings.{kept}
-use Rattle.lists.specs.Saving.{smaller}
+use Rattle.lengths.specs.Saving.{smaller}
 use borrow.Author.Needs.{needs}
 use Rattle.closings.proofs.Savings.{first-made, second-made, label-made}
 use Rattle.closings.proofs.saving.label_saving.Statement.{statement}

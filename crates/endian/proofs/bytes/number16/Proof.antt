@@ -1,4 +1,5 @@
--- `endian::bytes::number16` meets its contract: the entry's bytes are among the bytes, and make up the number. Assumes nothing.
+-- `endian::bytes::number16` meets its contract: the entry's bytes are among the bytes, and make up the number.
+-- Assumes nothing.
 use native.Mathlib.Omega.{arith}
 use Rattle.endian.proofs.Reading.{inside16, entry16}
 use borrow.Author.Needs.{needs}

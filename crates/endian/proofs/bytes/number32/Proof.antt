@@ -1,4 +1,5 @@
--- `endian::bytes::number32` meets its contract: the entry's bytes are among the bytes, and make up the number. Assumes nothing.
+-- `endian::bytes::number32` meets its contract: the entry's bytes are among the bytes, and make up the number.
+-- Assumes nothing.
 use native.Mathlib.Omega.{arith}
 use Rattle.endian.proofs.Reading.{inside32, entry32}
 use borrow.Author.Needs.{needs}

@@ -1,4 +1,5 @@
--- `enumeration::find::find_apart` meets its contract: `RowsFound` holds at the loop's head, and the measure is the number of rows left. Assumes nothing.
+-- `enumeration::find::find_apart` meets its contract: `RowsFound` holds at the loop's head, and the measure is the
+-- number of rows left. Assumes nothing.
 use Prim.Native.Nat.{_-_}
 use borrow.Author.Needs.{needs}
 use Rattle.endian.specs.Bytes.{whole32}

@@ -1,4 +1,5 @@
--- `enumeration::find::find_at_end` meets its contract: what `find_below` leaves is the row of `other` and rows with no pair. Assumes nothing.
+-- `enumeration::find::find_at_end` meets its contract: what `find_below` leaves is the row of `other` and rows with no
+-- pair. Assumes nothing.
 use borrow.Author.Needs.{needs}
 use Rattle.enumeration.proofs.AllRows.{rows-row, rows-done}
 use Rattle.enumeration.proofs.AtEnd.{end-done}

@@ -1,5 +1,5 @@
--- `enumeration::find::find_below` meets its contract: `Below` holds at the loop's head, and the measure is the number of points left below `other`.
--- Assumes nothing.
+-- `enumeration::find::find_below` meets its contract: `Below` holds at the loop's head, and the measure is the number
+-- of points left below `other`. Assumes nothing.
 use Prim.Native.Nat.{_-_, _*_}
 use native.Mathlib.Omega.{arith}
 use lib.Seq.{lt-length-set}

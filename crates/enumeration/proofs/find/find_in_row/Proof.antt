@@ -1,4 +1,5 @@
--- `enumeration::find::find_in_row` meets its contract: `Rowing` holds at the loop's head, and the measure is what is left of the row. Assumes nothing.
+-- `enumeration::find::find_in_row` meets its contract: `Rowing` holds at the loop's head, and the measure is what is
+-- left of the row. Assumes nothing.
 use Prim.Native.Nat.{_+_, _-_, _*_}
 use native.Mathlib.Omega.{arith}
 use lib.Seq.{lt-length-set}

@@ -1,4 +1,5 @@
--- `lengths::distance::distance` meets its contract: a close guess is corrected, and any other leaves the search. Assumes nothing.
+-- `lengths::distance::distance` meets its contract: a close guess is corrected, and any other leaves the search.
+-- Assumes nothing.
 use native.Mathlib.Omega.{arith}
 use Rattle.lengths.proofs.Guesses.{step-small, corrected}
 use borrow.Author.Needs.{needs}

@@ -1,4 +1,5 @@
--- `lengths::distance::is_close` meets its contract: it passes a guess by the four tests that make it close. Assumes nothing.
+-- `lengths::distance::is_close` meets its contract: it passes a guess by the four tests that make it close.
+-- Assumes nothing.
 use mathlib.Core.Path.{sym, _∙_}
 use mathlib.Core.Bool.{true≢false}
 use borrow.Author.Needs.{needs}

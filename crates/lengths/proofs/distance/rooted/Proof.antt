@@ -1,4 +1,5 @@
--- `lengths::distance::rooted` meets its contract: the squares fit, since the gaps are within the limit. Assumes nothing.
+-- `lengths::distance::rooted` meets its contract: the squares fit, since the gaps are within the limit.
+-- Assumes nothing.
 use mathlib.Core.Path.{_∙_}
 use native.Mathlib.Omega.{arith}
 use Rattle.lengths.specs.Distance.{squares}

@@ -1,4 +1,5 @@
--- `lengths::limit::all_at_most` meets its contract: what is found so far and the test of what is left are the test of all. Assumes nothing.
+-- `lengths::limit::all_at_most` meets its contract: what is found so far and the test of what is left are the test of
+-- all. Assumes nothing.
 use Prim.Native.Nat.{_-_}
 use borrow.Author.Needs.{needs}
 use native.Mathlib.Omega.{arith}

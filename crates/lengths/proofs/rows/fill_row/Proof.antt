@@ -1,4 +1,5 @@
--- `lengths::rows::fill_row` meets its contract: the part below v, v itself, and the part above it are the row. Assumes nothing.
+-- `lengths::rows::fill_row` meets its contract: the part below v, v itself, and the part above it are the row.
+-- Assumes nothing.
 use Rattle.lengths.proofs.RowFilling.{row-done}
 use borrow.Author.Needs.{needs}
 use Rattle.lengths.proofs.rows.fill_row.Statement.{statement}

@@ -1,4 +1,5 @@
--- `marks::converting::bytes_are_marks` meets its contract: what is found so far and the test of what is left are the test of all. Assumes nothing.
+-- `marks::converting::bytes_are_marks` meets its contract: what is found so far and the test of what is left are the
+-- test of all. Assumes nothing.
 use Prim.Native.Nat.{_-_}
 use native.Mathlib.Omega.{arith}
 use mathlib.Core.Path.{refl}

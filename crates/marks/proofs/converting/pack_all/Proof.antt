@@ -1,4 +1,5 @@
--- `marks::converting::pack_all` meets its contract: at the loop's head the first k bytes are those of the packed set. Assumes nothing.
+-- `marks::converting::pack_all` meets its contract: at the loop's head the first k bytes are those of the packed set.
+-- Assumes nothing.
 use Prim.Native.Nat.{_-_}
 use native.Mathlib.Omega.{arith}
 use lib.ListN.{length}

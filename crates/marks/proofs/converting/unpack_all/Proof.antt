@@ -1,4 +1,5 @@
--- `marks::converting::unpack_all` meets its contract: at the loop's head the first i marks are those of the set. Assumes nothing.
+-- `marks::converting::unpack_all` meets its contract: at the loop's head the first i marks are those of the set.
+-- Assumes nothing.
 use Prim.Native.Nat.{ℕ, _-_}
 use mathlib.Core.Path.{sym, _∙_}
 use native.Mathlib.Omega.{arith}

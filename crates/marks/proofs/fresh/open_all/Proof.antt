@@ -1,4 +1,5 @@
--- `marks::fresh::open_all` meets its contract: at the loop's head the first i bytes are those of open edges. Assumes nothing.
+-- `marks::fresh::open_all` meets its contract: at the loop's head the first i bytes are those of open edges.
+-- Assumes nothing.
 use Prim.Native.Nat.{_-_, _*_, _<_}
 use native.Mathlib.Omega.{arith}
 use mathlib.Core.Path.{_∙_}

@@ -1,19 +1,12 @@
--- `marks::mark::open_at` meets its contract: the mark stands in its two bits. Assumes nothing.
-use mathlib.Core.Path.{sym, _∙_, ap}
-use native.Mathlib.Omega.{arith}
-use Rattle.marks.specs.Mark.{markAt, opens}
-use Rattle.marks.proofs.PackedSets.{quarters-at}
+-- `marks::mark::open_at` meets its contract: of the mark at the place. Assumes nothing.
+use mathlib.Core.Path.{_∙_, ap}
+use Rattle.marks.specs.Mark.{opens}
 use borrow.Author.Needs.{needs}
 use Rattle.marks.proofs.mark.open_at.Statement.{statement}
 use Rattle.marks.proofs.mark.open_at.Tie as tie
 
-shared-slice-read-quarter : tie.Need-shared-slice-read-quarter
-shared-slice-read-quarter c = omega (arith, c .before .before .pre)
-
 returns : tie.Need-returns
-unfolding markAt
-returns c = c .opens .ensures ∙ ap (opens _) (c .before .quarter .ensures ∙ sym (quarters-at _ _))
+returns c = c .opens .ensures ∙ ap (opens _) (c .before .mark-at .ensures)
 
 pub open-at-spec : {M : Type 1} → statement M
-open-at-spec =
-    tie.close (tie.spec shared-slice-read-quarter (λ c κs. search needs) (λ c κs. search needs) returns)
+open-at-spec = tie.close (tie.spec (λ c κs. search needs) (λ c κs. search needs) returns)

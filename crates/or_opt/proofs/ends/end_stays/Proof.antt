@@ -1,4 +1,5 @@
--- `or_opt::ends::end_stays` meets its contract: the numbers are read from the rows and held against the edges of k. Assumes nothing.
+-- `or_opt::ends::end_stays` meets its contract: the numbers are read from the rows and held against the edges of k.
+-- Assumes nothing.
 use mathlib.Core.Path.{refl}
 use native.Mathlib.Omega.{arith}
 use Rattle.or_opt.proofs.EndMoves.{end-room-c, end-room-next, end-room, end-taken, end-all, end-told}

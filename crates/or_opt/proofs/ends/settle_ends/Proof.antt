@@ -1,4 +1,5 @@
--- `or_opt::ends::settle_ends` meets its contract: the invariant is `Ending`, that the points of the first i edges are taken in. Assumes nothing.
+-- `or_opt::ends::settle_ends` meets its contract: the invariant is `Ending`, that the points of the first i edges are
+-- taken in. Assumes nothing.
 use Prim.Native.Nat.{_-_}
 use Rattle.or_opt.proofs.EndMoves.{Ending, ending-start, ending-first, ending-second, ending-on, ending-end}
 use borrow.Author.Needs.{needs}

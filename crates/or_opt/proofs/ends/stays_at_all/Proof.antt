@@ -1,4 +1,5 @@
--- `or_opt::ends::stays_at_all` meets its contract: the invariant is `Staying`, that w stays where the first i edges are. Assumes nothing.
+-- `or_opt::ends::stays_at_all` meets its contract: the invariant is `Staying`, that w stays where the first i edges
+-- are. Assumes nothing.
 use Prim.Native.Nat.{_-_}
 use borrow.Author.Tests.{not-true, not-false}
 use Rattle.or_opt.proofs.EndMoves.{Staying, staying-start, staying-end, onto-asks, staying-stops, staying-on}

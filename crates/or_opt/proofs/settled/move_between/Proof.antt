@@ -1,4 +1,5 @@
--- `or_opt::settled::move_between` meets its contract: the numbers are read from the rows, the legs are narrowed, and the own leg is put back. Assumes nothing.
+-- `or_opt::settled::move_between` meets its contract: the numbers are read from the rows, the legs are narrowed, and
+-- the own leg is put back. Assumes nothing.
 use mathlib.Core.Path.{refl}
 use native.Mathlib.Omega.{arith}
 use Rattle.or_opt.proofs.SettledLegs.{room-s, room-t, room-c, room-st, taken-small, given-small, narrow-asks, moved-told}

@@ -1,4 +1,5 @@
--- `or_opt::settled::settle_all` meets its contract: the invariant is `Settling`, that the first i edges are taken in. Assumes nothing.
+-- `or_opt::settled::settle_all` meets its contract: the invariant is `Settling`, that the first i edges are taken in.
+-- Assumes nothing.
 use Prim.Native.Nat.{_-_}
 use mathlib.Core.Logic.{⊎-elim}
 use borrow.Author.Tests.{not-false}

@@ -1,4 +1,5 @@
--- `pages::reading::read_page` meets its contract: each way out has its lemma in `ReadAnswers`. What is promised of a page that is read stands first. Assumes nothing.
+-- `pages::reading::read_page` meets its contract: each way out has its lemma in `ReadAnswers`. What is promised of a
+-- page that is read stands first. Assumes nothing.
 use native.Mathlib.Omega.{arith}
 use mathlib.Core.Path.{sym, _∙_}
 use Rattle.pages.proofs.PageParts.{paged}

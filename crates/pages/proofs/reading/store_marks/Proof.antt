@@ -25,29 +25,26 @@ mul-at c = omega (arith, c .before .before .before .before .pre .most, c .loop-t
 add-end : tie.Need-add-end Inv-loop μ-loop
 add-end c = omega (arith, c .before .before .before .before .pre .most, c .loop-test .taken)
 
+add-set-mark-at : tie.Need-add-set-mark-at Inv-loop μ-loop
+add-set-mark-at c = let l = c .before in omega (arith, l .before .before .before .before .pre .few, l .loop-test .taken)
+
 part-mark-read-end : tie.Need-part-mark-read-end Inv-loop μ-loop
-part-mark-read-end c = omega (arith, c .before .before .before .before .pre .whole, c .loop-test .taken)
+part-mark-read-end c = let l = c .before in omega (arith, l .before .before .before .before .pre .whole, l .loop-test .taken)
 
 mark-read-requires : tie.Need-mark-read-requires Inv-loop μ-loop
-mark-read-requires c κs = let l = c .before in stored-line (l .before .before .before .before .pre) (l .loop-test .taken)
+mark-read-requires c κs = let l = c .before .before in stored-line (l .before .before .before .before .pre) (l .loop-test .taken)
 
-add-place : tie.Need-add-place Inv-loop μ-loop
-add-place c = let l = c .before .before in omega (arith, l .before .before .before .before .pre .few, l .loop-test .taken)
-
-slice-read-put-quarter : tie.Need-slice-read-put-quarter Inv-loop μ-loop
-slice-read-put-quarter c = let l = c .before .before .before in mark-inside (l .before .before .before .before .pre) (l .before .loop .inv) (l .loop-test .taken)
-
-put-quarter-requires : tie.Need-put-quarter-requires Inv-loop μ-loop
-put-quarter-requires c κs = record { place = omega arith; two-bits = omega (arith, c .before .mark-read .ensures .is-mark) }
-
-slice-write-set : tie.Need-slice-write-set Inv-loop μ-loop
-slice-write-set c = let l = c .before .before .before .before in mark-inside (l .before .before .before .before .pre) (l .before .loop .inv) (l .loop-test .taken)
+set-mark-at-requires : tie.Need-set-mark-at-requires Inv-loop μ-loop
+set-mark-at-requires c κs =
+    let l = c .before .before .before in
+    record { inside = mark-inside (l .before .before .before .before .pre) (l .before .loop .inv) (l .loop-test .taken); is-mark = c .mark-read .ensures .is-mark }
 
 loop-again : tie.Need-loop-again Inv-loop μ-loop
 loop-again c =
-    let m = c .before .before in
-    let l = m .before .before in
-    marks-on (l .before .before .before .before .pre) (l .before .loop .inv) (l .loop-test .taken) (subst (λ (x : List ℕ). MarkReadIs x (m .mark-read .result)) (line-part _ _) (m .mark-read .ensures)) (c .put-quarter .ensures)
+    let w = c .before .before in
+    let r = w .before in
+    let l = r .before .before .before in
+    marks-on (l .before .before .before .before .pre) (l .before .loop .inv) (l .loop-test .taken) (subst (λ (x : List ℕ). MarkReadIs x (r .mark-read .result)) (line-part _ _) (r .mark-read .ensures)) (w .set-mark-at .ensures)
 
 same-length : tie.Need-same-length Inv-loop μ-loop
 same-length c = c .before .loop .inv .kept
@@ -58,6 +55,6 @@ returns c = marks-done (c .before .before .before .before .pre) (c .before .loop
 pub store-marks-spec : {M : Type 1} → statement M
 store-marks-spec =
     tie.close
-    (tie.spec Inv-loop μ-loop loop-holds mul-at add-end (λ c. search needs) (λ c. search needs) part-mark-read-end
-    mark-read-requires add-place slice-read-put-quarter put-quarter-requires slice-write-set (λ c. search needs)
-    (λ c. search needs) loop-again same-length returns)
+    (tie.spec Inv-loop μ-loop loop-holds mul-at add-end add-set-mark-at (λ c. search needs) (λ c. search needs)
+    part-mark-read-end mark-read-requires set-mark-at-requires (λ c. search needs) (λ c. search needs) loop-again
+    same-length returns)

@@ -1,5 +1,5 @@
--- `report::lines::put_mark` meets its contract: a line for a struck edge, and none for an open one. What is promised stands
--- first, so that a wrong line is refused there and not where room is asked for it. Assumes nothing.
+-- `report::lines::put_mark` meets its contract: a line for a struck edge, and none for an open one. What
+-- is promised stands first, so that a wrong line is refused there and not where room is asked for it. Assumes nothing.
 use borrow.Author.Tests.{not-true, not-false}
 use Rattle.report.proofs.Striking.{struck-room, struck-wrote, open-wrote}
 use borrow.Author.Needs.{needs}

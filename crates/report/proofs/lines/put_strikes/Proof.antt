@@ -1,4 +1,5 @@
--- `report::lines::put_strikes` meets its contract: `Striking` holds at the loop's head, over the marks that the packed set holds. Assumes nothing.
+-- `report::lines::put_strikes` meets its contract: `Striking` holds at the loop's head, over the marks that the packed
+-- set holds. Assumes nothing.
 use Prim.Native.Nat.{_-_, _<_}
 use mathlib.Core.Path.{sym, _∙_}
 use native.Mathlib.Omega.{arith}

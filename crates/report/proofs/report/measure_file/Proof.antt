@@ -1,4 +1,5 @@
--- `report::report::measure_file` meets its contract: each answer of measuring has its lemma in `Measurings`. Assumes nothing.
+-- `report::report::measure_file` meets its contract: each answer of measuring has its lemma in `Measurings`.
+-- Assumes nothing.
 use mathlib.Core.Path.{_∙_, ap}
 use lib.ListN.{length}
 use denote.Ref.{now}

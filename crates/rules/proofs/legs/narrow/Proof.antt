@@ -1,4 +1,5 @@
--- `rules::legs::narrow` meets its contract: the invariant is `Narrowing`, that the legs below x have taken in the edge and the others are as they were. Assumes nothing.
+-- `rules::legs::narrow` meets its contract: the invariant is `Narrowing`, that the legs below x have taken in the edge
+-- and the others are as they were. Assumes nothing.
 use Prim.Native.Nat.{_+_, _-_}
 use native.Mathlib.Omega.{arith}
 use Rattle.rules.proofs.LegLoops.{Narrowing, narrowing-start, narrowing-both, narrowing-one, narrowing-other, narrowing-on, narrowing-end}

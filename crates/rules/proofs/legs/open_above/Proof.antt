@@ -1,4 +1,5 @@
--- `rules::legs::open_above` meets its contract: the points up to the first whole byte, those of whole bytes, and those that are left. Assumes nothing.
+-- `rules::legs::open_above` meets its contract: the points up to the first whole byte, those of whole bytes, and those
+-- that are left. Assumes nothing.
 use mathlib.Core.Path.{refl}
 use native.Mathlib.Omega.{arith}
 use Rattle.rules.proofs.LegLoops.{above-none, above-start, bytes-begin, above-end}

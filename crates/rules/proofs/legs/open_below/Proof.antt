@@ -1,4 +1,5 @@
--- `rules::legs::open_below` meets its contract: the invariant is `OpeningBelow`, that the legs below x are filled in and `next` is one more than the place of xc. Assumes nothing.
+-- `rules::legs::open_below` meets its contract: the invariant is `OpeningBelow`, that the legs below x are filled in
+-- and `next` is one more than the place of xc. Assumes nothing.
 use Prim.Native.Nat.{_-_, _<_}
 use mathlib.Core.Path.{sym, _∙_}
 use native.Mathlib.Omega.{arith}

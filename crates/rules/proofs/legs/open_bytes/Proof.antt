@@ -1,4 +1,5 @@
--- `rules::legs::open_bytes` meets its contract: at the loop's head the legs of `from` + 4 k points above c are filled in. Assumes nothing.
+-- `rules::legs::open_bytes` meets its contract: at the loop's head the legs of `from` + 4 k points above c are filled
+-- in. Assumes nothing.
 use Prim.Native.Nat.{_-_, _+_, _*_, _<_, _≤_}
 use native.Mathlib.Omega.{arith}
 use borrow.Author.Needs.{needs}

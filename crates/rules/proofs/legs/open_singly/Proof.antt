@@ -1,4 +1,5 @@
--- `rules::legs::open_singly` meets its contract: the invariant is `OpenAbove`, that the legs below c + 1 + i are filled in. Assumes nothing.
+-- `rules::legs::open_singly` meets its contract: the invariant is `OpenAbove`, that the legs below c + 1 + i are filled
+-- in. Assumes nothing.
 use Rattle.lengths.proofs.Edges.{edges-fit, edgeCount-tri}
 use Prim.Native.Nat.{_-_, _+_, _<_, _≤_}
 use mathlib.Core.Path.{sym, _∙_}

@@ -1,5 +1,5 @@
--- `search::candidates::list_candidates` meets its contract: the loop's invariant is `Ranked`, of the two lists with what the next step writes to them.
--- Assumes nothing.
+-- `search::candidates::list_candidates` meets its contract: the loop's invariant is `Ranked`, of the two lists with
+-- what the next step writes to them. Assumes nothing.
 use Prim.Native.Nat.{_+_, _-_}
 use lib.Dec.{eqb}
 use lib.ListN.{getD, set}

@@ -1,4 +1,5 @@
--- `search::pairs::next_in_row` meets its contract: the loop's invariant is `Scanning`, the measure what is left of the row. Assumes nothing.
+-- `search::pairs::next_in_row` meets its contract: the loop's invariant is `Scanning`, the measure what is left of the
+-- row. Assumes nothing.
 use Prim.Native.Nat.{_+_, _-_}
 use native.Mathlib.Omega.{arith}
 use borrow.Author.Needs.{needs}

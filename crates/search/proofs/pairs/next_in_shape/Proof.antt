@@ -1,4 +1,5 @@
--- `search::pairs::next_in_shape` meets its contract: the loop's invariant is `Trying`, the measure the points left. Assumes nothing.
+-- `search::pairs::next_in_shape` meets its contract: the loop's invariant is `Trying`, the measure the points left.
+-- Assumes nothing.
 use Prim.Native.Nat.{_+_, _-_}
 use mathlib.Core.Bool.{not}
 use mathlib.Core.Path.{sym, _∙_, ap}

@@ -1,4 +1,5 @@
--- `search::pairs::next_pair` meets its contract: the loop's invariant is `Walking`, the measure the rows left. Assumes nothing.
+-- `search::pairs::next_pair` meets its contract: the loop's invariant is `Walking`, the measure the rows left.
+-- Assumes nothing.
 use Prim.Native.Nat.{_-_}
 use native.Mathlib.Omega.{arith}
 use Rattle.endian.specs.Bytes.{whole32}

@@ -1,4 +1,5 @@
--- `search::split::fill_edge_rows` meets its contract: a row is kept where another is written behind it. Assumes nothing.
+-- `search::split::fill_edge_rows` meets its contract: a row is kept where another is written behind it.
+-- Assumes nothing.
 use Rattle.search.proofs.Preparing.{edge-rows}
 use borrow.Author.Needs.{needs}
 use Rattle.search.proofs.split.fill_edge_rows.Statement.{statement}

@@ -1,4 +1,5 @@
--- `search::split::prepare` meets its contract: the edges of k are taken in, then its points of degree two, then its points as ends. Assumes nothing.
+-- `search::split::prepare` meets its contract: the edges of k are taken in, then its points of degree two, then its
+-- points as ends. Assumes nothing.
 use Rattle.search.proofs.Preparing.{settle-asks, ends-asks, settled-split}
 use borrow.Author.Needs.{needs}
 use Rattle.search.proofs.split.prepare.Statement.{statement}

@@ -5,13 +5,13 @@ use Rattle.search.proofs.split.prepare_single.Statement.{statement}
 use Rattle.search.proofs.split.prepare_single.Tie as tie
 
 legs-for-edge-requires : tie.Need-legs-for-edge-requires
-legs-for-edge-requires c κs = single-asked (c .before .before .before .before .before .pre)
+legs-for-edge-requires c κs = let p = c .before .before .before .before .before .before .pre in (single-asked (p .0), p .1)
 
 bound-for-edge-requires : tie.Need-bound-for-edge-requires
-bound-for-edge-requires c κs = single-asked (c .before .before .before .before .before .before .pre) .asked
+bound-for-edge-requires c κs = single-asked (c .before .before .before .before .before .before .before .pre .0) .asked
 
 returns : tie.Need-returns
-returns c = single-split (c .before .before .before .before .before .before .before .pre) (c .before .legs-for-edge .ensures) (c .bound-for-edge .ensures)
+returns c = single-split (c .before .before .before .before .before .before .before .before .pre .0) (c .before .legs-for-edge .ensures) (c .bound-for-edge .ensures)
 
 pub prepare-single-spec : {M : Type 1} → statement M
 prepare-single-spec =

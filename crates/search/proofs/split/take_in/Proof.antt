@@ -1,5 +1,5 @@
--- `search::split::take_in` meets its contract: an edge that touches c leaves all as it is, and any other narrows the legs and tightens the bound.
--- Assumes nothing.
+-- `search::split::take_in` meets its contract: an edge that touches c leaves all as it is, and any other narrows the
+-- legs and tightens the bound. Assumes nothing.
 use mathlib.Core.Logic.{inl, inr}
 use Rattle.search.proofs.Preparing.{taken-touching, take-asks, take-short, take-narrow, taken-in}
 use Rattle.search.proofs.split.take_in.Statement.{statement}

@@ -1,5 +1,5 @@
--- `search::split::take_in_all` meets its contract: the invariant is `Taking`, that the legs and the bound are those of the first i edges.
--- Assumes nothing.
+-- `search::split::take_in_all` meets its contract: the invariant is `Taking`, that the legs and the bound are those of
+-- the first i edges. Assumes nothing.
 use Prim.Native.Nat.{_-_}
 use Rattle.endian.specs.Bytes.{whole32}
 use Rattle.rules.proofs.LegLoops.{open-start}

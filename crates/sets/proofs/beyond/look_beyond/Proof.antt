@@ -1,4 +1,5 @@
--- `sets::beyond::look_beyond` meets its contract: the invariant is `Gathering`, that the first i edges are looked at. Assumes nothing.
+-- `sets::beyond::look_beyond` meets its contract: the invariant is `Gathering`, that the first i edges are looked at.
+-- Assumes nothing.
 use Prim.Native.Nat.{_-_}
 use borrow.Author.Needs.{needs}
 use Rattle.sets.proofs.BeyondNumbers.{Gathering, gather-start, gather-on, gather-fork, gather-end}

@@ -1,5 +1,5 @@
--- `sets::edge_set::joins` meets its contract: each way out has made the comparisons that `joins?` makes, and the two ways to its last
--- test agree that pq is not ab in this order. Assumes nothing.
+-- `sets::edge_set::joins` meets its contract: each way out has made the comparisons that `joins?` makes, and the two
+-- ways to its last test agree that pq is not ab in this order. Assumes nothing.
 use mathlib.Core.Logic.{⊎-elim}
 use borrow.Author.Tests.{eq-eqb, ne-eqb}
 use Rattle.sets.specs.Joined.{joins?}

@@ -1,5 +1,5 @@
--- `sets::neighbours::neighbours_of` meets its contract. The invariant: `found` has v's neighbours in the first i edges; the measure is what is left
--- of the count. Assumes nothing.
+-- `sets::neighbours::neighbours_of` meets its contract. The invariant: `found` has v's neighbours in the first i edges;
+-- the measure is what is left of the count. Assumes nothing.
 use Prim.Native.Nat.{_≤_, _-_}
 use native.Mathlib.Omega.{arith}
 use mathlib.Core.Path.{_≡_, refl, _∙_}

@@ -1,5 +1,5 @@
--- `sets::shape::reaches` meets its contract. The invariant: what is to be answered from here, with `points` points of a cycle passed, is what was to
--- be answered at the start; the measure is how many points are left. Assumes nothing.
+-- `sets::shape::reaches` meets its contract. The invariant: what is to be answered from here, with `points` points of a
+-- cycle passed, is what was to be answered at the start; the measure is how many points are left. Assumes nothing.
 use Prim.Native.Nat.{_-_}
 use mathlib.Core.Path.{_≡_, refl, _∙_, sym}
 use borrow.Author.Needs.{needs}

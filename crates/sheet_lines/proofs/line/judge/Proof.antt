@@ -1,4 +1,5 @@
--- `sheet_lines::line::judge` meets its contract: each return is a way out of `judge`, by the record that was read. Assumes nothing.
+-- `sheet_lines::line::judge` meets its contract: each return is a way out of `judge`, by the record that was read.
+-- Assumes nothing.
 use Rattle.sheet_lines.proofs.Lining.{judge-line, judge-case, judge-visit, judge-other}
 use borrow.Author.Needs.{needs}
 use Rattle.sheet_lines.proofs.line.judge.Statement.{statement}

@@ -1,4 +1,5 @@
--- `sheet_lines::line::judge_line` meets its contract: each return is a way out of `judgeRecord` at a line. Assumes nothing.
+-- `sheet_lines::line::judge_line` meets its contract: each return is a way out of `judgeRecord` at a line.
+-- Assumes nothing.
 use mathlib.Core.Path.{sym, _∙_}
 use borrow.Author.Tests.{not-true, not-false}
 use Rattle.sheet_lines.proofs.Lining.{line-misfit, line-struck, line-strikes, line-stops, line-marked, line-chain}

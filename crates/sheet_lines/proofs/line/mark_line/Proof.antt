@@ -1,5 +1,5 @@
--- `sheet_lines::line::mark_line` meets its contract: each return is a way out of `lineStep`, and only the one that strikes changes a mark.
--- Assumes nothing.
+-- `sheet_lines::line::mark_line` meets its contract: each return is a way out of `lineStep`, and only the one that
+-- strikes changes a mark. Assumes nothing.
 use Rattle.sheets.proofs.Looking.{above-all, not-above, entered}
 use Rattle.sheet_lines.proofs.Lining.{mark-over, mark-above, mark-low, mark-marked, mark-strikes, mark-stops}
 use borrow.Author.Needs.{needs}

@@ -1,5 +1,5 @@
--- `sheet_lines::line::mark_lines` meets its contract: the loop's invariant is `Proceeding`, and its measure the records left above the highest
--- entered. Assumes nothing.
+-- `sheet_lines::line::mark_lines` meets its contract: the loop's invariant is `Proceeding`, and its measure the records
+-- left above the highest entered. Assumes nothing.
 use Prim.Native.Nat.{_-_}
 use mathlib.Core.Path.{_≡_, refl, _∙_}
 use native.Mathlib.Omega.{arith}

@@ -1,4 +1,5 @@
--- `sheets::visits::next_visit` meets its contract: each return is a way out of `lookVisit`, by the record that was read. Assumes nothing.
+-- `sheets::visits::next_visit` meets its contract: each return is a way out of `lookVisit`, by the record that was
+-- read. Assumes nothing.
 use mathlib.Core.Path.{sym, _∙_}
 use native.Mathlib.Omega.{arith}
 use borrow.Author.Needs.{needs}

@@ -1,4 +1,5 @@
--- `sheets::visits::visit_all` meets its contract. The invariant of its loop is `Visiting`, and its measure the records left above the highest entered. Assumes nothing.
+-- `sheets::visits::visit_all` meets its contract. The invariant of its loop is `Visiting`, and its measure the records
+-- left above the highest entered. Assumes nothing.
 use Prim.Native.Nat.{_-_}
 use borrow.Author.Needs.{needs}
 use Rattle.endian.specs.Bytes.{whole16}

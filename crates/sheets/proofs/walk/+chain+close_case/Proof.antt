@@ -1,6 +1,6 @@
--- The proof of the cycle of calls {chain, close_case}. A case has the splits left of its chain, and the chain of its split has one less, so the
--- measures are 2·left + 1 for `chain` and 2·left for `close_case`. The invariant of the chain's loop is `Following`, and its measure the
--- records left above the highest entered. Assumes nothing.
+-- The proof of the cycle of calls {chain, close_case}. A case has the splits left of its chain, and the chain of its
+-- split has one less, so the measures are 2·left + 1 for `chain` and 2·left for `close_case`. The invariant of the
+-- chain's loop is `Following`, and its measure the records left above the highest entered. Assumes nothing.
 use mathlib.Core.Path.{refl}
 use Prim.Native.Nat.{ℕ, _+_, _-_, _*_, _<_}
 use native.Mathlib.Omega.{arith}

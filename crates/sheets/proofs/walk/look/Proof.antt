@@ -1,4 +1,5 @@
--- `sheets::walk::look` meets its contract: each return is a way out of `look`, by the record that was read. Assumes nothing.
+-- `sheets::walk::look` meets its contract: each return is a way out of `look`, by the record that was read.
+-- Assumes nothing.
 use mathlib.Core.Path.{sym}
 use native.Mathlib.Omega.{arith}
 use Rattle.argument.proofs.Steps.{looks-end, refuse-end, refuse-above, refuse-low}

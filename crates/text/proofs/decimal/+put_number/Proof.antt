@@ -1,5 +1,5 @@
--- The proof of the cycle of calls {put_number}: its measure is the number. What is promised stands first, so that a wrong digit is refused
--- there and not where room is asked for it. Assumes nothing.
+-- The proof of the cycle of calls {put_number}: its measure is the number. What is promised stands first, so that a
+-- wrong digit is refused there and not where room is asked for it. Assumes nothing.
 use mathlib.Core.Path.{_∙_}
 use native.Mathlib.Omega.{arith}
 use Rattle.text.proofs.Decimals.{digit-asked-last, wrote-last, tenth-room, digit-asked-more, wrote-more}

@@ -1,4 +1,5 @@
--- `lengths::distance::Rule::numbered` meets its contract: each return rewrites with the number that led there. Assumes nothing.
+-- `lengths::distance::Rule::numbered` meets its contract: each return rewrites with the number that led there.
+-- Assumes nothing.
 use borrow.Author.Tests.{ne-eqb}
 use Rattle.lengths.specs.Distance.{ruleOf}
 use Rattle.lengths.proofs.distance.Rule.numbered.Statement.{statement}

@@ -1,4 +1,5 @@
--- `lengths::instance::Instance::admit` meets its contract: each return rewrites with the tests that led there. Assumes nothing.
+-- `lengths::instance::Instance::admit` meets its contract: each return rewrites with the tests that led there.
+-- Assumes nothing.
 use borrow.Author.Tests.{lt-leb, le-leb}
 use Rattle.lengths.specs.Instance.{admission, inRange}
 use borrow.Author.Needs.{needs}

@@ -1,5 +1,5 @@
--- `sets::edge_set::EdgeSet::has` meets its contract. The invariant: whether ab is among the first i edges decides whether it is among all;
--- the measure is i. Assumes nothing.
+-- `sets::edge_set::EdgeSet::has` meets its contract. The invariant: whether ab is among the first i edges decides
+-- whether it is among all; the measure is i. Assumes nothing.
 use Prim.Native.Nat.{_≤_}
 use mathlib.Core.Path.{_≡_, refl, _∙_, sym}
 use borrow.Author.Needs.{needs}

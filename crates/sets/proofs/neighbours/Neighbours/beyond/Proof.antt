@@ -1,41 +1,19 @@
--- `sets::neighbours::Neighbours::beyond` meets its contract: each arm is a clause of `beyond`, and each test one of its comparisons.
--- Assumes nothing.
+-- `sets::neighbours::Neighbours::beyond` meets its contract: each arm is a clause of `beyond`, and each test one of
+-- its comparisons. Assumes nothing.
 use borrow.Author.Needs.{needs}
 use borrow.Author.Tests.{eq-eqb, ne-eqb}
 use Rattle.sets.specs.Neighbours.{beyond}
 use Rattle.sets.proofs.neighbours.Neighbours.beyond.Statement.{statement}
 use Rattle.sets.proofs.neighbours.Neighbours.beyond.Tie as tie
 
-returns : tie.Need-returns
-unfolding beyond
-returns c = rw (c .before .before .self .given .1, eq-eqb _ _ (c .if1 .taken))
-
-returns-2 : tie.Need-returns-2
-unfolding beyond
-returns-2 c = rw (c .before .before .self2 .given .1, eq-eqb _ _ (c .if2 .taken))
-
-returns-3 : tie.Need-returns-3
-unfolding beyond
-returns-3 c = rw (c .before .before .before .self2 .given .1, ne-eqb _ _ (c .before .if2 .left), eq-eqb _ _ (c .if3 .taken))
-
-returns-4 : tie.Need-returns-4
-unfolding beyond
-returns-4 c = rw (c .enum-told .given .1)
-
-returns-5 : tie.Need-returns-5
-unfolding beyond
-returns-5 c = simp (c .before .before .self .given .1, ne-eqb _ _ (c .if1 .left))
-
-returns-6 : tie.Need-returns-6
-unfolding beyond
-returns-6 c = rw (c .before .before .before .self2 .given .1, ne-eqb _ _ (c .before .if2 .left), ne-eqb _ _ (c .if3 .left))
-
-returns-7 : tie.Need-returns-7
-unfolding beyond
-returns-7 c = rw (c .enum-told2 .given .1)
-
 pub beyond-spec : {M : Type 1} → statement M
+unfolding beyond
 beyond-spec =
     tie.close
-    (tie.spec (λ c. search needs) (λ c. search needs) returns (λ c. search needs) returns-2 returns-3
-    (λ c. search needs) returns-4 returns-5 returns-6 returns-7)
+    (tie.spec (λ c. search needs) (λ c. search needs)
+    (λ c. rw (c .before .before .self .given .1, eq-eqb _ _ (c .if1 .taken))) (λ c. search needs)
+    (λ c. rw (c .before .before .self2 .given .1, eq-eqb _ _ (c .if2 .taken)))
+    (λ c. rw (c .before .before .before .self2 .given .1, ne-eqb _ _ (c .before .if2 .left), eq-eqb _ _ (c .if3 .taken)))
+    (λ c. search needs) (λ c. cc) (λ c. simp (c .before .before .self .given .1, ne-eqb _ _ (c .if1 .left)))
+    (λ c. rw (c .before .before .before .self2 .given .1, ne-eqb _ _ (c .before .if2 .left), ne-eqb _ _ (c .if3 .left)))
+    (λ c. cc))

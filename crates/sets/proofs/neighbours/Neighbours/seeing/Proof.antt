@@ -1,5 +1,5 @@
--- `sets::neighbours::Neighbours::seeing` meets its contract: its two tests are those of `seen`, and `with` takes the neighbour in.
--- Assumes nothing.
+-- `sets::neighbours::Neighbours::seeing` meets its contract: its two tests are those of `seen`, and `with` takes
+-- the neighbour in. Assumes nothing.
 use mathlib.Core.Path.{_∙_}
 use borrow.Author.Needs.{needs}
 use borrow.Author.Tests.{eq-eqb, ne-eqb}

@@ -1,4 +1,5 @@
--- `sheets::sheet::Record::from_numbers` meets its contract: each way out is `content` at its kind, u and v. Assumes nothing.
+-- `sheets::sheet::Record::from_numbers` meets its contract: each way out is `content` at its kind, u and v.
+-- Assumes nothing.
 use borrow.Author.Needs.{needs}
 use Rattle.sheets.proofs.Records.{exchange-content, other-u, other-v, line-content, split-content, other-kind}
 use Rattle.sheets.proofs.sheet.Record.from_numbers.Statement.{statement}

@@ -1,4 +1,5 @@
--- `sheets::sheet::Record::of_order` meets its contract: each way out is `content` at its kind and its fields. Assumes nothing.
+-- `sheets::sheet::Record::of_order` meets its contract: each way out is `content` at its kind and its fields.
+-- Assumes nothing.
 use Rattle.sheets.proofs.Records.{other-c, order-content, other-above, other-b, other-visit-u, other-visit-v, other-d, visit-content}
 use Rattle.sheets.proofs.sheet.Record.of_order.Statement.{statement}
 use Rattle.sheets.proofs.sheet.Record.of_order.Tie as tie

@@ -1,4 +1,5 @@
--- `sheets::sheet::Sheet::record` meets its contract: the eight numbers lie in the sheet, and what they mean is the record. Assumes nothing.
+-- `sheets::sheet::Sheet::record` meets its contract: the eight numbers lie in the sheet, and what they mean is the
+-- record. Assumes nothing.
 use mathlib.Core.Path.{_∙_}
 use native.Mathlib.Omega.{arith}
 use Rattle.sheets.proofs.Records.{record-inside, record-read}

@@ -1,4 +1,5 @@
--- Savings: one is above 0 exactly when the new sum is below the old; the smaller of two exactly when both are; the larger exactly when one is. Assumes nothing.
+-- Savings: one is above 0 exactly when the new sum is below the old; the smaller of two exactly when both are; the
+-- larger exactly when one is. Assumes nothing.
 use Prim.Native.Nat.{ℕ, zero, suc, _-_}
 use mathlib.Core.Path.{_≡_, refl, sym, _∙_}
 use mathlib.Core.Bool.{Bool, true, false, cond, _&&_, _||_}
@@ -7,7 +8,8 @@ use lib.Dec.{leb, ltb}
 use lib.IntN.{ℤ, pos, negsuc}
 use lib.Signed.{leZ, ltZ}
 use borrow.Author.Tests.{le-leb, lt-leb, lt-ltb, le-ltb, ltb-true, ltb-false}
-use Rattle.lists.specs.Saving.{saving, gains?, smaller, larger}
+use Rattle.lists.proofs.Bools.{or-swap}
+use Rattle.lengths.specs.Saving.{saving, gains?, smaller, larger}
 
 gains-pos : (k : ℕ) → gains? (pos k) ≡ ltb 0 k
 unfolding gains?
@@ -73,10 +75,4 @@ other-gains (negsuc m) (negsuc n) = by (leb n m)
 
 pub gains-larger : (a b : ℤ) → gains? (larger a b) ≡ gains? a || gains? b
 unfolding larger
-gains-larger a b = other-gains b a ∙ either (gains? b) (gains? a)
-  where
-    either : (s t : Bool) → s || t ≡ t || s
-    either true true = refl
-    either true false = refl
-    either false true = refl
-    either false false = refl
+gains-larger a b = other-gains b a ∙ or-swap (gains? b) (gains? a)

@@ -9,7 +9,7 @@ use lib.Dec.{T, leb→le, le→leb}
 use lib.IntN.{ℤ, pos, negsuc}
 use lib.Signed.{leZ, _≤ℤ_, leZ-yes, ≤ℤ-refl}
 use borrow.Author.Tests.{leb-false}
-use Rattle.lists.specs.Saving.{smaller, larger}
+use Rattle.lengths.specs.Saving.{smaller, larger}
 
 -- the order of savings
 trans-test : (a b c : ℤ) → T (leZ a b) → T (leZ b c) → T (leZ a c)
