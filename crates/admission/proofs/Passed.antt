@@ -10,15 +10,15 @@ use borrow.Author.Tests.{eq-eqb, eqb-true}
 use Rattle.lists.specs.Test.{allAtMost}
 use Rattle.lengths.specs.Edge.{edgeCount}
 use Rattle.lengths.specs.Instance.{inRange, leastPoints, mostPoints, admission, mostLength}
-use Rattle.lengths.specs.Table.{Lengths, Limits}
+use Rattle.lengths.specs.Table.{Lengths, Intervals}
 use Rattle.lengths.proofs.Instances.{Admits, admitted}
-use Rattle.lengths.proofs.Limits.{limit-each}
-use Rattle.lengths.proofs.Tables.{limits-same, limits-ordered}
+use Rattle.lengths.proofs.AtMostTests.{at-most-each}
+use Rattle.lengths.proofs.Tables.{intervals-same, intervals-ordered}
 use Rattle.marks.specs.Mark.{areMarks, nonePending}
 use Rattle.marks.specs.Packed.{wellPacked, marksOf}
 use Rattle.marks.proofs.PackedSets.{whole-well, some-edges}
 use Rattle.admission.specs.Tested.{firstFailing, markTests, pendingTests}
-use Rattle.admission.specs.Tests.{placeTests, tableTests, limitTests, testedTable, placesTested, tested, ready, testedLimits, testedBetween, readyBetween, untilMarks}
+use Rattle.admission.specs.Tests.{placeTests, tableTests, limitTests, testedTable, placesTested, tested, ready, testedIntervals, testedBetween, readyBetween, untilMarks}
 use Rattle.admission.specs.asks.Tests.{Listable}
 use Rattle.admission.specs.declared.tested.Tested.{Tested}
 use Rattle.admission.specs.declared.tested.Tested.the-variants.{Points}
@@ -37,7 +37,7 @@ lengths-of : {n m : ℕ} {t : List ℕ} → Admits n (record { points = m }) →
 lengths-of {n} {m} {t} a z s = record {
   few = omega (arith, a .points, a .most);
   whole = rw (a .points) (eqb-true (length t) (edgeCount n) z);
-  small = limit-each mostLength t s;
+  small = at-most-each mostLength t s;
 }
 
 -- the tests of a table pass one of n points, and answer n
@@ -91,35 +91,35 @@ pub record BetweenPassed (n : ℕ) (out put marks : List ℕ) (m : ℕ) : Type 0
 
 -- one table is both
 pub both-passed : {n : ℕ} {table marks : List ℕ} {m : ℕ} → InstancePassed n table marks m → BetweenPassed n table table marks m
-both-passed p = record { same = p .same; listable = record { least = p .least; limits = limits-same (p .lengths); marked = p .marked } }
+both-passed p = record { same = p .same; listable = record { least = p .least; intervals = intervals-same (p .lengths); marked = p .marked } }
 
 -- the tests of two tables pass those of n points that are limits of each length, and answer n
-pub record LimitsPassed (n : ℕ) (low high : List ℕ) (m : ℕ) : Type 0 where
+pub record IntervalsPassed (n : ℕ) (low high : List ℕ) (m : ℕ) : Type 0 where
   pub admits : Admits n (record { points = m })
-  pub limits : Limits m low high
+  pub intervals : Intervals m low high
 
-pub passed-limits : {n : ℕ} {low high : List ℕ} {m : ℕ} → testedLimits n low high ≡ Points m → LimitsPassed n low high m
-unfolding testedLimits
-passed-limits {n} {low} {high} h =
+pub passed-intervals : {n : ℕ} {low high : List ℕ} {m : ℕ} → testedIntervals n low high ≡ Points m → IntervalsPassed n low high m
+unfolding testedIntervals
+passed-intervals {n} {low} {high} h =
     let p = all-passed n (limitTests n low high) h in
     let a = admits-same (p .1 .0) (p .0) in
     let sizes = p .1 .1 in
     let lengths = sizes .1 .1 in
     record {
       admits = a;
-      limits = limits-ordered (lengths-of a (sizes .0) (lengths .0)) (lengths-of a (sizes .1 .0) (lengths .1 .0)) (lengths .1 .1 .0);
+      intervals = intervals-ordered (lengths-of a (sizes .0) (lengths .0)) (lengths-of a (sizes .1 .0) (lengths .1 .0)) (lengths .1 .1 .0);
     }
 
 pub passed-between : {n : ℕ} {low high marks : List ℕ} {m : ℕ} → testedBetween n low high marks ≡ Points m → BetweenPassed n low high marks m
 unfolding testedBetween
 passed-between {n} {low} {high} {marks} {m} h =
-    let u = until-passed (testedLimits n low high) (markTests marks) h in
-    let l : LimitsPassed n low high m = passed-limits (u .0) in
+    let u = until-passed (testedIntervals n low high) (markTests marks) h in
+    let l : IntervalsPassed n low high m = passed-intervals (u .0) in
     record {
       same = l .admits .points;
       listable = record {
         least = omega (arith, l .admits .least, l .admits .points);
-        limits = l .limits;
+        intervals = l .intervals;
         marked = eqb-true (length marks) (edgeCount m) (u .1 .0);
       };
     }

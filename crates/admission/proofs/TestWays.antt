@@ -17,9 +17,9 @@ use Rattle.marks.specs.Mark.{openMark, nonePending}
 use Rattle.marks.specs.Packed.{wellPacked, marksOf}
 use Rattle.marks.specs.asks.Packed.{SetWithin}
 use Rattle.marks.proofs.PackedSets.{marks-are, marks-none, marks-size, points-edges}
-use Rattle.marks.proofs.Settling.{within-held}
+use Rattle.marks.proofs.Resolving.{within-held}
 use Rattle.admission.specs.Tested.{Test, firstFailing, until, pointTests, sizeTests, lengthTests, orderTests, markTests, pendingTests}
-use Rattle.admission.specs.Tests.{placeTests, testedTable, tested, placesTested, testedLimits}
+use Rattle.admission.specs.Tests.{placeTests, testedTable, tested, placesTested, testedIntervals}
 use Rattle.admission.specs.asks.Tested.{InOrder, HasEdges, Packed}
 use Rattle.admission.specs.declared.tested.Tested.{Tested}
 use Rattle.admission.specs.declared.tested.Tested.the-variants.{Points, Refused}
@@ -103,6 +103,6 @@ module _ (n : ℕ) {first second : Tested} (points : first ≡ firstFailing n (p
           eqb-true (length low) (edgeCount n) (q .1 .0) ∙ sym (eqb-true (length high) (edgeCount n) (q .1 .1 .0));
     }
 
-    pub limits-told : {r : Tested} → r ≡ until fifth (orderTests low high) → r ≡ testedLimits n low high
-    unfolding testedLimits
-    limits-told h = continued n (lengthsOfBoth n low high) (orderTests low high) fifth-told h
+    pub intervals-told : {r : Tested} → r ≡ until fifth (orderTests low high) → r ≡ testedIntervals n low high
+    unfolding testedIntervals
+    intervals-told h = continued n (lengthsOfBoth n low high) (orderTests low high) fifth-told h

@@ -54,11 +54,11 @@ unfoldable pub ready : (n : ℕ) (table marks : List ℕ) → Tested
 ready n table marks = untilPending (tested n table marks) marks
 
 -- the same over two tables, low and high
-unfoldable pub testedLimits : (n : ℕ) (low high : List ℕ) → Tested
-testedLimits n low high = firstFailing n (limitTests n low high)
+unfoldable pub testedIntervals : (n : ℕ) (low high : List ℕ) → Tested
+testedIntervals n low high = firstFailing n (limitTests n low high)
 
 unfoldable pub testedBetween : (n : ℕ) (low high marks : List ℕ) → Tested
-testedBetween n low high marks = untilMarks (testedLimits n low high) marks
+testedBetween n low high marks = untilMarks (testedIntervals n low high) marks
 
 unfoldable pub readyBetween : (n : ℕ) (low high marks : List ℕ) → Tested
 readyBetween n low high marks = untilPending (testedBetween n low high marks) marks

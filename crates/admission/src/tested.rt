@@ -1,10 +1,10 @@
 // What the tests of a call answer, and each test behind those that stand before it.
 use endian::bytes::count32;
+use lengths::at_most::all_at_most;
+use lengths::at_most::each_at_most;
 use lengths::edge;
 use lengths::instance::Admission;
 use lengths::instance::Instance;
-use lengths::limit::all_at_most;
-use lengths::limit::each_at_most;
 use lengths::refusal;
 use marks::mark;
 use marks::packed::marks_within;

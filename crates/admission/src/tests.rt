@@ -10,7 +10,7 @@ ghost use mathlib.Core.Path.{_≡_};
 ghost use lib.ListN.{length};
 ghost use Rattle.endian.specs.Bytes.{whole32};
 ghost use Rattle.marks.specs.Packed.{marksOf};
-ghost use Rattle.admission.specs.Tests.{testedTable, placesTested, tested, ready, testedLimits, testedBetween, readyBetween};
+ghost use Rattle.admission.specs.Tests.{testedTable, placesTested, tested, ready, testedIntervals, testedBetween, readyBetween};
 
 // 1, 2 and 5: the number of points, the table's size and its lengths.
 pub fn test_table(n: u32, table: &[u8]) -> Tested
@@ -47,8 +47,8 @@ pub fn test_ready(n: u32, table: &[u8], marks: &[u8]) -> Tested
 }
 
 // 1, 2, 5 and 25, over two tables: each table's size, then its lengths, and no low length above its high one.
-pub fn test_limits(n: u32, low: &[u8], high: &[u8]) -> Tested
-    ensures { λ r. ⌜ r ≡ testedLimits n (whole32 (now (low .entry))) (whole32 (now (high .entry))) ⌝ }
+pub fn test_intervals(n: u32, low: &[u8], high: &[u8]) -> Tested
+    ensures { λ r. ⌜ r ≡ testedIntervals n (whole32 (now (low .entry))) (whole32 (now (high .entry))) ⌝ }
 {
     let points = test_points(n);
     let low_sized = test_size(points, low);
@@ -63,8 +63,8 @@ pub fn test_between(n: u32, low: &[u8], high: &[u8], marks: &[u8]) -> Tested
     ensures { λ r. ⌜ r ≡ testedBetween n (whole32 (now (low .entry))) (whole32 (now (high .entry)))
         (marksOf n (now (marks .entry))) ⌝ }
 {
-    let limited = test_limits(n, low, high);
-    test_marks(limited, marks)
+    let measured = test_intervals(n, low, high);
+    test_marks(measured, marks)
 }
 
 // 1, 2, 5, 25, 6 and 20, over two tables.

@@ -8,15 +8,15 @@ use mathlib.Core.List.{List, [], _∷_}
 use lib.Dec.{eqb, ltb}
 use Rattle.lengths.specs.Edge.{Edge, edge}
 use Rattle.argument.specs.Verdict.{Verdict, accepted, refused, guard, andThen}
-use Rattle.argument.specs.Record.{How, splits, threeOpts, reorders, Record, line, case, visit, other, records, recordAt, fits}
+use Rattle.argument.specs.Record.{CaseClosing, splits, threeOpts, reorders, Record, line, case, visit, other, records, recordAt, fits}
 use Rattle.argument.specs.Rules.{Rules, listedBy, NamesFeasible, Reached, single, Lawful}
-use Rattle.argument.specs.Argument.{splitLimit}
-use Rattle.argument.specs.Walk.{Spot, Step, ends, takes, entering, readCase, look, opening, behind, close, act, follow, walkBy, walk}
+use Rattle.argument.specs.Argument.{mostSplits}
+use Rattle.argument.specs.Walk.{Spot, ChainStep, ends, takes, entering, readCase, look, opening, behind, close, act, follow, walkBy, walk}
 use Rattle.argument.specs.Line.{Struck, strikes, judgeRecord, judge}
 use Rattle.argument.specs.Sheet.{Marking, markingListed, Place, LineStep, over, onward, struck, lineStep, Result, answer, proceed, linesBy, linesFrom, start, sheet}
 use Rattle.argument.proofs.Verdicts.{guard-agree, andThen-agree}
-use Rattle.argument.proofs.Tests.{HowFits, Fits, fits-means}
-use Rattle.argument.proofs.Steps.{LookSays, looked}
+use Rattle.argument.proofs.Tests.{ClosingFits, Fits, fits-means}
+use Rattle.argument.proofs.ChainSteps.{LookSays, looked}
 use Rattle.argument.proofs.Sound.{SoundSpot, sound-opening, reached-case, sound-behind}
 use Rattle.argument.proofs.Complete.{named-list}
 
@@ -42,10 +42,10 @@ module _ (R : Rules) (law : Lawful R) (list : List Edge → ℕ → List Edge) (
     where
       by : (b : Bool) → eqb (q .index) 0 ≡ b → look (listedBy R list) s q ≡ look R s q
       by true e = rw (look, e) refl
-      by false e = rw (look, e) (ap (λ (v : Verdict Step). entering s (q .last) (q .high) (q .index) λ _. v) (read-same q (recordAt s (q .index))))
+      by false e = rw (look, e) (ap (λ (v : Verdict ChainStep). entering s (q .last) (q .high) (q .index) λ _. v) (read-same q (recordAt s (q .index))))
 
   module _ (go′ go : Spot → Verdict ℕ) (same : (q : Spot) → SoundSpot R q → go′ q ≡ go q) where
-    close-same : (left : ℕ) (K : List Edge) (i : ℕ) (how : How) → Reached R K → HowFits (R .n) how → close (listedBy R list) s go′ left K i how ≡ close R s go left K i how
+    close-same : (left : ℕ) (K : List Edge) (i : ℕ) (how : CaseClosing) → Reached R K → ClosingFits (R .n) how → close (listedBy R list) s go′ left K i how ≡ close R s go left K i how
     unfolding close
     close-same left K i (splits c first) reached fit =
         ap (λ (v : Verdict ℕ). guard (ltb 0 left) 13 i λ _. v)
@@ -56,12 +56,12 @@ module _ (R : Rules) (law : Lawful R) (list : List Edge → ℕ → List Edge) (
     follow-same : (q : Spot) → SoundSpot R q → follow (listedBy R list) s go′ q ≡ follow R s go q
     unfolding follow act
     follow-same q st =
-        ap (λ (v : Verdict Step). andThen v (act (listedBy R list) s go′ q)) (look-same q) ∙ andThen-agree _ _ _ (λ step e. by step (looked R s q step e))
+        ap (λ (v : Verdict ChainStep). andThen v (act (listedBy R list) s go′ q)) (look-same q) ∙ andThen-agree _ _ _ (λ step e. by step (looked R s q step e))
       where
-        by : (step : Step) → LookSays R s q step → act (listedBy R list) s go′ q step ≡ act R s go q step
+        by : (step : ChainStep) → LookSays R s q step → act (listedBy R list) s go′ q step ≡ act R s go q step
         by ends l = refl
         by (takes a b how next) l =
-            ap (λ (v : Verdict ℕ). andThen v λ high. go′ (behind q next high)) (close-same _ _ _ how (reached-case R law q st a b (l .named)) (l .fit .how-fits))
+            ap (λ (v : Verdict ℕ). andThen v λ high. go′ (behind q next high)) (close-same _ _ _ how (reached-case R law q st a b (l .named)) (l .fit .closing-fits))
             ∙ andThen-agree _ _ _ (λ high e. same (behind q next high) (sound-behind R law q st a b (l .named) next high))
 
   walkBy-same : (fuel : ℕ) (q : Spot) → SoundSpot R q → walkBy (listedBy R list) s fuel q ≡ walkBy R s fuel q
@@ -84,7 +84,7 @@ module _ (R : Rules) (law : Lawful R) (list : List Edge → ℕ → List Edge) (
           guard-agree (fits (R .n) a b (splits c first)) 11 i _ _ (λ e.
           let f : Fits (R .n) a b (splits c first) = fits-means (R .n) a b (splits c first) e in
           ap (λ (v : Verdict ℕ). guard (open? a b) 12 i λ _. andThen v λ high. accepted (strikes a b next high))
-          (close-same (walk (listedBy R list) s) (walk R s) walk-same splitLimit (edge a b ∷ []) i (splits c first) (single (f .point-a) (f .point-b) (f .apart)) (f .how-fits)))
+          (close-same (walk (listedBy R list) s) (walk R s) walk-same mostSplits (edge a b ∷ []) i (splits c first) (single (f .point-a) (f .point-b) (f .apart)) (f .closing-fits)))
       by (case a b how next) = refl
       by (visit v next) = refl
       by other = refl

@@ -9,9 +9,9 @@ use borrow.Author.Tests.{lt-ltb, le-ltb}
 use Rattle.lengths.specs.Edge.{Edge, edge, Point}
 use Rattle.sets.specs.EdgeSet.{withPair}
 use Rattle.argument.specs.Verdict.{Verdict, accepted, refused, refusedBy, andThen}
-use Rattle.argument.specs.Record.{How, splits, threeOpts, reorders, Record, line, case, visit, other, recordAt}
+use Rattle.argument.specs.Record.{CaseClosing, splits, threeOpts, reorders, Record, line, case, visit, other, recordAt}
 use Rattle.argument.specs.Rules.{Rules}
-use Rattle.argument.specs.Argument.{splitLimit}
+use Rattle.argument.specs.Argument.{mostSplits}
 use Rattle.argument.specs.Walk.{Spot, ends, takes, look, opening, behind, Visited, visited, closeByOrder, close, act, follow, walk}
 use Rattle.argument.specs.Line.{Struck, strikes, judgeRecord, judge, LineAt}
 use Rattle.argument.proofs.Verdicts.{refused-accepted, accepted-inj, guard-passed, pass-guard, fail-guard, andThen-passed, pass-andThen, stop-andThen}
@@ -30,7 +30,7 @@ module _ (R : Rules) (s : List ℕ) where
     unfolding follow
     walk-stops m r e = walk-follows R s q ∙ stop-andThen _ (act R s (walk R s) q) m r e
 
-    module _ (a b : ℕ) (how : How) (next : ℕ) (e : look R s q ≡ accepted (takes a b how next)) where
+    module _ (a b : ℕ) (how : CaseClosing) (next : ℕ) (e : look R s q ≡ accepted (takes a b how next)) where
       -- a case is closed, and the chain goes on behind it
       pub walk-takes : walk R s q ≡ andThen (close R s (walk R s) (q .left) (withPair (q .known) (q .point) a b) (q .index) how) λ high. walk R s (behind q next high)
       unfolding follow act
@@ -82,7 +82,7 @@ pub record JudgeSays (R : Rules) (open? : ℕ → ℕ → Bool) (s : List ℕ) (
   pub first : ℕ
   pub at-line : LineAt R open? s i a b c first next
   pub point-c : Point (R .n) c
-  pub walked : walk R s (opening R splitLimit (edge a b ∷ []) i c first) ≡ accepted high
+  pub walked : walk R s (opening R mostSplits (edge a b ∷ []) i c first) ≡ accepted high
 
 abbrev JudgeSaysOf : Rules → (ℕ → ℕ → Bool) → List ℕ → ℕ → Struck → Type 0
 JudgeSaysOf R open? s i (strikes a b next high) = JudgeSays R open? s i a b next high
@@ -100,8 +100,8 @@ module _ (R : Rules) (open? : ℕ → ℕ → Bool) (s : List ℕ) (i : ℕ) whe
         c = c;
         first = first;
         at-line = record { reads = e; point-a = fit .point-a; point-b = fit .point-b; apart = fit .apart; is-open = o .0 };
-        point-c = fit .how-fits;
-        walked = sym (close-splits R s splitLimit (edge a b ∷ []) i c first (omega arith)) ∙ v .1;
+        point-c = fit .closing-fits;
+        walked = sym (close-splits R s mostSplits (edge a b ∷ []) i c first (omega arith)) ∙ v .1;
       } in
       subst (JudgeSaysOf R open? s i) (accepted-inj (v .2)) l
   record-judged (case a b how next) e x z = absurd (refused-accepted z)
@@ -113,8 +113,8 @@ module _ (R : Rules) (open? : ℕ → ℕ → Bool) (s : List ℕ) (i : ℕ) whe
   judged a b next high e = record-judged (recordAt s i) refl (strikes a b next high) e
 
   -- a line with its edge open and its split at a point has its chain's verdict
-  pub judge-walks : (a b c first next : ℕ) → LineAt R open? s i a b c first next → Point (R .n) c → judge R open? s i ≡ andThen (walk R s (opening R splitLimit (edge a b ∷ []) i c first)) λ high. accepted (strikes a b next high)
+  pub judge-walks : (a b c first next : ℕ) → LineAt R open? s i a b c first next → Point (R .n) c → judge R open? s i ≡ andThen (walk R s (opening R mostSplits (edge a b ∷ []) i c first)) λ high. accepted (strikes a b next high)
   unfolding judge judgeRecord
   judge-walks a b c first next at pc =
-      let fit : Fits (R .n) a b (splits c first) = record { point-a = at .point-a; point-b = at .point-b; apart = at .apart; how-fits = pc } in
-      ap (judgeRecord R open? s i) (at .reads) ∙ pass-guard _ 11 i _ (means-fits fit) ∙ pass-guard _ 12 i _ (at .is-open) ∙ ap (λ (v : Verdict ℕ). andThen v (λ high. accepted (strikes a b next high))) (close-splits R s splitLimit (edge a b ∷ []) i c first (omega arith))
+      let fit : Fits (R .n) a b (splits c first) = record { point-a = at .point-a; point-b = at .point-b; apart = at .apart; closing-fits = pc } in
+      ap (judgeRecord R open? s i) (at .reads) ∙ pass-guard _ 11 i _ (means-fits fit) ∙ pass-guard _ 12 i _ (at .is-open) ∙ ap (λ (v : Verdict ℕ). andThen v (λ high. accepted (strikes a b next high))) (close-splits R s mostSplits (edge a b ∷ []) i c first (omega arith))

@@ -6,11 +6,11 @@ use mathlib.Core.List.{List, []}
 use native.Mathlib.Omega.{arith}
 use Rattle.lengths.specs.Edge.{Edge}
 use Rattle.argument.specs.Verdict.{Verdict, accepted, andThen}
-use Rattle.argument.specs.Record.{How, splits, threeOpts, reorders, records}
+use Rattle.argument.specs.Record.{CaseClosing, splits, threeOpts, reorders, records}
 use Rattle.argument.specs.Rules.{Rules}
-use Rattle.argument.specs.Walk.{Spot, Step, ends, takes, opening, behind, closeByOrder, close, act, follow, walkBy, walk}
+use Rattle.argument.specs.Walk.{Spot, ChainStep, ends, takes, opening, behind, closeByOrder, close, act, follow, walkBy, walk}
 use Rattle.argument.proofs.Verdicts.{refused-accepted, accepted-inj, guard-passed, refusedBy-passed, andThen-passed, andThen-agree}
-use Rattle.argument.proofs.Steps.{LookSays, looked}
+use Rattle.argument.proofs.ChainSteps.{LookSays, looked}
 use Rattle.argument.proofs.Visits.{visited-says, visits-rise}
 
 -- an accepted chain ends no lower than it began
@@ -22,7 +22,7 @@ abbrev Agree : (go go′ : Spot → Verdict ℕ) → ℕ → Type 0
 Agree go go′ i = (q : Spot) → i ≤ q .high → go q ≡ go′ q
 
 module _ (R : Rules) (s : List ℕ) where
-  pub close-rises : (go : Spot → Verdict ℕ) → Rises go → (left : ℕ) (K : List Edge) (i : ℕ) (how : How) (h : ℕ) → close R s go left K i how ≡ accepted h → i ≤ h
+  pub close-rises : (go : Spot → Verdict ℕ) → Rises go → (left : ℕ) (K : List Edge) (i : ℕ) (how : CaseClosing) (h : ℕ) → close R s go left K i how ≡ accepted h → i ≤ h
   unfolding close closeByOrder opening
   close-rises go rises left K i (splits c first) h e = rises _ h (guard-passed _ _ _ _ h e .1)
   close-rises go rises left K i (threeOpts p q r u) h e = let z = refusedBy-passed _ _ _ h e .1 in omega arith
@@ -37,7 +37,7 @@ module _ (R : Rules) (s : List ℕ) where
       let v = andThen-passed _ _ h e in
       by (v .0) (looked R s q (v .0) (v .1)) (v .2)
     where
-      by : (step : Step) → LookSays R s q step → act R s go q step ≡ accepted h → q .high ≤ h
+      by : (step : ChainStep) → LookSays R s q step → act R s go q step ≡ accepted h → q .high ≤ h
       by ends l z = let k = accepted-inj z in omega arith
       by (takes a b how next) l z =
           let v = andThen-passed _ _ h z in
@@ -51,7 +51,7 @@ module _ (R : Rules) (s : List ℕ) where
   walk-rises (suc fuel) q h e = follow-rises (walkBy R s fuel) (walk-rises fuel) q h e
 
   module _ (go go′ : Spot → Verdict ℕ) (rises : Rises go) where
-    close-agree : (left : ℕ) (K : List Edge) (i : ℕ) (how : How) → Agree go go′ i → close R s go left K i how ≡ close R s go′ left K i how
+    close-agree : (left : ℕ) (K : List Edge) (i : ℕ) (how : CaseClosing) → Agree go go′ i → close R s go left K i how ≡ close R s go′ left K i how
     unfolding close opening
     close-agree left K i (splits c first) same = rw (same (opening R left K i c first) (omega arith))
     close-agree left K i (threeOpts p q r u) same = refl
@@ -61,7 +61,7 @@ module _ (R : Rules) (s : List ℕ) where
     unfolding follow act behind
     follow-agree q same = andThen-agree _ _ _ (λ step e. by step (looked R s q step e))
       where
-        by : (step : Step) → LookSays R s q step → act R s go q step ≡ act R s go′ q step
+        by : (step : ChainStep) → LookSays R s q step → act R s go q step ≡ act R s go′ q step
         by ends l = refl
         by (takes a b how next) l =
             let same′ = same (l .entered .above) (l .entered .inside) in

@@ -1,7 +1,7 @@
 pub mod Verdicts
 pub mod Tests
 pub mod Records
-pub mod Steps
+pub mod ChainSteps
 pub mod Visits
 pub mod Fuel
 pub mod Equations

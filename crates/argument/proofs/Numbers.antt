@@ -11,16 +11,16 @@ use lib.Dec.{eqb}
 use borrow.Author.Tests.{eqb-true, eqb-false, leb-true, ltb-true}
 use Rattle.lengths.specs.Edge.{Edge, edge}
 use Rattle.argument.specs.Verdict.{Verdict, accepted, refused, andThen}
-use Rattle.argument.specs.Record.{How, splits, threeOpts, reorders, Record, line, case, visit, other, records, Readable, recordAt}
+use Rattle.argument.specs.Record.{CaseClosing, splits, threeOpts, reorders, Record, line, case, visit, other, records, Readable, recordAt}
 use Rattle.argument.specs.Rules.{Rules, Lawful}
-use Rattle.argument.specs.Argument.{splitLimit}
+use Rattle.argument.specs.Argument.{mostSplits}
 use Rattle.argument.specs.Layout.{Enters}
-use Rattle.argument.specs.Walk.{Spot, Step, ends, takes, entering, readCase, look, opening, behind, VisitStep, visitEnds, names, readVisit, lookVisit, actVisit, visitOn, visitBy, visited, closeByOrder, close, act, follow, walkBy, walk}
+use Rattle.argument.specs.Walk.{Spot, ChainStep, ends, takes, entering, readCase, look, opening, behind, VisitStep, visitEnds, names, readVisit, lookVisit, actVisit, visitOn, visitBy, visited, closeByOrder, close, act, follow, walkBy, walk}
 use Rattle.argument.specs.Line.{Struck, strikes, judgeRecord, judge}
 use Rattle.argument.specs.Sheet.{Marking, Place, struck, start, Result}
 use Rattle.argument.specs.Answers.{CompleteLines, Stops, ended, above, not-above, incomplete, Answers, RefusedAt}
 use Rattle.argument.proofs.Verdicts.{refused-accepted, refused-inj, guard-refused, refusedBy-refused, andThen-refused}
-use Rattle.argument.proofs.Steps.{LookSays, looked, look-end, look-on}
+use Rattle.argument.proofs.ChainSteps.{LookSays, looked, look-end, look-on}
 use Rattle.argument.proofs.Visits.{visit-ends, visit-on, visit-named}
 use Rattle.argument.proofs.Fuel.{close-rises, walk-rises}
 
@@ -95,7 +95,7 @@ module _ (s : List ℕ) where
             (guard-refused _ _ _ _ m r (sym (look-end R s q (eqb-true (q .index) 0 z)) ∙ e))
         by false z = entering-told _ _ _ _ m r named (λ h. read-told q _ m r (entered h)) (sym (look-on R s q (eqb-false (q .index) 0 z)) ∙ e)
 
-    close-told : (go : Spot → Verdict ℕ) (left : ℕ) (K : List Edge) (i : ℕ) (how : How) (m r : ℕ) → Readable s i →
+    close-told : (go : Spot → Verdict ℕ) (left : ℕ) (K : List Edge) (i : ℕ) (how : CaseClosing) (m r : ℕ) → Readable s i →
         ((q : Spot) → i ≤ q .high → Readable s (q .last) → go q ≡ refused m r → RefusedAt s m r) → close R s go left K i how ≡ refused m r → RefusedAt s m r
     unfolding close closeByOrder opening
     close-told go left K i (splits c first) m r named f e =
@@ -118,7 +118,7 @@ module _ (s : List ℕ) where
     walkBy-told (suc fuel) q m r h l named e =
         ⊎-elim (look-told q m r named) (λ v. by (v .0) (looked R s q (v .0) (v .1)) (v .2) (λ q′ h′ l′. walkBy-told fuel q′ m r h′ l′)) (andThen-refused _ _ m r e)
       where
-        by : (step : Step) → LookSays R s q step → act R s (walkBy R s fuel) q step ≡ refused m r →
+        by : (step : ChainStep) → LookSays R s q step → act R s (walkBy R s fuel) q step ≡ refused m r →
             ((q′ : Spot) → 1 ≤ fuel → records s < fuel + q′ .high → Readable s (q′ .last) → walkBy R s fuel q′ ≡ refused m r → RefusedAt s m r) → RefusedAt s m r
         by ends k z ih = absurd (refused-accepted (sym z))
         by (takes a b how next) k z ih =
@@ -139,9 +139,9 @@ module _ (s : List ℕ) where
         (λ z. ⊎-elim (tested 12 i m r (omega arith) (omega arith) named) (λ y. inside (y .1)) (guard-refused _ _ _ _ m r (z .1)))
         (guard-refused _ _ _ _ m r e)
       where
-        inside : andThen (close R s (walk R s) splitLimit (edge a b ∷ []) i (splits c first)) (λ high. accepted (strikes a b next high)) ≡ refused m r → RefusedAt s m r
+        inside : andThen (close R s (walk R s) mostSplits (edge a b ∷ []) i (splits c first)) (λ high. accepted (strikes a b next high)) ≡ refused m r → RefusedAt s m r
         inside z =
-            ⊎-elim (close-told (walk R s) splitLimit (edge a b ∷ []) i (splits c first) m r named (λ q le. walk-told q m r))
+            ⊎-elim (close-told (walk R s) mostSplits (edge a b ∷ []) i (splits c first) m r named (λ q le. walk-told q m r))
             (λ v. absurd (refused-accepted (sym (v .2)))) (andThen-refused _ _ m r z)
     record-told open? i (case a b how next) m r named e = tested 10 i m r (omega arith) (omega arith) named (refused-inj e)
     record-told open? i (visit v next) m r named e = tested 10 i m r (omega arith) (omega arith) named (refused-inj e)

@@ -11,7 +11,7 @@ use Rattle.lengths.specs.Edge.{Edge, edge}
 use Rattle.sets.specs.EdgeSet.{withPair}
 use Rattle.sets.specs.Rising.{Among}
 use Rattle.argument.specs.Verdict.{accepted}
-use Rattle.argument.specs.Record.{How, splits, threeOpts, reorders, Record, line, case, visit, other, Readable, field, bare, content, recordAt}
+use Rattle.argument.specs.Record.{CaseClosing, splits, threeOpts, reorders, Record, line, case, visit, other, Readable, field, bare, content, recordAt}
 use Rattle.argument.specs.Layout.{Laid, Holds}
 use Rattle.argument.specs.Rules.{Rules, Lawful}
 use Rattle.argument.specs.Argument.{Cases, none, pair, Closing, split, threeOpt, reorder, names, Complete, AllComplete, CompleteArgument}
@@ -48,11 +48,11 @@ module _ (s : List ℕ) where
     laid-orders (pair x y t rest) high i after l (inl o) = holds-order t x y (l .0) (l .1) i (l .2) (record { low = omega (arith, l .3); high = l .3 .inside }) (l .4) (l .5) o
     laid-orders (pair x y t rest) high i after l (inr o) = laid-orders rest (l .2) (l .1) after (l .6) o
 
-    holds-order : (t : Closing) (x y : ℕ) (how : How) (next i after : ℕ) → Readable s i → recordAt s i ≡ case x y how next → Holds s i how t after → OrderIn t → HasOrder s
+    holds-order : (t : Closing) (x y : ℕ) (how : CaseClosing) (next i after : ℕ) → Readable s i → recordAt s i ≡ case x y how next → Holds s i how t after → OrderIn t → HasOrder s
     holds-order (split c cs) x y how next i after named reads ho o = laid-orders cs i (ho .0) after (ho .2) o
     holds-order (threeOpt p q r u) x y how next i after named reads ho o = absurd o
     holds-order (reorder u v vs) x y how next i after named reads ho o =
-        record { i = i; readable = named; kind = order-kind (field s i 0) _ _ _ _ _ _ _ (reads ∙ ap (λ (h : How). case x y h next) (ho .1)) }
+        record { i = i; readable = named; kind = order-kind (field s i 0) _ _ _ _ _ _ _ (reads ∙ ap (λ (h : CaseClosing). case x y h next) (ho .1)) }
 
 module _ (R : Rules) (Good : List Edge → Type 0) (Orders : Type 0) (up : Upheld R Good Orders) where
   -- A complete closing rules out K, if new orders in it may occur. Take the case of the tour's own pair, which is
@@ -65,7 +65,7 @@ module _ (R : Rules) (Good : List Edge → Type 0) (Orders : Type 0) (up : Uphel
     complete-safe (split c cs) K may cl g =
         let k = up .keeps K c g (cl .0) in
         cases-safe cs K c may (cl .2) (k .0) (k .1) (cl .1 .exactly (k .0) (k .1) .1 (k .2)) (k .3)
-    complete-safe (threeOpt p q r s) K may cl g = up .unsettled K p q r s g cl
+    complete-safe (threeOpt p q r s) K may cl g = up .unclosed K p q r s g cl
     complete-safe (reorder u v vs) K may cl g = up .unordered (may tt) K u v vs g cl
 
     cases-safe : (cs : Cases) (K : List Edge) (c : ℕ) → (OrdersIn cs → Orders) → AllComplete R K c cs → (x y : ℕ) → Among (names cs) x y → Good (withPair K c x y) → ⊥

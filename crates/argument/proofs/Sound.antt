@@ -10,14 +10,14 @@ use Rattle.lengths.specs.Edge.{Edge, edge, Point}
 use Rattle.sets.specs.EdgeSet.{withPair}
 use Rattle.sets.specs.Rising.{Among}
 use Rattle.argument.specs.Verdict.{Verdict, accepted}
-use Rattle.argument.specs.Record.{How, splits, threeOpts, reorders, records}
+use Rattle.argument.specs.Record.{CaseClosing, splits, threeOpts, reorders, records}
 use Rattle.argument.specs.Rules.{Rules, NamesFeasible, Reached, grown, Lawful}
 use Rattle.argument.specs.Argument.{Cases, none, pair, Closing, split, threeOpt, reorder, names, depth, depths, Complete, AllComplete}
 use Rattle.argument.specs.Layout.{Laid, Visits, Holds}
-use Rattle.argument.specs.Walk.{Spot, Step, ends, takes, rest, opening, behind, closeByOrder, close, act, follow, walkBy, walk}
+use Rattle.argument.specs.Walk.{Spot, ChainStep, ends, takes, rest, opening, behind, closeByOrder, close, act, follow, walkBy, walk}
 use Rattle.argument.proofs.Verdicts.{refused-accepted, accepted-inj, guard-passed, refusedBy-passed, andThen-passed}
-use Rattle.argument.proofs.Tests.{HowFits}
-use Rattle.argument.proofs.Steps.{LookSays, looked}
+use Rattle.argument.proofs.Tests.{ClosingFits}
+use Rattle.argument.proofs.ChainSteps.{LookSays, looked}
 use Rattle.argument.proofs.Visits.{visited-says}
 
 -- a walk stands rightly at q: its K is one that an argument comes to, its point is one of 1 to n, and the pairs
@@ -35,7 +35,7 @@ pub record ChainAt (R : Rules) (s : List ℕ) (q : Spot) (cs : Cases) (h : ℕ) 
   pub shallow : depths cs ≤ q .left
 
 -- a closing, complete under K, at most `left` splits deep, held by record i and laid out up to record h
-pub record ClosingAt (R : Rules) (s : List ℕ) (left : ℕ) (K : List Edge) (i : ℕ) (how : How) (t : Closing) (h : ℕ) : Type 0 where
+pub record ClosingAt (R : Rules) (s : List ℕ) (left : ℕ) (K : List Edge) (i : ℕ) (how : CaseClosing) (t : Closing) (h : ℕ) : Type 0 where
   pub holds : Holds s i how t h
   pub complete : Complete R K t
   pub shallow : depth t ≤ left
@@ -62,7 +62,7 @@ module _ (R : Rules) (law : Lawful R) where
         record { reached = st .reached; centre = st .centre; feasible = λ x y m. st .feasible x y (subst (λ (es : List Edge). Among es x y) (sym named) (List·Memᴰ·tail m)) }
 
 module _ (R : Rules) (law : Lawful R) (s : List ℕ) where
-  pub close-sound : (go : Spot → Verdict ℕ) → SoundChains R s go → (left : ℕ) (K : List Edge) (i : ℕ) (how : How) (h : ℕ) → Reached R K → HowFits (R .n) how → close R s go left K i how ≡ accepted h → (t : Closing) × ClosingAt R s left K i how t h
+  pub close-sound : (go : Spot → Verdict ℕ) → SoundChains R s go → (left : ℕ) (K : List Edge) (i : ℕ) (how : CaseClosing) (h : ℕ) → Reached R K → ClosingFits (R .n) how → close R s go left K i how ≡ accepted h → (t : Closing) × ClosingAt R s left K i how t h
   unfolding close closeByOrder opening Holds Complete depth
   close-sound go sound left K i (splits c first) h reached fit e =
       let g = guard-passed _ _ _ _ h e in
@@ -72,7 +72,7 @@ module _ (R : Rules) (law : Lawful R) (s : List ℕ) where
       (split c (f .0), record { holds = (first, refl, ch .laid); complete = (fit, subst (NamesFeasible R K c) (sym (ch .named)) (law .listed K c reached), ch .complete); shallow = omega (arith, ch .shallow) })
   close-sound go sound left K i (threeOpts p q r u) h reached fit e =
       let g = refusedBy-passed _ _ _ h e in
-      (threeOpt p q r u, record { holds = (refl, sym (g .1)); complete = law .settled K p q r u (g .0); shallow = omega arith })
+      (threeOpt p q r u, record { holds = (refl, sym (g .1)); complete = law .closed K p q r u (g .0); shallow = omega arith })
   close-sound go sound left K i (reorders u v first) h reached fit e =
       let g = guard-passed _ _ _ _ h e in
       let w = andThen-passed _ _ h (g .1) in
@@ -87,11 +87,11 @@ module _ (R : Rules) (law : Lawful R) (s : List ℕ) where
       let v = andThen-passed _ _ h e in
       by (v .0) (looked R s q (v .0) (v .1)) (v .2)
     where
-      by : (step : Step) → LookSays R s q step → act R s go q step ≡ accepted h → (cs : Cases) × ChainAt R s q cs h
+      by : (step : ChainStep) → LookSays R s q step → act R s go q step ≡ accepted h → (cs : Cases) × ChainAt R s q cs h
       by ends l z = (none, record { laid = (l .0, sym (accepted-inj z)); named = sym (l .1); complete = tt; shallow = omega arith })
       by (takes a b how next) l z =
           let v = andThen-passed _ _ h z in
-          let t = close-sound go sound _ _ _ how _ (reached-case R law q st a b (l .named)) (l .fit .how-fits) (v .1) in
+          let t = close-sound go sound _ _ _ how _ (reached-case R law q st a b (l .named)) (l .fit .closing-fits) (v .1) in
           let f = sound _ h (sound-behind R law q st a b (l .named) next (v .0)) (v .2) in
           let T = t .1 in
           let F = f .1 in

@@ -8,51 +8,51 @@ use Rattle.lengths.specs.Edge.{Edge, edge, Point}
 use Rattle.lengths.proofs.Instances.{is-point, point-is}
 use Rattle.lists.proofs.Bools.{and-both, and-true}
 use Rattle.argument.specs.Verdict.{Verdict, accepted, refused}
-use Rattle.argument.specs.Record.{How, splits, threeOpts, reorders, records, howFits, fits}
+use Rattle.argument.specs.Record.{CaseClosing, splits, threeOpts, reorders, records, closingFits, fits}
 use Rattle.argument.specs.Layout.{Enters}
 use Rattle.argument.specs.Walk.{entering, noneLeft, isNext, rest}
 use Rattle.argument.proofs.Verdicts.{guard-passed, pass-guard, fail-guard}
 
 -- what refusal 11 leaves of a record's points
-abbrev pub HowFits : ℕ → How → Type 0
-HowFits n (splits c first) = Point n c
-HowFits n (threeOpts p q r s) = Point n p × Point n q × Point n r × Point n s
-HowFits n (reorders u v first) = Point n u × Point n v
+abbrev pub ClosingFits : ℕ → CaseClosing → Type 0
+ClosingFits n (splits c first) = Point n c
+ClosingFits n (threeOpts p q r s) = Point n p × Point n q × Point n r × Point n s
+ClosingFits n (reorders u v first) = Point n u × Point n v
 
-pub record Fits (n a b : ℕ) (how : How) : Type 0 where
+pub record Fits (n a b : ℕ) (how : CaseClosing) : Type 0 where
   pub point-a : Point n a
   pub point-b : Point n b
   pub apart : a ≡ b → ⊥
-  pub how-fits : HowFits n how
+  pub closing-fits : ClosingFits n how
 
-how-fits : (n : ℕ) (how : How) → howFits n how ≡ true → HowFits n how
-unfolding howFits
-how-fits n (splits c first) e = is-point n c e
-how-fits n (threeOpts p q r s) e =
+closing-fits : (n : ℕ) (how : CaseClosing) → closingFits n how ≡ true → ClosingFits n how
+unfolding closingFits
+closing-fits n (splits c first) e = is-point n c e
+closing-fits n (threeOpts p q r s) e =
     let h = and-true _ _ e in
     let k = and-true _ _ (h .1) in
     let l = and-true _ _ (k .1) in
     (is-point n p (h .0), is-point n q (k .0), is-point n r (l .0), is-point n s (l .1))
-how-fits n (reorders u v first) e = let h = and-true _ _ e in (is-point n u (h .0), is-point n v (h .1))
+closing-fits n (reorders u v first) e = let h = and-true _ _ e in (is-point n u (h .0), is-point n v (h .1))
 
-fits-how : (n : ℕ) (how : How) → HowFits n how → howFits n how ≡ true
-unfolding howFits
-fits-how n (splits c first) p = point-is p
-fits-how n (threeOpts p q r s) h = and-both _ _ (point-is (h .0)) (and-both _ _ (point-is (h .1)) (and-both _ _ (point-is (h .2)) (point-is (h .3))))
-fits-how n (reorders u v first) h = and-both _ _ (point-is (h .0)) (point-is (h .1))
+fits-closing : (n : ℕ) (how : CaseClosing) → ClosingFits n how → closingFits n how ≡ true
+unfolding closingFits
+fits-closing n (splits c first) p = point-is p
+fits-closing n (threeOpts p q r s) h = and-both _ _ (point-is (h .0)) (and-both _ _ (point-is (h .1)) (and-both _ _ (point-is (h .2)) (point-is (h .3))))
+fits-closing n (reorders u v first) h = and-both _ _ (point-is (h .0)) (point-is (h .1))
 
-pub fits-means : (n a b : ℕ) (how : How) → fits n a b how ≡ true → Fits n a b how
+pub fits-means : (n a b : ℕ) (how : CaseClosing) → fits n a b how ≡ true → Fits n a b how
 unfolding fits
 fits-means n a b how e =
     let h = and-true _ _ e in
     let k = and-true _ _ (h .1) in
     let l = and-true _ _ (k .1) in
-    record { point-a = is-point n a (h .0); point-b = is-point n b (k .0); apart = eqb-false a b (not-true _ (l .0)); how-fits = how-fits n how (l .1) }
+    record { point-a = is-point n a (h .0); point-b = is-point n b (k .0); apart = eqb-false a b (not-true _ (l .0)); closing-fits = closing-fits n how (l .1) }
 
-pub means-fits : {n a b : ℕ} {how : How} → Fits n a b how → fits n a b how ≡ true
+pub means-fits : {n a b : ℕ} {how : CaseClosing} → Fits n a b how → fits n a b how ≡ true
 unfolding fits
 means-fits {n} {a} {b} {how} f =
-    and-both _ _ (point-is (f .point-a)) (and-both _ _ (point-is (f .point-b)) (and-both _ _ (ap not (ne-eqb a b (f .apart))) (fits-how n how (f .how-fits))))
+    and-both _ _ (point-is (f .point-a)) (and-both _ _ (point-is (f .point-b)) (and-both _ _ (ap not (ne-eqb a b (f .apart))) (fits-closing n how (f .closing-fits))))
 
 pub none-left : (ps : List Edge) → noneLeft ps ≡ true → ps ≡ []
 unfolding noneLeft

@@ -6,6 +6,7 @@ use Rattle.lengths.specs.Edge.{Edge, edge, Point}
 use Rattle.sets.specs.EdgeSet.{withPair}
 use Rattle.argument.specs.Rules.{Rules, NamesFeasible}
 
+-- A split is a branching on the two edges that a tour has at a point, and a case is one of its branches.
 -- a chain of cases, each a pair with its closing; "a case record carries one of two closings, a split or a crossing",
 -- which is `threeOpt`; or a new order of a segment, its inner points from u to v (02, Paper 10)
 mutual
@@ -35,16 +36,16 @@ unfoldable mutual
   depths (pair x y t rest) = max (depth t) (depths rest)
 
 -- "At most six splits lie one inside another"
-abbrev pub splitLimit : ℕ
-splitLimit = 6
+abbrev pub mostSplits : ℕ
+mostSplits = 6
 
 -- A closing is complete under K (01: "closed"): a split at a point if its chain "names exactly the standing pairs, in
 -- rising order", and every case is complete under K with its pair: "a case adds its pair's two edges to K"; a 3-opt
--- closing or a new order if it settles K. No walk, list of pairs or test that computes takes part.
+-- closing or a new order if it closes K. No walk, list of pairs or test that computes takes part.
 unfoldable mutual
   pub Complete : Rules → List Edge → Closing → Type 0
   Complete R K (split c cs) = Point (R .n) c × NamesFeasible R K c (names cs) × AllComplete R K c cs
-  Complete R K (threeOpt p q r s) = R .Settles K p q r s
+  Complete R K (threeOpt p q r s) = R .Closes K p q r s
   Complete R K (reorder u v vs) = R .Reorders K u v vs
 
   pub AllComplete : Rules → List Edge → ℕ → Cases → Type 0
@@ -55,4 +56,4 @@ unfoldable mutual
 -- the first counted"
 pub record CompleteArgument (R : Rules) (a b c : ℕ) (cs : Cases) : Type 0 where
   pub complete : Complete R (edge a b ∷ []) (split c cs)
-  pub shallow : depth (split c cs) ≤ splitLimit
+  pub shallow : depth (split c cs) ≤ mostSplits

@@ -4,7 +4,7 @@
 use Prim.Native.Nat.{ℕ, _≤_, _<_}
 use mathlib.Core.Path.{_≡_}
 use mathlib.Core.List.{List, [], _∷_}
-use Rattle.argument.specs.Record.{How, splits, threeOpts, reorders, case, visit, records, recordAt}
+use Rattle.argument.specs.Record.{CaseClosing, splits, threeOpts, reorders, case, visit, records, recordAt}
 use Rattle.argument.specs.Argument.{Cases, none, pair, Closing, split, threeOpt, reorder}
 
 -- "Each record entered has a higher number than all entered before it in the sheet"
@@ -24,11 +24,11 @@ unfoldable mutual
   pub Laid : (s : List ℕ) (high i : ℕ) → Cases → (after : ℕ) → Type 0
   Laid s high i none after = (i ≡ 0) × (after ≡ high)
   Laid s high i (pair x y t rest) after =
-      (how : How) × (next : ℕ) × (middle : ℕ)
+      (how : CaseClosing) × (next : ℕ) × (middle : ℕ)
       × Enters s high i × (recordAt s i ≡ case x y how next) × Holds s i how t middle × Laid s middle next rest after
 
   -- what the record i holds as its closing sets down a closing
-  pub Holds : (s : List ℕ) (i : ℕ) → How → Closing → (after : ℕ) → Type 0
+  pub Holds : (s : List ℕ) (i : ℕ) → CaseClosing → Closing → (after : ℕ) → Type 0
   Holds s i how (split c cs) after = (first : ℕ) × (how ≡ splits c first) × Laid s i first cs after
   Holds s i how (threeOpt p q r u) after = (how ≡ threeOpts p q r u) × (after ≡ i)
   Holds s i how (reorder u v vs) after = (first : ℕ) × (how ≡ reorders u v first) × Visits s i first vs after

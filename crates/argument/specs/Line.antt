@@ -8,7 +8,7 @@ use Rattle.lengths.specs.Edge.{edge, Point}
 use Rattle.argument.specs.Verdict.{Verdict, accepted, refused, guard, andThen}
 use Rattle.argument.specs.Record.{splits, Record, line, case, visit, other, recordAt, fits}
 use Rattle.argument.specs.Rules.{Rules}
-use Rattle.argument.specs.Argument.{splitLimit, Cases, CompleteArgument}
+use Rattle.argument.specs.Argument.{mostSplits, Cases, CompleteArgument}
 use Rattle.argument.specs.Layout.{Laid}
 use Rattle.argument.specs.Walk.{close, walk}
 
@@ -22,7 +22,7 @@ unfoldable pub judgeRecord : Rules → (open? : ℕ → ℕ → Bool) (s : List 
 judgeRecord R open? s i (line a b c first next) =
     guard (fits (R .n) a b (splits c first)) 11 i λ _.
     guard (open? a b) 12 i λ _.
-    andThen (close R s (walk R s) splitLimit (edge a b ∷ []) i (splits c first)) λ high. accepted (strikes a b next high)
+    andThen (close R s (walk R s) mostSplits (edge a b ∷ []) i (splits c first)) λ high. accepted (strikes a b next high)
 judgeRecord R open? s i (case a b how next) = refused 10 i
 judgeRecord R open? s i (visit v next) = refused 10 i
 judgeRecord R open? s i other = refused 10 i

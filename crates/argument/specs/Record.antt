@@ -1,5 +1,5 @@
 -- The records of a sheet (01, "The sheet"): `recordAt` says by one equation what a record is.
--- A further form of closing is one more constructor of `How`, with its kind in `content` and its points in `howFits`.
+-- A further form of closing is one more constructor of `CaseClosing`, with its kind in `content` and its points in `closingFits`.
 use Prim.Native.Nat.{ℕ, _+_, _-_, _*_, _/_, _≤_}
 use mathlib.Core.Bool.{Bool, true, false, not, _&&_}
 use mathlib.Core.List.{List}
@@ -7,7 +7,7 @@ use lib.Dec.{eqb}
 use lib.ListN.{length, getD}
 use Rattle.lengths.specs.Instance.{isPoint}
 
--- "A sheet has .. records numbered from 1, each of eight 16-bit numbers"
+-- A sheet is a certificate of edge eliminations. "A sheet has .. records numbered from 1, each of eight 16-bit numbers"
 abbrev pub recordSize : ℕ
 recordSize = 8
 
@@ -23,18 +23,19 @@ pub record Readable (s : List ℕ) (i : ℕ) : Type 0 where
 unfoldable pub field : List ℕ → ℕ → ℕ → ℕ
 field s i f = getD s ((i - 1) * recordSize + f) 0
 
--- how a case is closed: by a split at c whose first case is the record `first`, by 3-opt (01's crossing) with the edge
+-- how a case is closed: by a split at c whose first case is the record `first`, by 3-opt with the edge
 -- pq and the centres r and s, or by a new order of the segment from u to v whose first point the record `first`
 -- names (02, Paper 10)
-pub data How : Type 0 where
-  splits : (c first : ℕ) → How
-  threeOpts : (p q r s : ℕ) → How
-  reorders : (u v first : ℕ) → How
+pub data CaseClosing : Type 0 where
+  splits : (c first : ℕ) → CaseClosing
+  threeOpts : (p q r s : ℕ) → CaseClosing
+  reorders : (u v first : ℕ) → CaseClosing
 
--- what a record is: a line, a case, a point of a new order, or none of these
+-- what a record is: a line (the elimination of one edge), a case (one branch of a split), a point of a new order, or
+-- none of these
 pub data Record : Type 0 where
   line : (a b c first next : ℕ) → Record
-  case : (a b : ℕ) → How → (next : ℕ) → Record
+  case : (a b : ℕ) → CaseClosing → (next : ℕ) → Record
   visit : (v next : ℕ) → Record
   other : Record
 
@@ -68,11 +69,11 @@ unfoldable pub recordAt : List ℕ → ℕ → Record
 recordAt s i = content (field s i 0) (field s i 1) (field s i 2) (field s i 3) (field s i 4) (field s i 5) (field s i 6) (field s i 7)
 
 -- the point fields of a closing are points
-unfoldable pub howFits : ℕ → How → Bool
-howFits n (splits c first) = isPoint n c
-howFits n (threeOpts p q r s) = isPoint n p && (isPoint n q && (isPoint n r && isPoint n s))
-howFits n (reorders u v first) = isPoint n u && isPoint n v
+unfoldable pub closingFits : ℕ → CaseClosing → Bool
+closingFits n (splits c first) = isPoint n c
+closingFits n (threeOpts p q r s) = isPoint n p && (isPoint n q && (isPoint n r && isPoint n s))
+closingFits n (reorders u v first) = isPoint n u && isPoint n v
 
 -- refusal 11 does not apply: no "point field outside 1 to n, or a = b". A line is read as a case with a split.
-unfoldable pub fits : (n a b : ℕ) → How → Bool
-fits n a b how = isPoint n a && (isPoint n b && (not (eqb a b) && howFits n how))
+unfoldable pub fits : (n a b : ℕ) → CaseClosing → Bool
+fits n a b how = isPoint n a && (isPoint n b && (not (eqb a b) && closingFits n how))

@@ -1,4 +1,4 @@
--- All that arguments know of the rules: which pairs are feasible, and which 3-opt closings and new orders settle a
+-- All that arguments know of the rules: which pairs are feasible, and which 3-opt closings and new orders close a
 -- case; and what the walk computes for these. Lengths, marks and cycles are not seen here; `Lawful` is what the rules
 -- have to prove of themselves.
 use Prim.Native.Nat.{ℕ, _≤_, _<_}
@@ -20,15 +20,15 @@ pub record Rules : Type 1 where
   pub n : ℕ
   -- the pair x, y stands at c under K
   pub Feasible : (K : List Edge) (c x y : ℕ) → Type 0
-  -- the 3-opt closing of pq with the centres r and s settles K: it keeps 01's conditions, and some labelling saves
-  pub Settles : (K : List Edge) (p q r s : ℕ) → Type 0
-  -- the new order vs of the segment from u to v settles K (02, Paper 10)
+  -- the 3-opt closing of pq with the centres r and s closes K: it keeps 01's conditions, and some labelling saves
+  pub Closes : (K : List Edge) (p q r s : ℕ) → Type 0
+  -- the new order vs of the segment from u to v closes K (02, Paper 10)
   pub Reorders : (K : List Edge) (u v : ℕ) (vs : List ℕ) → Type 0
   -- what the walk goes by: the list of the feasible pairs
   pub pairs : (K : List Edge) (c : ℕ) → List Edge
-  -- and 0 if the 3-opt closing settles K, else the number of its refusal
+  -- and 0 if the 3-opt closing closes K, else the number of its refusal
   pub closing : (K : List Edge) (p q r s : ℕ) → ℕ
-  -- whether K has a segment from u to v; and 0 if the new order vs of it settles K, else the number of its refusal
+  -- whether K has a segment from u to v; and 0 if the new order vs of it closes K, else the number of its refusal
   pub segment : (K : List Edge) (u v : ℕ) → Bool
   pub reordering : (K : List Edge) (u v : ℕ) (vs : List ℕ) → ℕ
 
@@ -38,7 +38,7 @@ listedBy R list =
     record {
       n = R .n;
       Feasible = R .Feasible;
-      Settles = R .Settles;
+      Closes = R .Closes;
       Reorders = R .Reorders;
       pairs = list;
       closing = R .closing;
@@ -59,14 +59,14 @@ pub data Reached (R : Rules) : List Edge → Type 0 where
 
 pub record Lawful (R : Rules) : Type 0 where
   pub listed : (K : List Edge) (c : ℕ) → Reached R K → NamesFeasible R K c (R .pairs K c)
-  pub settled : (K : List Edge) (p q r s : ℕ) → R .closing K p q r s ≡ 0 → R .Settles K p q r s
-  pub settles : (K : List Edge) (p q r s : ℕ) → R .Settles K p q r s → R .closing K p q r s ≡ 0
+  pub closed : (K : List Edge) (p q r s : ℕ) → R .closing K p q r s ≡ 0 → R .Closes K p q r s
+  pub closes : (K : List Edge) (p q r s : ℕ) → R .Closes K p q r s → R .closing K p q r s ≡ 0
   -- a feasible pair is two points, the lower first
   pub pair-points : (K : List Edge) (c x y : ℕ) → R .Feasible K c x y → Point (R .n) x × Point (R .n) y × (x < y)
-  -- a 3-opt closing that settles K names points
-  pub three-opt-points : (K : List Edge) (p q r s : ℕ) → Reached R K → R .Settles K p q r s
+  -- a 3-opt closing that closes K names points
+  pub three-opt-points : (K : List Edge) (p q r s : ℕ) → Reached R K → R .Closes K p q r s
       → Point (R .n) p × Point (R .n) q × Point (R .n) r × Point (R .n) s
-  -- a new order settles K exactly where there is a segment and the number is 0, on every set that an argument comes to;
+  -- a new order closes K exactly where there is a segment and the number is 0, on every set that an argument comes to;
   -- it names points, and is refused by 23 or 24
   pub reordered : (K : List Edge) (u v : ℕ) (vs : List ℕ) → Reached R K → R .segment K u v ≡ true → R .reordering K u v vs ≡ 0
       → R .Reorders K u v vs

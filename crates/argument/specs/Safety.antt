@@ -34,9 +34,9 @@ pub record HasOrder (s : List ℕ) : Type 0 where
 pub record Upheld (R : Rules) (Good : List Edge → Type 0) (Orders : Type 0) : Type 0 where
   -- the tour's own pair at a point is feasible, and the tour uses K with it
   pub keeps : (K : List Edge) (c : ℕ) → Good K → Point (R .n) c → (x : ℕ) × (y : ℕ) × R .Feasible K c x y × Good (withPair K c x y)
-  -- no 3-opt closing settles a set that the tour uses
-  pub unsettled : (K : List Edge) (p q r s : ℕ) → Good K → R .Settles K p q r s → ⊥
-  -- and where new orders may occur, none settles a set that the tour uses
+  -- no 3-opt closing closes a set that the tour uses
+  pub unclosed : (K : List Edge) (p q r s : ℕ) → Good K → R .Closes K p q r s → ⊥
+  -- and where new orders may occur, none closes a set that the tour uses
   pub unordered : Orders → (K : List Edge) (u v : ℕ) (vs : List ℕ) → Good K → R .Reorders K u v vs → ⊥
 
 pub record Guarded {M : Type 0} (𝓜 : Marking M) (Good : List Edge → Type 0) (Orders : Type 0) (Kept : M → Type 0) : Type 0 where

@@ -9,7 +9,7 @@ use Rattle.lengths.specs.Edge.{Edge, edge}
 use Rattle.sets.specs.EdgeSet.{withPair}
 use Rattle.argument.specs.Verdict.{Verdict, accepted, refused, guard, refusedBy, andThen}
 use Rattle.lengths.specs.Instance.{isPoint}
-use Rattle.argument.specs.Record.{How, splits, threeOpts, reorders, Record, line, case, visit, other, records, recordAt, fits}
+use Rattle.argument.specs.Record.{CaseClosing, splits, threeOpts, reorders, Record, line, case, visit, other, records, recordAt, fits}
 use Rattle.argument.specs.Rules.{Rules}
 
 -- where a walk stands in a chain of cases: at an index that is yet to be followed
@@ -48,12 +48,12 @@ rest [] = []
 rest (e ∷ es) = es
 
 -- what a chain does at its next index: it ends, or it takes a case whose pair is the next standing one
-pub data Step : Type 0 where
-  ends : Step
-  takes : (a b : ℕ) → How → (next : ℕ) → Step
+pub data ChainStep : Type 0 where
+  ends : ChainStep
+  takes : (a b : ℕ) → CaseClosing → (next : ℕ) → ChainStep
 
 -- "10, wrong kind for its chain ..; 11 ..; 14, its pair is not the next standing one"
-unfoldable pub readCase : Rules → Spot → Record → Verdict Step
+unfoldable pub readCase : Rules → Spot → Record → Verdict ChainStep
 readCase R q (line a b c first next) = refused 10 (q .index)
 readCase R q (case a b how next) =
     guard (fits (R .n) a b how) 11 (q .index) λ _.
@@ -62,7 +62,7 @@ readCase R q (visit v next) = refused 10 (q .index)
 readCase R q other = refused 10 (q .index)
 
 -- "If a chain ends with standing pairs left, 14 names its last record, or the owner of the split if the chain is empty"
-unfoldable pub look : Rules → List ℕ → Spot → Verdict Step
+unfoldable pub look : Rules → List ℕ → Spot → Verdict ChainStep
 look R s q =
     elim (eqb (q .index) 0) [
       | true ↦ guard (noneLeft (q .pairs)) 14 (q .last) λ _. accepted ends
@@ -127,13 +127,13 @@ closeByOrder n there number s i first =
 
 -- the closing that record i holds, under K with its pair: "13, a seventh split; 15, a crossing's edge or centres
 -- break a condition above; 16, no labelling saves"; or 23 and 24 of a new order. It answers the highest record entered.
-unfoldable pub close : Rules → List ℕ → (go : Spot → Verdict ℕ) (left : ℕ) (K : List Edge) (i : ℕ) → How → Verdict ℕ
+unfoldable pub close : Rules → List ℕ → (go : Spot → Verdict ℕ) (left : ℕ) (K : List Edge) (i : ℕ) → CaseClosing → Verdict ℕ
 close R s go left K i (splits c first) = guard (ltb 0 left) 13 i λ _. go (opening R left K i c first)
 close R s go left K i (threeOpts p q r u) = refusedBy (R .closing K p q r u) i i
 close R s go left K i (reorders u v first) = closeByOrder (R .n) (R .segment K u v) (R .reordering K u v) s i first
 
 -- a chain at its next index, whose further chains are left to `go`
-unfoldable pub act : Rules → List ℕ → (go : Spot → Verdict ℕ) → Spot → Step → Verdict ℕ
+unfoldable pub act : Rules → List ℕ → (go : Spot → Verdict ℕ) → Spot → ChainStep → Verdict ℕ
 act R s go q ends = accepted (q .high)
 act R s go q (takes a b how next) =
     andThen (close R s go (q .left) (withPair (q .known) (q .point) a b) (q .index) how) λ high. go (behind q next high)

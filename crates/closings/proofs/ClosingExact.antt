@@ -1,4 +1,4 @@
--- The closing's test is exact: `threeOptOutcome` answers Settled exactly when the closing settles K, NoMoves (refusal
+-- The closing's test is exact: `threeOptOutcome` answers Closed exactly when the closing closes K, NoMoves (refusal
 -- 15) exactly when no ends make the edge and the centres a 3-opt closing, and NoSaving (refusal 16) in the cases left.
 -- Assumes nothing.
 use Prim.Native.Nat.{ℕ}
@@ -12,25 +12,25 @@ use borrow.Author.Tests.{eqb-false, ne-eqb, not-true}
 use Rattle.lengths.specs.Saving.{gains?}
 use Rattle.lengths.specs.Edge.{Edge}
 use Rattle.sets.specs.EdgeSet.{DegreeTwo}
-use Rattle.closings.proofs.Savings.{label-test, crossing-test}
-use Rattle.closings.specs.Closing.{crossingSaving, Saves, ThreeOptMoves, Closes, Unsaved}
+use Rattle.closings.proofs.Savings.{label-test, three-opt-test}
+use Rattle.closings.specs.Closing.{threeOptSaving, Saves, ThreeOptMoves, Closes, Unsaved}
 use Rattle.sets.specs.Joined.{has?}
 use Rattle.sets.specs.Neighbours.{endsOf}
 use Rattle.closings.specs.ClosingTest.{saves?, labelling?, centresApart?, placed?, threeOptOutcome}
 use Rattle.sets.specs.declared.neighbours.Ends as neighbours
 use Rattle.sets.specs.declared.neighbours.Ends.the-variants.{Two, Other}
-use Rattle.closings.specs.declared.closing.ThreeOptOutcome.the-variants.{Settled, NoMoves, NoSaving}
+use Rattle.closings.specs.declared.closing.ThreeOptOutcome.the-variants.{Closed, NoMoves, NoSaving}
 use Rattle.lists.proofs.Bools.{and-true, or-true, true-or}
 use Rattle.sets.proofs.Laws.Joined.{has-exact}
 use Rattle.sets.proofs.Laws.Neighbours.{ends-turned, ends-sound, ends-complete}
 use Rattle.closings.proofs.ClosingTests.{unplaced, no-ends-r, no-ends-s, both-ends, answer}
 
 -- the three answers are different, and so are the two of `endsOf`
-settled-not-unplaced : Settled ≡ NoMoves → ⊥
-settled-not-unplaced e = let z : _≡_ {A = ℕ} 0 1 = cc in omega arith
+closed-not-unplaced : Closed ≡ NoMoves → ⊥
+closed-not-unplaced e = let z : _≡_ {A = ℕ} 0 1 = cc in omega arith
 
-settled-saves : Settled ≡ NoSaving → ⊥
-settled-saves e = let z : _≡_ {A = ℕ} 0 1 = cc in omega arith
+closed-saves : Closed ≡ NoSaving → ⊥
+closed-saves e = let z : _≡_ {A = ℕ} 0 1 = cc in omega arith
 
 no-saving-not-unplaced : NoSaving ≡ NoMoves → ⊥
 no-saving-not-unplaced e = let z : _≡_ {A = ℕ} 0 1 = cc in omega arith
@@ -156,7 +156,7 @@ module _ (out put : ℕ → ℕ → ℕ) (p q r s : ℕ) where
 -- What the test finds: no 3-opt closing, or a 3-opt closing with its ends, whose labellings decide.
 data TestFinds (out put : ℕ → ℕ → ℕ) (K : List Edge) (p q r s : ℕ) : Type 0 where
   none : threeOptOutcome out put K p q r s ≡ NoMoves → ((x y z w : ℕ) → ThreeOptMoves K p q r s x y z w → ⊥) → TestFinds out put K p q r s
-  some : (x y z w : ℕ) → ThreeOptMoves K p q r s x y z w → threeOptOutcome out put K p q r s ≡ cond (labelling? out put p q r s x y z w) Settled NoSaving
+  some : (x y z w : ℕ) → ThreeOptMoves K p q r s x y z w → threeOptOutcome out put K p q r s ≡ cond (labelling? out put p q r s x y z w) Closed NoSaving
       → TestFinds out put K p q r s
 
 -- The proof of the three theorems. The tests of pq, of the centres and of rs are 01's conditions one for one, so a
@@ -176,19 +176,19 @@ module _ (out put : ℕ → ℕ → ℕ) (K : List Edge) (p q r s : ℕ) where
       go true h (Two x y) i (Two z w) j =
           some x y z w (moves-of K p q r s h (ends-sound K r x y i) (ends-sound K s z w j)) (both-ends out put K p q r s h i j)
 
-  settled-closes : threeOptOutcome out put K p q r s ≡ Settled → Closes out put K p q r s
-  settled-closes h = go judged
+  closed-closes : threeOptOutcome out put K p q r s ≡ Closed → Closes out put K p q r s
+  closed-closes h = go judged
     where
-      saving : (t : Bool) → Settled ≡ cond t Settled NoSaving → t ≡ true
+      saving : (t : Bool) → Closed ≡ cond t Closed NoSaving → t ≡ true
       saving true e = refl
-      saving false e = absurd (settled-saves e)
+      saving false e = absurd (closed-saves e)
 
       go : TestFinds out put K p q r s → Closes out put K p q r s
-      go (none e n) = absurd (settled-not-unplaced (sym h ∙ e))
+      go (none e n) = absurd (closed-not-unplaced (sym h ∙ e))
       go (some x y z w c e) = closes-of out put p q r s x y z w (saving _ (sym h ∙ e)) c
 
-  closes-settled : Closes out put K p q r s → threeOptOutcome out put K p q r s ≡ Settled
-  closes-settled h =
+  closes-closed : Closes out put K p q r s → threeOptOutcome out put K p q r s ≡ Closed
+  closes-closed h =
       let four = labelled out put p q r s (h .x) (h .y) (h .z) (h .w) (of-saves out put p q r s (h .x) (h .y) (h .z) (h .w) (h .saves)) in
       ⊎-elim (λ i. ⊎-elim (λ j. by i j (four .0)) (λ j. by i j (four .1)) ends-s)
       (λ i. ⊎-elim (λ j. by i j (four .2)) (λ j. by i j (four .3)) ends-s)
@@ -197,26 +197,26 @@ module _ (out put : ℕ → ℕ → ℕ) (K : List Edge) (p q r s : ℕ) where
       ends-s : (endsOf K s ≡ Two (h .z) (h .w)) ⊎ (endsOf K s ≡ Two (h .w) (h .z))
       ends-s = ends-complete K s (h .z) (h .w) (h .moves .ends-s)
 
-      by : {x y z w : ℕ} → endsOf K r ≡ Two x y → endsOf K s ≡ Two z w → labelling? out put p q r s x y z w ≡ true → threeOptOutcome out put K p q r s ≡ Settled
+      by : {x y z w : ℕ} → endsOf K r ≡ Two x y → endsOf K s ≡ Two z w → labelling? out put p q r s x y z w ≡ true → threeOptOutcome out put K p q r s ≡ Closed
       by i j e = sym (answer out put K p q r s (placed-of K p q r s (h .moves)) i j e)
 
-  -- Settled exactly when the closing settles K
-  pub settled-exact : (threeOptOutcome out put K p q r s ≡ Settled) ↔ Closes out put K p q r s
-  settled-exact = (settled-closes, closes-settled)
+  -- Closed exactly when the closing closes K
+  pub closed-exact : (threeOptOutcome out put K p q r s ≡ Closed) ↔ Closes out put K p q r s
+  closed-exact = (closed-closes, closes-closed)
 
   -- A CROSSING shuts a case out exactly when its saving is above 0, whoever names the ends
-  pub crossing-shuts : (x y z w : ℕ) → ThreeOptMoves K p q r s x y z w → (threeOptOutcome out put K p q r s ≡ Settled) ↔ (gains? (crossingSaving out put p q r s x y z w) ≡ true)
-  crossing-shuts x y z w m = (to, λ g. closes-settled (closes-of out put p q r s x y z w (sym (crossing-test out put p q r s x y z w) ∙ g) m))
+  pub three-opt-shuts : (x y z w : ℕ) → ThreeOptMoves K p q r s x y z w → (threeOptOutcome out put K p q r s ≡ Closed) ↔ (gains? (threeOptSaving out put p q r s x y z w) ≡ true)
+  three-opt-shuts x y z w m = (to, λ g. closes-closed (closes-of out put p q r s x y z w (sym (three-opt-test out put p q r s x y z w) ∙ g) m))
     where
-      saved : (t : Bool) → cond t Settled NoSaving ≡ Settled → t ≡ true
+      saved : (t : Bool) → cond t Closed NoSaving ≡ Closed → t ≡ true
       saved true e = refl
-      saved false e = absurd (settled-saves (sym e))
+      saved false e = absurd (closed-saves (sym e))
 
-      by : (a b c d : ℕ) → endsOf K r ≡ Two a b → endsOf K s ≡ Two c d → threeOptOutcome out put K p q r s ≡ Settled → labelling? out put p q r s a b c d ≡ true
+      by : (a b c d : ℕ) → endsOf K r ≡ Two a b → endsOf K s ≡ Two c d → threeOptOutcome out put K p q r s ≡ Closed → labelling? out put p q r s a b c d ≡ true
       by a b c d i j h = saved _ (sym (both-ends out put K p q r s (placed-of K p q r s m) i j) ∙ h)
 
-      to : threeOptOutcome out put K p q r s ≡ Settled → gains? (crossingSaving out put p q r s x y z w) ≡ true
-      to h = crossing-test out put p q r s x y z w ∙ ⊎-elim
+      to : threeOptOutcome out put K p q r s ≡ Closed → gains? (threeOptSaving out put p q r s x y z w) ≡ true
+      to h = three-opt-test out put p q r s x y z w ∙ ⊎-elim
           (λ i. ⊎-elim (λ j. by x y z w i j h) (λ j. renamed out put p q r s x y w z (by x y w z i j h) .0) (ends-complete K s z w (m .ends-s)))
           (λ i. ⊎-elim (λ j. renamed out put p q r s y x z w (by y x z w i j h) .1) (λ j. renamed out put p q r s y x w z (by y x w z i j h) .2) (ends-complete K s z w (m .ends-s)))
           (ends-complete K r x y (m .ends-r))
@@ -224,8 +224,8 @@ module _ (out put : ℕ → ℕ → ℕ) (K : List Edge) (p q r s : ℕ) where
   refused-no-moves : threeOptOutcome out put K p q r s ≡ NoMoves → (x y z w : ℕ) → ThreeOptMoves K p q r s x y z w → ⊥
   refused-no-moves h = go judged
     where
-      saved : (t : Bool) → cond t Settled NoSaving ≡ NoMoves → ⊥
-      saved true e = settled-not-unplaced e
+      saved : (t : Bool) → cond t Closed NoSaving ≡ NoMoves → ⊥
+      saved true e = closed-not-unplaced e
       saved false e = no-saving-not-unplaced e
 
       go : TestFinds out put K p q r s → (x y z w : ℕ) → ThreeOptMoves K p q r s x y z w → ⊥
@@ -249,18 +249,18 @@ module _ (out put : ℕ → ℕ → ℕ) (K : List Edge) (p q r s : ℕ) where
       go : TestFinds out put K p q r s → Unsaved out put K p q r s
       go (none e n) = absurd (no-saving-not-unplaced (sym h ∙ e))
       go (some x y z w c e) =
-          record { x = x; y = y; z = z; w = w; moves = c; unsettled = λ c. settled-saves (sym (closes-settled c) ∙ h) }
+          record { x = x; y = y; z = z; w = w; moves = c; unclosed = λ c. closed-saves (sym (closes-closed c) ∙ h) }
 
   left-unsaved : Unsaved out put K p q r s → threeOptOutcome out put K p q r s ≡ NoSaving
   left-unsaved h = go judged
     where
-      unsaved : (t : Bool) → (t ≡ true → ⊥) → cond t Settled NoSaving ≡ NoSaving
+      unsaved : (t : Bool) → (t ≡ true → ⊥) → cond t Closed NoSaving ≡ NoSaving
       unsaved true n = absurd (n refl)
       unsaved false n = refl
 
       go : TestFinds out put K p q r s → threeOptOutcome out put K p q r s ≡ NoSaving
       go (none e n) = absurd (n (h .x) (h .y) (h .z) (h .w) (h .moves))
-      go (some x y z w c e) = e ∙ unsaved (labelling? out put p q r s x y z w) (λ t. h .unsettled (closes-of out put p q r s x y z w t c))
+      go (some x y z w c e) = e ∙ unsaved (labelling? out put p q r s x y z w) (λ t. h .unclosed (closes-of out put p q r s x y z w t c))
 
   -- NoSaving exactly in the cases left: there is a 3-opt closing, and no labelling of it saves (refusal 16)
   pub no-saving-exact : (threeOptOutcome out put K p q r s ≡ NoSaving) ↔ Unsaved out put K p q r s

@@ -11,12 +11,12 @@ use borrow.Author.Count.{below-more}
 use Rattle.lengths.specs.Edge.{Edge}
 use Rattle.lengths.specs.asks.Table.{Spans}
 use Rattle.sets.specs.Neighbours.{endsOf}
-use Rattle.closings.specs.ClosingTest.{saves?, labelling?, placed?, settledBy, threeOptOutcome}
+use Rattle.closings.specs.ClosingTest.{saves?, labelling?, placed?, closedBy, threeOptOutcome}
 use Rattle.closings.specs.asks.ClosingTest.{Labelled, ThreeOptAsked, pick}
 use Rattle.sets.specs.asks.Stored.{edgeList}
 use Rattle.sets.specs.declared.edge_set.EdgeSet.{EdgeSet}
 use Rattle.sets.specs.declared.neighbours.Ends.the-variants.{Two, Other}
-use Rattle.closings.specs.declared.closing.ThreeOptOutcome.the-variants.{Settled, NoMoves, NoSaving}
+use Rattle.closings.specs.declared.closing.ThreeOptOutcome.the-variants.{Closed, NoMoves, NoSaving}
 use Rattle.lists.proofs.Bools.{true-or}
 use Rattle.sets.proofs.Laws.Neighbours.{ends-sound}
 use Rattle.sets.proofs.Laws.Stored.{held-points}
@@ -97,19 +97,19 @@ module _ (out put : ℕ → ℕ → ℕ) (K : List Edge) (p q r s : ℕ) where
   unplaced e = rw (threeOptOutcome, e)
 
   pub no-ends-r : placed? K p q r s ≡ true → endsOf K r ≡ Other → threeOptOutcome out put K p q r s ≡ NoMoves
-  unfolding threeOptOutcome settledBy
+  unfolding threeOptOutcome closedBy
   no-ends-r e f = rw (threeOptOutcome, e, f)
 
   pub no-ends-s : {x y : ℕ} → placed? K p q r s ≡ true → endsOf K r ≡ Two x y → endsOf K s ≡ Other → threeOptOutcome out put K p q r s ≡ NoMoves
-  unfolding threeOptOutcome settledBy
+  unfolding threeOptOutcome closedBy
   no-ends-s e f g = rw (threeOptOutcome, e, f, g)
 
   pub both-ends : {x y z w : ℕ}
       → placed? K p q r s ≡ true
       → endsOf K r ≡ Two x y
       → endsOf K s ≡ Two z w
-      → threeOptOutcome out put K p q r s ≡ cond (labelling? out put p q r s x y z w) Settled NoSaving
-  unfolding threeOptOutcome settledBy
+      → threeOptOutcome out put K p q r s ≡ cond (labelling? out put p q r s x y z w) Closed NoSaving
+  unfolding threeOptOutcome closedBy
   both-ends e f g = rw (threeOptOutcome, e, f, g)
 
   pub answer : {x y z w : ℕ} {t : Bool}
@@ -117,5 +117,5 @@ module _ (out put : ℕ → ℕ → ℕ) (K : List Edge) (p q r s : ℕ) where
       → endsOf K r ≡ Two x y
       → endsOf K s ≡ Two z w
       → labelling? out put p q r s x y z w ≡ t
-      → cond t Settled NoSaving ≡ threeOptOutcome out put K p q r s
+      → cond t Closed NoSaving ≡ threeOptOutcome out put K p q r s
   answer e f g h = sym (both-ends e f g ∙ rw h)

@@ -1,4 +1,4 @@
--- The saving of a crossing is the best of its four labellings, and does not depend on the names of its points, where
+-- The saving of a 3-opt closing is the best of its four labellings, and does not depend on the names of its points, where
 -- lengths do not depend on the order of an edge's points: p and q, x and y, z and w may be swapped, and the
 -- centres with their ends. Assumes nothing.
 use Prim.Native.Nat.{ℕ, _+_}
@@ -9,7 +9,7 @@ use lib.IntN.{ℤ}
 use lib.Signed.{_≤ℤ_}
 use Rattle.lengths.specs.Saving.{saving, smaller, larger}
 use Rattle.lengths.proofs.Extremes.{at-most-trans, larger-is, larger-turned, larger-three, smaller-turned}
-use Rattle.closings.specs.Closing.{firstSaving, secondSaving, labelSaving, crossingSaving}
+use Rattle.closings.specs.Closing.{firstSaving, secondSaving, labelSaving, threeOptSaving}
 
 -- the largest of four savings
 module _ (a b c d : ℤ) where
@@ -48,17 +48,17 @@ all-turned : (a b c d : ℤ) → larger d (larger c (larger b a)) ≡ larger a (
 all-turned a b c d = pairs-turned c d a b ∙ halves-turned a b c d
 
 -- THE BEST OF FOUR LABELLINGS: none saves more, and one saves as much
-pub crossing-best : (out put : ℕ → ℕ → ℕ) (p q r s x y z w : ℕ)
-    → (labelSaving out put p q r s x y z w ≤ℤ crossingSaving out put p q r s x y z w)
-    × (labelSaving out put p q r s x y w z ≤ℤ crossingSaving out put p q r s x y z w)
-    × (labelSaving out put p q r s y x z w ≤ℤ crossingSaving out put p q r s x y z w)
-    × (labelSaving out put p q r s y x w z ≤ℤ crossingSaving out put p q r s x y z w)
-    × ((crossingSaving out put p q r s x y z w ≡ labelSaving out put p q r s x y z w)
-    ⊎ ((crossingSaving out put p q r s x y z w ≡ labelSaving out put p q r s x y w z)
-    ⊎ ((crossingSaving out put p q r s x y z w ≡ labelSaving out put p q r s y x z w)
-    ⊎ (crossingSaving out put p q r s x y z w ≡ labelSaving out put p q r s y x w z))))
-unfolding crossingSaving
-crossing-best out put p q r s x y z w =
+pub three-opt-best : (out put : ℕ → ℕ → ℕ) (p q r s x y z w : ℕ)
+    → (labelSaving out put p q r s x y z w ≤ℤ threeOptSaving out put p q r s x y z w)
+    × (labelSaving out put p q r s x y w z ≤ℤ threeOptSaving out put p q r s x y z w)
+    × (labelSaving out put p q r s y x z w ≤ℤ threeOptSaving out put p q r s x y z w)
+    × (labelSaving out put p q r s y x w z ≤ℤ threeOptSaving out put p q r s x y z w)
+    × ((threeOptSaving out put p q r s x y z w ≡ labelSaving out put p q r s x y z w)
+    ⊎ ((threeOptSaving out put p q r s x y z w ≡ labelSaving out put p q r s x y w z)
+    ⊎ ((threeOptSaving out put p q r s x y z w ≡ labelSaving out put p q r s y x z w)
+    ⊎ (threeOptSaving out put p q r s x y z w ≡ labelSaving out put p q r s y x w z))))
+unfolding threeOptSaving
+three-opt-best out put p q r s x y z w =
     largest-is (labelSaving out put p q r s x y z w) (labelSaving out put p q r s x y w z)
     (labelSaving out put p q r s y x z w) (labelSaving out put p q r s y x w z)
 
@@ -68,15 +68,15 @@ same-saving a b c d e f = ap₂ (λ (u v : ℕ). saving u v) e f
 
 module _ (out put : ℕ → ℕ → ℕ) (p q r s : ℕ) where
   -- the other ends of a centre, swapped: the labellings are the same four
-  pub crossing-ends-r : (x y z w : ℕ) → crossingSaving out put p q r s y x z w ≡ crossingSaving out put p q r s x y z w
-  unfolding crossingSaving
-  crossing-ends-r x y z w =
+  pub three-opt-ends-r : (x y z w : ℕ) → threeOptSaving out put p q r s y x z w ≡ threeOptSaving out put p q r s x y z w
+  unfolding threeOptSaving
+  three-opt-ends-r x y z w =
       halves-turned (labelSaving out put p q r s x y z w) (labelSaving out put p q r s x y w z)
       (labelSaving out put p q r s y x z w) (labelSaving out put p q r s y x w z)
 
-  pub crossing-ends-s : (x y z w : ℕ) → crossingSaving out put p q r s x y w z ≡ crossingSaving out put p q r s x y z w
-  unfolding crossingSaving
-  crossing-ends-s x y z w =
+  pub three-opt-ends-s : (x y z w : ℕ) → threeOptSaving out put p q r s x y w z ≡ threeOptSaving out put p q r s x y z w
+  unfolding threeOptSaving
+  three-opt-ends-s x y z w =
       pairs-turned (labelSaving out put p q r s x y z w) (labelSaving out put p q r s x y w z)
       (labelSaving out put p q r s y x z w) (labelSaving out put p q r s y x w z)
 
@@ -100,9 +100,9 @@ module _ (out put : ℕ → ℕ → ℕ) (p q r s : ℕ) where
         ap₂ smaller (first-edge x w) (second-edge y z)
         ∙ smaller-turned (secondSaving out put p q r s x w) (firstSaving out put p q r s y z)
 
-    pub crossing-edge : (x y z w : ℕ) → crossingSaving out put q p r s x y z w ≡ crossingSaving out put p q r s x y z w
-    unfolding crossingSaving
-    crossing-edge x y z w =
+    pub three-opt-edge : (x y z w : ℕ) → threeOptSaving out put q p r s x y z w ≡ threeOptSaving out put p q r s x y z w
+    unfolding threeOptSaving
+    three-opt-edge x y z w =
         ap₂ larger (label-edge x y z w) (ap₂ larger (label-edge x y w z) (ap₂ larger (label-edge y x z w) (label-edge y x w z)))
         ∙ all-turned (labelSaving out put p q r s x y z w) (labelSaving out put p q r s x y w z)
         (labelSaving out put p q r s y x z w) (labelSaving out put p q r s y x w z)
@@ -126,9 +126,9 @@ module _ (out put : ℕ → ℕ → ℕ) (p q r s : ℕ) where
         ap₂ smaller (first-centres z y) (second-centres w x)
         ∙ smaller-turned (secondSaving out put p q r s y z) (firstSaving out put p q r s x w)
 
-    pub crossing-centres : (x y z w : ℕ) → crossingSaving out put p q s r z w x y ≡ crossingSaving out put p q r s x y z w
-    unfolding crossingSaving
-    crossing-centres x y z w =
+    pub three-opt-centres : (x y z w : ℕ) → threeOptSaving out put p q s r z w x y ≡ threeOptSaving out put p q r s x y z w
+    unfolding threeOptSaving
+    three-opt-centres x y z w =
         ap₂ larger (label-centres x y z w) (ap₂ larger (label-centres y x z w) (ap₂ larger (label-centres x y w z) (label-centres y x w z)))
         ∙ middle-turned (labelSaving out put p q r s x y z w) (labelSaving out put p q r s x y w z)
         (labelSaving out put p q r s y x z w) (labelSaving out put p q r s y x w z)

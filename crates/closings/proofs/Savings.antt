@@ -1,4 +1,4 @@
--- The savings of a crossing, as 01's inequalities: a labelling saves exactly when both moves shorten, and the best of
+-- The savings of a 3-opt closing, as 01's inequalities: a labelling saves exactly when both moves shorten, and the best of
 -- the four saves exactly when one does. Assumes nothing.
 use Prim.Native.Nat.{ℕ, _+_, _<_}
 use mathlib.Core.Path.{_≡_, sym, _∙_, ap, ap₂}
@@ -10,7 +10,7 @@ use borrow.Author.Tests.{ltb-true, lt-ltb}
 use Rattle.lengths.specs.Saving.{saving, gains?, smaller, larger}
 use Rattle.lists.proofs.Bools.{and-left, and-right, and-both, and-stop, and-go}
 use Rattle.lengths.proofs.Savings.{gains-iff, gains-smaller, gains-larger}
-use Rattle.closings.specs.Closing.{firstSaving, secondSaving, labelSaving, crossingSaving, Saves}
+use Rattle.closings.specs.Closing.{firstSaving, secondSaving, labelSaving, threeOptSaving, Saves}
 use Rattle.closings.specs.ClosingTest.{saves?, labelling?}
 
 module _ (out put : ℕ → ℕ → ℕ) (p q r s x y z w : ℕ) where
@@ -64,7 +64,7 @@ unfolding labelSaving
 label-made out put p q r s x y z w ef eg eh = eh ∙ ap₂ smaller ef eg
 
 -- and the best of four labellings
-pub crossing-made : (out put : ℕ → ℕ → ℕ) (p q r s x y z w : ℕ) {a b c d e f g : ℤ}
+pub three-opt-made : (out put : ℕ → ℕ → ℕ) (p q r s x y z w : ℕ) {a b c d e f g : ℤ}
     → a ≡ labelSaving out put p q r s x y z w
     → b ≡ labelSaving out put p q r s x y w z
     → c ≡ labelSaving out put p q r s y x z w
@@ -72,9 +72,9 @@ pub crossing-made : (out put : ℕ → ℕ → ℕ) (p q r s x y z w : ℕ) {a b
     → e ≡ larger c d
     → f ≡ larger b e
     → g ≡ larger a f
-    → g ≡ crossingSaving out put p q r s x y z w
-unfolding crossingSaving
-crossing-made out put p q r s x y z w ea eb ec ed ee ef eg = eg ∙ ap₂ larger ea (ef ∙ ap₂ larger eb (ee ∙ ap₂ larger ec ed))
+    → g ≡ threeOptSaving out put p q r s x y z w
+unfolding threeOptSaving
+three-opt-made out put p q r s x y z w ea eb ec ed ee ef eg = eg ∙ ap₂ larger ea (ef ∙ ap₂ larger eb (ee ∙ ap₂ larger ec ed))
 
 -- these are the code's tests
 module _ (out put : ℕ → ℕ → ℕ) (p q r s x y z w : ℕ) where
@@ -92,9 +92,9 @@ module _ (out put : ℕ → ℕ → ℕ) (p q r s x y z w : ℕ) where
   first-fails ef h = and-stop _ (sym (first-test out put p q r s x y z w) ∙ sym (ap gains? ef) ∙ h)
 
 -- the best of four labellings is above 0 exactly when one saves
-pub crossing-test : (out put : ℕ → ℕ → ℕ) (p q r s x y z w : ℕ) → gains? (crossingSaving out put p q r s x y z w) ≡ labelling? out put p q r s x y z w
-unfolding crossingSaving labelling?
-crossing-test out put p q r s x y z w =
+pub three-opt-test : (out put : ℕ → ℕ → ℕ) (p q r s x y z w : ℕ) → gains? (threeOptSaving out put p q r s x y z w) ≡ labelling? out put p q r s x y z w
+unfolding threeOptSaving labelling?
+three-opt-test out put p q r s x y z w =
     gains-larger (labelSaving out put p q r s x y z w) _
     ∙ ap₂ (λ (a b : Bool). a || b) (label-test out put p q r s x y z w)
     (gains-larger (labelSaving out put p q r s x y w z) _

@@ -1,4 +1,4 @@
--- The 3-opt closing (01, "Arguments": a crossing).
+-- The 3-opt closing (01, "Arguments"), which is 01's crossing.
 use Prim.Native.Nat.{ℕ, _+_}
 use mathlib.Core.Path.{_≡_}
 use mathlib.Core.Bool.{true}
@@ -21,8 +21,8 @@ unfoldable pub labelSaving : (out put : ℕ → ℕ → ℕ) → (p q r s x y z 
 labelSaving out put p q r s x y z w = smaller (firstSaving out put p q r s x w) (secondSaving out put p q r s y z)
 
 -- "and of four labellings the best"
-unfoldable pub crossingSaving : (out put : ℕ → ℕ → ℕ) → (p q r s x y z w : ℕ) → ℤ
-crossingSaving out put p q r s x y z w =
+unfoldable pub threeOptSaving : (out put : ℕ → ℕ → ℕ) → (p q r s x y z w : ℕ) → ℤ
+threeOptSaving out put p q r s x y z w =
     larger (labelSaving out put p q r s x y z w)
     (larger (labelSaving out put p q r s x y w z)
     (larger (labelSaving out put p q r s y x z w) (labelSaving out put p q r s y x w z)))
@@ -31,7 +31,7 @@ crossingSaving out put p q r s x y z w =
 abbrev pub Saves : (out put : ℕ → ℕ → ℕ) → (p q r s x y z w : ℕ) → Type 0
 Saves out put p q r s x y z w = gains? (labelSaving out put p q r s x y z w) ≡ true
 
--- the 3-opt moves of 01's crossing: what its edge pq and centres r and s have to be, with x, y the other ends of r and
+-- the 3-opt moves of a closing: what its edge pq and centres r and s have to be, with x, y the other ends of r and
 -- z, w those of s (refusal 15)
 pub record ThreeOptMoves (K : List Edge) (p q r s x y z w : ℕ) : Type 0 where
   pub edge-of-K : Has K p q
@@ -44,7 +44,7 @@ pub record ThreeOptMoves (K : List Edge) (p q r s x y z w : ℕ) : Type 0 where
   pub ends-r : DegreeTwo K r x y
   pub ends-s : DegreeTwo K s z w
 
--- the closing settles K: some labelling of the centres' ends saves on both moves (refusal 16).
+-- the closing closes K: some labelling of the centres' ends saves on both moves (refusal 16).
 -- 01's four labellings are the four ways to name the ends, since x, y and z, w may each be swapped in `DegreeTwo`.
 pub record Closes (out put : ℕ → ℕ → ℕ) (K : List Edge) (p q r s : ℕ) : Type 0 where
   pub x : ℕ
@@ -54,11 +54,11 @@ pub record Closes (out put : ℕ → ℕ → ℕ) (K : List Edge) (p q r s : ℕ
   pub moves : ThreeOptMoves K p q r s x y z w
   pub saves : Saves out put p q r s x y z w
 
--- a 3-opt closing that settles nothing (refusal 16)
+-- a 3-opt closing that closes nothing (refusal 16)
 pub record Unsaved (out put : ℕ → ℕ → ℕ) (K : List Edge) (p q r s : ℕ) : Type 0 where
   pub x : ℕ
   pub y : ℕ
   pub z : ℕ
   pub w : ℕ
   pub moves : ThreeOptMoves K p q r s x y z w
-  pub unsettled : Closes out put K p q r s → ⊥
+  pub unclosed : Closes out put K p q r s → ⊥

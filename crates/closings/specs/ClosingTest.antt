@@ -10,7 +10,7 @@ use Rattle.sets.specs.Neighbours.{endsOf}
 use Rattle.sets.specs.declared.neighbours.Ends.{Ends}
 use Rattle.sets.specs.declared.neighbours.Ends.the-variants.{Two, Other}
 use Rattle.closings.specs.declared.closing.ThreeOptOutcome.{ThreeOptOutcome}
-use Rattle.closings.specs.declared.closing.ThreeOptOutcome.the-variants.{Settled, NoMoves, NoSaving}
+use Rattle.closings.specs.declared.closing.ThreeOptOutcome.the-variants.{Closed, NoMoves, NoSaving}
 
 -- both moves save by this labelling
 unfoldable pub saves? : (out put : ℕ → ℕ → ℕ) → ℕ → ℕ → ℕ → ℕ → ℕ → ℕ → ℕ → ℕ → Bool
@@ -31,17 +31,17 @@ unfoldable pub placed? : List Edge → ℕ → ℕ → ℕ → ℕ → Bool
 placed? K p q r s = has? K p q && (centresApart? p q r s && not (has? K r s))
 
 -- with the ends of the two centres: 15 unless each has two, then 16 unless a labelling saves
-unfoldable pub settledBy : (out put : ℕ → ℕ → ℕ) → ℕ → ℕ → ℕ → ℕ → Ends → Ends → ThreeOptOutcome
-settledBy out put p q r s (Two x y) (Two z w) = cond (labelling? out put p q r s x y z w) Settled NoSaving
-settledBy out put p q r s (Two x y) Other = NoMoves
-settledBy out put p q r s Other e = NoMoves
+unfoldable pub closedBy : (out put : ℕ → ℕ → ℕ) → ℕ → ℕ → ℕ → ℕ → Ends → Ends → ThreeOptOutcome
+closedBy out put p q r s (Two x y) (Two z w) = cond (labelling? out put p q r s x y z w) Closed NoSaving
+closedBy out put p q r s (Two x y) Other = NoMoves
+closedBy out put p q r s Other e = NoMoves
 
 -- what the closing with the edge pq and the centres r and s comes to under K
 unfoldable pub threeOptOutcome : (out put : ℕ → ℕ → ℕ) → List Edge → ℕ → ℕ → ℕ → ℕ → ThreeOptOutcome
-threeOptOutcome out put K p q r s = cond (placed? K p q r s) (settledBy out put p q r s (endsOf K r) (endsOf K s)) NoMoves
+threeOptOutcome out put K p q r s = cond (placed? K p q r s) (closedBy out put p q r s (endsOf K r) (endsOf K s)) NoMoves
 
 -- 01's refusal for each answer, 0 where it refuses nothing
 unfoldable pub refusalOf : ThreeOptOutcome → ℕ
-refusalOf Settled = 0
+refusalOf Closed = 0
 refusalOf NoMoves = 15
 refusalOf NoSaving = 16

@@ -1,4 +1,4 @@
-// The 3-opt closing (01, "Arguments": a crossing): its conditions, and the labelling that saves on both moves. What is
+// The 3-opt closing (01, "Arguments"): its conditions, and the labelling that saves on both moves. What is
 // taken out is measured by the table `out`, what is put in by the table `put`.
 use lengths::saving::saving;
 use lengths::sums::length_of_three;
@@ -12,9 +12,9 @@ ghost use Rattle.closings.specs.ClosingTest.{centresApart?, placed?, sav
 ghost use Rattle.closings.specs.asks.ClosingTest.{Labelled, ThreeOptAsked, pick};
 ghost use Rattle.sets.specs.asks.Stored.{edgeList, Stored};
 
-// What a 3-opt closing (01's crossing) comes to. 01's refusals: NoMoves is 15, NoSaving is 16, and Settled is none.
+// What a 3-opt closing comes to. 01's refusals: NoMoves is 15, NoSaving is 16, and Closed is none.
 pub enum ThreeOptOutcome {
-    Settled,
+    Closed,
     NoMoves,
     NoSaving,
 }
@@ -131,7 +131,7 @@ fn well_placed(k: EdgeSet, p: u16, q: u16, r: u16, s: u16) -> bool
     !k.has(r, s)
 }
 
-// Does the 3-opt closing with the edge pq and the centres r and s (01's crossing) settle k?
+// Does the 3-opt closing with the edge pq and the centres r and s close k?
 pub fn close_by_three_opt(
     n: u16,
     out: &[u8],
@@ -155,7 +155,7 @@ pub fn close_by_three_opt(
         return ThreeOptOutcome::NoMoves;
     };
     if some_labelling_saves(n, out, put, p, q, r, s, x, y, z, w) {
-        return ThreeOptOutcome::Settled;
+        return ThreeOptOutcome::Closed;
     }
     ThreeOptOutcome::NoSaving
 }

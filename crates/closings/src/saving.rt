@@ -1,4 +1,4 @@
-// How much a 3-opt closing saves (02, Paper 5: a crossing), by a table of what is taken out and a table
+// How much a 3-opt closing saves (02, Paper 5), by a table of what is taken out and a table
 // of what is put in.
 use lengths::saving::larger;
 use lengths::saving::saving;
@@ -7,7 +7,7 @@ use lengths::sums::length_of_three;
 ghost use mathlib.Core.Path.{_≡_};
 ghost use Rattle.endian.specs.Bytes.{whole32};
 ghost use Rattle.lengths.specs.Table.{lengthIn};
-ghost use Rattle.closings.specs.Closing.{labelSaving, crossingSaving};
+ghost use Rattle.closings.specs.Closing.{labelSaving, threeOptSaving};
 ghost use Rattle.closings.specs.asks.ClosingTest.{Labelled};
 
 // The saving by one labelling: the smaller of its two moves', rs, px, qw for pq, rx, sw, and rs, pz, qy for pq, ry, sz.
@@ -39,7 +39,7 @@ fn label_saving(
 }
 
 // The best of the four labellings: x, y swapped or not, z, w swapped or not.
-pub fn crossing_saving(
+pub fn three_opt_saving(
     n: u16,
     out: &[u8],
     put: &[u8],
@@ -53,7 +53,7 @@ pub fn crossing_saving(
     w: u16,
 ) -> i64
     requires { ⌜ Labelled n (whole32 (now out)) p q r s x y z w × Labelled n (whole32 (now put)) p q r s x y z w ⌝ }
-    ensures { λ a. ⌜ a ≡ crossingSaving (lengthIn n (now (out .entry))) (lengthIn n (now (put .entry))) p q r s x y z w ⌝ }
+    ensures { λ a. ⌜ a ≡ threeOptSaving (lengthIn n (now (out .entry))) (lengthIn n (now (put .entry))) p q r s x y z w ⌝ }
 {
     let as_named = label_saving(n, out, put, p, q, r, s, x, y, z, w);
     let s_swapped = label_saving(n, out, put, p, q, r, s, x, y, w, z);

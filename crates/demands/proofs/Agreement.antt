@@ -9,11 +9,11 @@ use lib.ListN.{length}
 use Rattle.endian.specs.Bytes.{whole16, whole32}
 use Rattle.lengths.specs.Edge.{edgeCount}
 use Rattle.lengths.specs.Instance.{inRange, mostLength}
-use Rattle.lengths.proofs.Limits.{order-same}
+use Rattle.lengths.proofs.AtMostTests.{order-same}
 use Rattle.lists.specs.Test.{allAtMost, eachAtMost, unless}
 use Rattle.marks.specs.Mark.{struckMark}
 use Rattle.marks.specs.Packed.{marksOf}
-use Rattle.admission.specs.Tests.{testedTable, testedLimits, untilMarks, testedBetween, readyBetween, tested, untilPending, ready}
+use Rattle.admission.specs.Tests.{testedTable, testedIntervals, untilMarks, testedBetween, readyBetween, tested, untilPending, ready}
 use Rattle.marking.specs.MarkBetween.{markBetween, markBetweenPacked}
 use Rattle.marking.specs.ListBetween.{listedBetween}
 use Rattle.marking.specs.Listing.{listTested, listed, listLeft}
@@ -27,9 +27,9 @@ use Rattle.demands.specs.Run.{Call, Step, marking, marking-between, oneT
 
 module _ (n : ℕ) (table marks : List ℕ) where
   -- the tests: 2 and 5 made a second time refuse nothing more, and 25 refuses nothing
-  limits-agree : testedLimits n table table ≡ testedTable n table
-  unfolding testedLimits testedTable
-  limits-agree = by (inRange n) (eqb (length table) (edgeCount n)) (allAtMost mostLength table) (eachAtMost table table) (order-same table)
+  intervals-agree : testedIntervals n table table ≡ testedTable n table
+  unfolding testedIntervals testedTable
+  intervals-agree = by (inRange n) (eqb (length table) (edgeCount n)) (allAtMost mostLength table) (eachAtMost table table) (order-same table)
     where
       by : (a b c d : Bool) → d ≡ true →
           unless a (Refused 1) (unless b (Refused 2) (unless b (Refused 2) (unless c (Refused 5) (unless c (Refused 5) (unless d (Refused 25) (Points n))))))
@@ -42,7 +42,7 @@ module _ (n : ℕ) (table marks : List ℕ) where
 
   pub tested-agrees : testedBetween n table table marks ≡ tested n table marks
   unfolding testedBetween tested
-  tested-agrees = ap (λ (t : Tested). untilMarks t marks) limits-agree
+  tested-agrees = ap (λ (t : Tested). untilMarks t marks) intervals-agree
 
   pub ready-agrees : readyBetween n table table marks ≡ ready n table marks
   unfolding readyBetween ready

@@ -21,7 +21,7 @@ use Rattle.marks.specs.Packed.{marksOf}
 use Rattle.marks.proofs.PackedSets.{repacked-same}
 use Rattle.argument.specs.Sheet.{Result}
 use Rattle.marking.specs.Mark.{turnedDown, markTested, markBy, repack, markPackedBy}
-use Rattle.admission.specs.Tests.{testedTable, tested, untilPending, ready, testedLimits, untilMarks, testedBetween, readyBetween}
+use Rattle.admission.specs.Tests.{testedTable, tested, untilPending, ready, testedIntervals, untilMarks, testedBetween, readyBetween}
 use Rattle.admission.specs.declared.tested.Tested.{Tested}
 use Rattle.admission.specs.declared.tested.Tested.the-variants.{Points, Refused}
 use Rattle.admission.proofs.Passed.{range-admits}
@@ -55,19 +55,19 @@ module _ (n m : ℕ) (some : leastPoints ≤ n) (other : m ≡ n → ⊥) where
   tested-another table marks whole = ap (λ (t : Tested). untilMarks t marks) (table-another table whole)
 
   -- marking and asking, over a packed set
-  pub mark-another : (by : ℕ) (table set s : List ℕ) → length table ≡ edgeCount n
-      → markPackedBy by m table set s ≡ turnedDown (cond (inRange m) 2 1) set
+  pub mark-another : (mark : ℕ) (table set s : List ℕ) → length table ≡ edgeCount n
+      → markPackedBy mark m table set s ≡ turnedDown (cond (inRange m) 2 1) set
   unfolding markPackedBy markBy ready
-  mark-another by table set s whole =
-      ap (λ (t : Tested). repack m set (markTested by (untilPending t (marksOf m set)) table table (marksOf m set) s))
+  mark-another mark table set s whole =
+      ap (λ (t : Tested). repack m set (markTested mark (untilPending t (marksOf m set)) table table (marksOf m set) s))
       (tested-another table (marksOf m set) whole)
       ∙ ap (turnedDown (cond (inRange m) 2 1)) (repacked-same m set)
 
   -- over low and high
-  limits-another : (low high : List ℕ) → (length low ≡ edgeCount n) ⊎ (length high ≡ edgeCount n)
-      → testedLimits m low high ≡ Refused (cond (inRange m) 2 1)
-  unfolding testedLimits
-  limits-another low high whole = by (inRange m) refl
+  intervals-another : (low high : List ℕ) → (length low ≡ edgeCount n) ⊎ (length high ≡ edgeCount n)
+      → testedIntervals m low high ≡ Refused (cond (inRange m) 2 1)
+  unfolding testedIntervals
+  intervals-another low high whole = by (inRange m) refl
     where
       rest : Tested
       rest =
@@ -97,7 +97,7 @@ module _ (n m : ℕ) (some : leastPoints ≤ n) (other : m ≡ n → ⊥) where
   mark-between-another low high set s whole =
       let held = marksOf m set in
       ap (λ (t : Tested). repack m set (markTested struckMark (untilPending (untilMarks t held) held) low high held s))
-      (limits-another low high whole)
+      (intervals-another low high whole)
       ∙ ap (turnedDown (cond (inRange m) 2 1)) (repacked-same m set)
 
   -- IN C: the answer is the refusal number alone, and the packed set is as it was
@@ -105,11 +105,11 @@ module _ (n m : ℕ) (some : leastPoints ≤ n) (other : m ≡ n → ⊥) where
   unfolding resultNumber
   turned-number k set = omega arith
 
-  pub mark-another-in-C : (by : ℕ) (table set s : List ℕ) {r : ℕ} {left : List ℕ} → length (whole32 table) ≡ edgeCount n
-      → MarkedInC by m table set s r left
+  pub mark-another-in-C : (mark : ℕ) (table set s : List ℕ) {r : ℕ} {left : List ℕ} → length (whole32 table) ≡ edgeCount n
+      → MarkedInC mark m table set s r left
       → (r ≡ cond (inRange m) 2 1) × (left ≡ set)
-  mark-another-in-C by table set s whole c =
-      let e = mark-another by (whole32 table) set _ whole in
+  mark-another-in-C mark table set s whole c =
+      let e = mark-another mark (whole32 table) set _ whole in
       (c .answered ∙ ap resultNumber e ∙ turned-number (cond (inRange m) 2 1) set, c .set-left ∙ ap (λ (x : Result (List ℕ)). x .marks) e)
 
   pub mark-between-another-in-C : (low high set s : List ℕ) {r : ℕ} {left : List ℕ}

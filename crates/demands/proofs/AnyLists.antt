@@ -22,18 +22,18 @@ use Rattle.demands.proofs.SheetLines.{lines-marked}
 
 module _ (lists : List ℕ → List Edge → ℕ → List Edge) where
   -- MARKING AND ASKING over one table
-  pub mark-any-lists : (by n : ℕ) (table set s : List ℕ) → ListsExactly n table table lists → Passes n table (marksOf n set) s →
-      markPackedBy by n table set s ≡ repack n set (sheet (markingListed (markingBy by n table) lists) s (marksOf n set))
+  pub mark-any-lists : (mark n : ℕ) (table set s : List ℕ) → ListsExactly n table table lists → Passes n table (marksOf n set) s →
+      markPackedBy mark n table set s ≡ repack n set (sheet (markingListed (markingBy mark n table) lists) s (marksOf n set))
   unfolding markPackedBy markBy
-  mark-any-lists by n table set s exactly p =
+  mark-any-lists mark n table set s exactly p =
       ap (repack n set) (
-      lines-marked by n table table (marksOf n set) s (ready n table (marksOf n set)) (p .points) (p .whole)
-      ∙ sym (sheet-any-list (markingBy by n table) (lawful-between n table table) lists exactly s (marksOf n set))
+      lines-marked mark n table table (marksOf n set) s (ready n table (marksOf n set)) (p .points) (p .whole)
+      ∙ sym (sheet-any-list (markingBy mark n table) (lawful-between n table table) lists exactly s (marksOf n set))
       )
 
-  pub mark-any-lists-in-C : (by n : ℕ) (table set s : List ℕ) → ListsExactly n (whole32 table) (whole32 table) lists → Passes n (whole32 table) (marksOf n set) (whole16 s) →
-      markInC by n table set s ≡ repack n set (sheet (markingListed (markingBy by n (whole32 table)) lists) (whole16 s) (marksOf n set))
-  mark-any-lists-in-C by n table set s = mark-any-lists by n (whole32 table) set (whole16 s)
+  pub mark-any-lists-in-C : (mark n : ℕ) (table set s : List ℕ) → ListsExactly n (whole32 table) (whole32 table) lists → Passes n (whole32 table) (marksOf n set) (whole16 s) →
+      markInC mark n table set s ≡ repack n set (sheet (markingListed (markingBy mark n (whole32 table)) lists) (whole16 s) (marksOf n set))
+  mark-any-lists-in-C mark n table set s = mark-any-lists mark n (whole32 table) set (whole16 s)
 
   -- and over low and high
   pub between-any-lists : (n : ℕ) (low high set s : List ℕ) → ListsExactly n low high lists → PassesBetween n low high (marksOf n set) s →

@@ -63,12 +63,12 @@ same-test false true f g = f .1 (g .0 refl)
 same-test false false f g = refl
 
 -- what the answer can be: a test's refusal, 17, or a length and a flag
-data Found (n : ℕ) (table marks t : List ℕ) (answer : Checked) : Type 0 where
-  early : (k : ℕ) → tested n table marks ≡ tests.Refused k → 1 ≤ k → k ≤ 6 → answer ≡ checked.Refused k 0 → Found n table marks t answer
-  none : tested n table marks ≡ tests.Points n → (Tour n t → ⊥) → answer ≡ checked.Refused 17 0 → Found n table marks t answer
+data TourFound (n : ℕ) (table marks t : List ℕ) (answer : Checked) : Type 0 where
+  early : (k : ℕ) → tested n table marks ≡ tests.Refused k → 1 ≤ k → k ≤ 6 → answer ≡ checked.Refused k 0 → TourFound n table marks t answer
+  none : tested n table marks ≡ tests.Points n → (Tour n t → ⊥) → answer ≡ checked.Refused 17 0 → TourFound n table marks t answer
   some : (sum : ℕ) (all-open : Bool) → tested n table marks ≡ tests.Points n → TourTold n table marks t sum all-open
       → answer ≡ checked.Tour sum all-open
-      → Found n table marks t answer
+      → TourFound n table marks t answer
 
 not-passed : {r : Tested} {k n : ℕ} → r ≡ tests.Refused k → r ≡ tests.Points n → ⊥
 not-passed e f = let z : _≡_ {A = ℕ} 0 1 = cc in omega arith
@@ -90,21 +90,21 @@ module _ (n : ℕ) (table marks t : List ℕ) where
     );
   }
 
-  found : Found n table marks t (tourChecked n table marks t)
+  found : TourFound n table marks t (tourChecked n table marks t)
   unfolding tourChecked
   found = go (tested n table marks) refl
     where
       behind : tested n table marks ≡ tests.Points n → (b : Bool) → isTour n t ≡ b
-          → Found n table marks t
+          → TourFound n table marks t
           (unless b (checked.Refused 17 0) (checked.Tour (tourLength (lengthOf n table) t) (every (unstruckIn n marks) (closedEdges t))))
       behind e true h = some _ _ e (told (is-tour-exact n t .0 h)) refl
       behind e false h = none e (λ T. false≢true (sym h ∙ is-tour-exact n t .1 T)) refl
 
-      go : (r : Tested) → tested n table marks ≡ r → Found n table marks t (checkTested r table marks t)
+      go : (r : Tested) → tested n table marks ≡ r → TourFound n table marks t (checkTested r table marks t)
       go (tests.Refused k) e = early k e (tests-number n table marks k e .0) (tests-number n table marks k e .1) refl
       go (tests.Points p) e =
           let q = passed e .same in
-          subst (λ (m : ℕ). Found n table marks t (checkTested (tests.Points m) table marks t)) (sym q)
+          subst (λ (m : ℕ). TourFound n table marks t (checkTested (tests.Points m) table marks t)) (sym q)
           (behind (e ∙ ap tests.Points q) (isTour n t) refl)
 
   abbrev answer : Checked
@@ -114,12 +114,12 @@ module _ (n : ℕ) (table marks t : List ℕ) where
   pub tour-refused : (tourChecked n table marks t ≡ checked.Refused 17 0) ↔ ((tested n table marks ≡ tests.Points n) × (Tour n t → ⊥))
   tour-refused = (to found, from found)
     where
-      to : Found n table marks t answer → answer ≡ checked.Refused 17 0 → (tested n table marks ≡ tests.Points n) × (Tour n t → ⊥)
+      to : TourFound n table marks t answer → answer ≡ checked.Refused 17 0 → (tested n table marks ≡ tests.Points n) × (Tour n t → ⊥)
       to (early k r l g e) h = let f : k ≡ 17 = cc in absurd (omega arith)
       to (none p f e) h = (p, f)
       to (some sum o p T e) h = let z : _≡_ {A = ℕ} 0 1 = cc in absurd (omega arith)
 
-      from : Found n table marks t answer → (tested n table marks ≡ tests.Points n) × (Tour n t → ⊥) → answer ≡ checked.Refused 17 0
+      from : TourFound n table marks t answer → (tested n table marks ≡ tests.Points n) × (Tour n t → ⊥) → answer ≡ checked.Refused 17 0
       from (early k r l g e) h = absurd (not-passed r (h .0))
       from (none p f e) h = e
       from (some sum o p T e) h = absurd (h .1 (T .tour))
@@ -130,7 +130,7 @@ module _ (n : ℕ) (table marks t : List ℕ) where
       ↔ ((tested n table marks ≡ tests.Points n) × TourTold n table marks t sum all-open)
   tour-told sum all-open = (to found, from found)
     where
-      to : Found n table marks t answer → answer ≡ checked.Tour sum all-open
+      to : TourFound n table marks t answer → answer ≡ checked.Tour sum all-open
           → (tested n table marks ≡ tests.Points n) × TourTold n table marks t sum all-open
       to (early k r l g e) h = let z : _≡_ {A = ℕ} 0 1 = cc in absurd (omega arith)
       to (none p f e) h = let z : _≡_ {A = ℕ} 0 1 = cc in absurd (omega arith)
@@ -139,7 +139,7 @@ module _ (n : ℕ) (table marks t : List ℕ) where
           let g : o ≡ all-open = cc in
           (p, subst (λ (x : Bool). TourTold n table marks t sum x) g (subst (λ (x : ℕ). TourTold n table marks t x o) f T))
 
-      from : Found n table marks t answer → (tested n table marks ≡ tests.Points n) × TourTold n table marks t sum all-open
+      from : TourFound n table marks t answer → (tested n table marks ≡ tests.Points n) × TourTold n table marks t sum all-open
           → answer ≡ checked.Tour sum all-open
       from (early k r l g e) h = absurd (not-passed r (h .0))
       from (none p f e) h = absurd (f (h .1 .tour))
@@ -176,7 +176,7 @@ module _ (n : ℕ) (table set t : List ℕ) where
   unfolding checkedNumber
   tour-refused-in-C = (to (found n lengths marks points), λ h. number-is (tour-refused n lengths marks points .1 h))
     where
-      to : Found n lengths marks points (tourChecked n lengths marks points) → tourInC n table set t ≡ 17
+      to : TourFound n lengths marks points (tourChecked n lengths marks points) → tourInC n table set t ≡ 17
           → (tested n lengths marks ≡ tests.Points n) × (Tour n points → ⊥)
       to (early k r l g e) h = let f = number-is e in absurd (omega arith)
       to (none p f e) h = (p, f)
@@ -187,7 +187,7 @@ module _ (n : ℕ) (table set t : List ℕ) where
   unfolding checkedNumber
   tour-told-in-C sum all-open = (to (found n lengths marks points), λ h. number-is (tour-told n lengths marks points sum all-open .1 h))
     where
-      to : Found n lengths marks points (tourChecked n lengths marks points) → tourInC n table set t ≡ 65536 * sum + openNumber all-open
+      to : TourFound n lengths marks points (tourChecked n lengths marks points) → tourInC n table set t ≡ 65536 * sum + openNumber all-open
           → (tested n lengths marks ≡ tests.Points n) × TourTold n lengths marks points sum all-open
       to (early k r l g e) h = absurd (small-apart k sum all-open l (omega arith) (sym (number-is e) ∙ h))
       to (none p f e) h = absurd (small-apart 17 sum all-open (omega arith) (omega arith) (sym (number-is e) ∙ h))

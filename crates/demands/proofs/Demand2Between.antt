@@ -22,7 +22,7 @@ use Rattle.demands.proofs.SheetLines.{judged-exact, lines-marked, answe
 
 -- DEMAND 2 over two tables: a line, entered as record i, is accepted exactly when it is a complete line by the rules over low and high: it names two different
 -- points, their edge is open, and a complete argument for it is laid out behind the record, at most six splits deep, whose cases are the pairs that are feasible
--- over low and high and whose closings settle over low and high.
+-- over low and high and whose closings close over low and high.
 -- The walk accepts exactly the complete arguments laid out there (`judged-exact`), since these rules are lawful like those over one table.
 pub demand-2-between :
     (n : ℕ) (low high marks sheet : List ℕ) (i a b next highest : ℕ) →

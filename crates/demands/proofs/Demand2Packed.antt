@@ -36,72 +36,72 @@ unfolding repacked
 repack-well n set well r = ap (λ (t : Bool). record { marks = cond t (packed (r .marks)) set; lines = r .lines; verdict = r .verdict }) well
 
 -- what is said of a call over a well packed set, whose answer on the marks that it holds is as demand 2 has it
-module _ (by n : ℕ) (out put set s : List ℕ) (well : wellPacked n set ≡ true) (answer : Result (List ℕ))
-    (exact : (r : Result (List ℕ)) → (answer ≡ r) ↔ Answers (markingBetween by n out put) s (start (marksOf n set)) r) where
-  answers-packed : (q : Result (List ℕ)) → (repack n set answer ≡ q) ↔ AnswersPacked (markingBetween by n out put) s (marksOf n set) q
+module _ (mark n : ℕ) (out put set s : List ℕ) (well : wellPacked n set ≡ true) (answer : Result (List ℕ))
+    (exact : (r : Result (List ℕ)) → (answer ≡ r) ↔ Answers (markingBetween mark n out put) s (start (marksOf n set)) r) where
+  answers-packed : (q : Result (List ℕ)) → (repack n set answer ≡ q) ↔ AnswersPacked (markingBetween mark n out put) s (marksOf n set) q
   answers-packed q = (
     λ e. record { result = answer; answers = exact answer .0 refl; packs = sym e ∙ repack-well n set well answer },
     λ m. ap (repack n set) (exact (m .result) .1 (m .answers)) ∙ repack-well n set well (m .result) ∙ sym (m .packs),
   )
 
   -- the set that is left holds the marks that the lines leave, so what they change is what the set's marks change
-  changes-packed : ByteSet n (answer .marks) → (q : Result (List ℕ)) (m : AnswersPacked (markingBetween by n out put) s (marksOf n set) q) (struck : List Edge) →
-      Changes by n (marksOf n set) (m .result .marks) struck (m .result .lines) → Changes by n (marksOf n set) (marksOf n (q .marks)) struck (q .lines)
+  changes-packed : ByteSet n (answer .marks) → (q : Result (List ℕ)) (m : AnswersPacked (markingBetween mark n out put) s (marksOf n set) q) (struck : List Edge) →
+      Changes mark n (marksOf n set) (m .result .marks) struck (m .result .lines) → Changes mark n (marksOf n set) (marksOf n (q .marks)) struck (q .lines)
   changes-packed kept q m struck changes =
-      subst (λ (a : Result (List ℕ)). Changes by n (marksOf n set) (marksOf n (a .marks)) struck (a .lines)) (sym (m .packs))
-      (subst (λ (left : List ℕ). Changes by n (marksOf n set) left struck (m .result .lines)) (sym held) changes)
+      subst (λ (a : Result (List ℕ)). Changes mark n (marksOf n set) (marksOf n (a .marks)) struck (a .lines)) (sym (m .packs))
+      (subst (λ (left : List ℕ). Changes mark n (marksOf n set) left struck (m .result .lines)) (sym held) changes)
     where
       held : marksOf n (packed (m .result .marks)) ≡ m .result .marks
       held = marks-packed (subst (λ (a : Result (List ℕ)). ByteSet n (a .marks)) (exact (m .result) .1 (m .answers)) kept)
 
 -- what a call leaves, whatever its tests come to, holds the marks that are left: a set that is not well packed is refused and stays
-module _ (by n : ℕ) (out put set s : List ℕ) where
-  held-left : by ≤ pendingMark → (t : Tested) → ((p : ℕ) → t ≡ Points p → wellPacked n set ≡ true) →
-      marksOf n (repack n set (markTested by t out put (marksOf n set) s) .marks) ≡ markTested by t out put (marksOf n set) s .marks
+module _ (mark n : ℕ) (out put set s : List ℕ) where
+  held-left : mark ≤ pendingMark → (t : Tested) → ((p : ℕ) → t ≡ Points p → wellPacked n set ≡ true) →
+      marksOf n (repack n set (markTested mark t out put (marksOf n set) s) .marks) ≡ markTested mark t out put (marksOf n set) s .marks
   held-left l (Refused number) told = ap (marksOf n) (repacked-same n set)
   held-left l (Points p) told =
-      let r = markTested by (Points p) out put (marksOf n set) s in
-      ap (λ (q : Result (List ℕ)). marksOf n (q .marks)) (repack-well n set (told p refl) r) ∙ marks-packed (tested-byte-set by out put s l (held-set set (told p refl)) (Points p))
+      let r = markTested mark (Points p) out put (marksOf n set) s in
+      ap (λ (q : Result (List ℕ)). marksOf n (q .marks)) (repack-well n set (told p refl) r) ∙ marks-packed (tested-byte-set mark out put s l (held-set set (told p refl)) (Points p))
 
--- over one table, marked (`by` struck) or asked (`by` pending)
-module _ (by n : ℕ) (table set s : List ℕ) where
+-- over one table, marked (`mark` struck) or asked (`mark` pending)
+module _ (mark n : ℕ) (table set s : List ℕ) where
   well-passed : {p : ℕ} → ready n table (marksOf n set) ≡ Points p → wellPacked n set ≡ true
   well-passed e = passed-well set (both-passed (passed (ready-tested e .tests)))
 
   module _ (p : Passes n table (marksOf n set) s) where
     -- DEMAND 2 for a sheet over a packed set: a call that passes the tests up to 7 answers and leaves q exactly when a chain of complete lines from record 1 on leads to a place
     -- where the sheet stops, with the verdict and the number of lines of that place, and q has the packed set of its marks
-    pub demand-2-sheet-packed : (q : Result (List ℕ)) → (markPackedBy by n table set s ≡ q) ↔ AnswersPacked (markingBy by n table) s (marksOf n set) q
+    pub demand-2-sheet-packed : (q : Result (List ℕ)) → (markPackedBy mark n table set s ≡ q) ↔ AnswersPacked (markingBy mark n table) s (marksOf n set) q
     unfolding markPackedBy
-    demand-2-sheet-packed = answers-packed by n table table set s (well-passed (p .points)) (markBy by n table (marksOf n set) s) (demand-2-sheet by n table (marksOf n set) s p)
+    demand-2-sheet-packed = answers-packed mark n table table set s (well-passed (p .points)) (markBy mark n table (marksOf n set) s) (demand-2-sheet mark n table (marksOf n set) s p)
 
-    pub demand-2-whole-packed : (lines : List Struck) (q : Place (List ℕ)) → CompleteLines (markingBy by n table) s (start (marksOf n set)) lines q → q .index ≡ 0 →
-        markPackedBy by n table set s ≡ record { marks = packed (q .marks); lines = length lines; verdict = accepted tt }
+    pub demand-2-whole-packed : (lines : List Struck) (q : Place (List ℕ)) → CompleteLines (markingBy mark n table) s (start (marksOf n set)) lines q → q .index ≡ 0 →
+        markPackedBy mark n table set s ≡ record { marks = packed (q .marks); lines = length lines; verdict = accepted tt }
     unfolding markPackedBy
     demand-2-whole-packed lines q chain z =
-        ap (repack n set) (demand-2-whole by n table (marksOf n set) s p lines q chain z)
+        ap (repack n set) (demand-2-whole mark n table (marksOf n set) s p lines q chain z)
         ∙ repack-well n set (well-passed (p .points)) (record { marks = q .marks; lines = length lines; verdict = accepted tt })
 
-    pub demand-2-refusal-packed : (number rec : ℕ) → markPackedBy by n table set s .verdict ≡ refused number rec → RefusedAt s number rec
+    pub demand-2-refusal-packed : (number rec : ℕ) → markPackedBy mark n table set s .verdict ≡ refused number rec → RefusedAt s number rec
     unfolding markPackedBy
-    demand-2-refusal-packed = demand-2-refusal by n table (marksOf n set) s p
+    demand-2-refusal-packed = demand-2-refusal mark n table (marksOf n set) s p
 
-    pub demand-2-struck-packed : (by ≡ openMark → ⊥) → by ≤ pendingMark → (q : Result (List ℕ)) (m : AnswersPacked (markingBy by n table) s (marksOf n set) q) →
-        Changes by n (marksOf n set) (marksOf n (q .marks)) (struckEdges (m .answers .lines)) (q .lines)
+    pub demand-2-struck-packed : (mark ≡ openMark → ⊥) → mark ≤ pendingMark → (q : Result (List ℕ)) (m : AnswersPacked (markingBy mark n table) s (marksOf n set) q) →
+        Changes mark n (marksOf n set) (marksOf n (q .marks)) (struckEdges (m .answers .lines)) (q .lines)
     demand-2-struck-packed other l q m =
-        changes-packed by n table table set s (well-passed (p .points)) (markBy by n table (marksOf n set) s) (demand-2-sheet by n table (marksOf n set) s p)
-        (mark-byte-set by n table s l (held-set set (well-passed (p .points)))) q m (struckEdges (m .answers .lines))
-        (demand-2-struck by other n table (marksOf n set) s p (m .result) (m .answers))
+        changes-packed mark n table table set s (well-passed (p .points)) (markBy mark n table (marksOf n set) s) (demand-2-sheet mark n table (marksOf n set) s p)
+        (mark-byte-set mark n table s l (held-set set (well-passed (p .points)))) q m (struckEdges (m .answers .lines))
+        (demand-2-struck mark other n table (marksOf n set) s p (m .result) (m .answers))
 
-  -- for every call, refused ones too: the marks that the set holds change at as many edges as lines are accepted, each from open to `by`, and at no other
-  pub demand-2-changes-packed : (by ≡ openMark → ⊥) → by ≤ pendingMark →
-      (struck : List Edge) × Changes by n (marksOf n set) (marksOf n (markPackedBy by n table set s .marks)) struck (markPackedBy by n table set s .lines)
+  -- for every call, refused ones too: the marks that the set holds change at as many edges as lines are accepted, each from open to `mark`, and at no other
+  pub demand-2-changes-packed : (mark ≡ openMark → ⊥) → mark ≤ pendingMark →
+      (struck : List Edge) × Changes mark n (marksOf n set) (marksOf n (markPackedBy mark n table set s .marks)) struck (markPackedBy mark n table set s .lines)
   unfolding markPackedBy markBy
   demand-2-changes-packed other l =
-      let c = demand-2-changes by other n table (marksOf n set) s in (
+      let c = demand-2-changes mark other n table (marksOf n set) s in (
         c .0,
-        subst (λ (left : List ℕ). Changes by n (marksOf n set) left (c .0) (markBy by n table (marksOf n set) s .lines))
-            (sym (held-left by n table table set s l (ready n table (marksOf n set)) (λ q e. well-passed e))) (c .1),
+        subst (λ (left : List ℕ). Changes mark n (marksOf n set) left (c .0) (markBy mark n table (marksOf n set) s .lines))
+            (sym (held-left mark n table table set s l (ready n table (marksOf n set)) (λ q e. well-passed e))) (c .1),
       )
 
 -- over two tables, low and high (02, Paper 11)

@@ -20,7 +20,7 @@ use Rattle.marks.specs.Packed.{packedSize, marksOf}
 use Rattle.tours.specs.Tour.{Uses, Shortest, ThreeOptimal}
 use Rattle.demands.specs.Between.{Between}
 use Rattle.demands.specs.Keeping.{Ordered, Serves, OrderFree}
-use Rattle.demands.specs.Run.{Tables, oneTable, limitsAlone, Call, Step, marking, marking-between, stepsOf, stepsInC, stepIn, lengthsIn, freshFrom, freshIn}
+use Rattle.demands.specs.Run.{Tables, oneTable, intervalsAlone, Call, Step, marking, marking-between, stepsOf, stepsInC, stepIn, lengthsIn, freshFrom, freshIn}
 use Rattle.demands.proofs.OpenEdges.{keeps-degree, keeps-count}
 use Rattle.demands.proofs.PackedRuns.{three-optimal-open-in-C, shortest-open-in-C}
 use Rattle.demands.proofs.Runs.{shortest-open}
@@ -33,8 +33,8 @@ pub one-serves : {n : ℕ} {table : List ℕ} → length table ≡ edgeCount n �
 one-serves {table = table} whole = record { whole = whole; between = λ ordered. same-between table; own = inl refl }
 
 -- limits serve every table between them, whichever board is cut
-pub limits-serve : {n : ℕ} {low high table : List ℕ} → length table ≡ edgeCount n → Between low high table → Serves n (limitsAlone low high) table
-limits-serve whole limits = record { whole = whole; between = λ ordered. limits; own = inr refl }
+pub intervals-serve : {n : ℕ} {low high table : List ℕ} → length table ≡ edgeCount n → Between low high table → Serves n (intervalsAlone low high) table
+intervals-serve whole intervals = record { whole = whole; between = λ ordered. intervals; own = inr refl }
 
 -- and always the low one: where a low length is above its high one, no call over the two is taken
 ordered-between : (n : ℕ) (low high : List ℕ) → length low ≡ edgeCount n → Ordered n low high → Between low high low
@@ -47,12 +47,12 @@ ordered-between n low high whole ordered = record { from-low = λ i. omega arith
         let up : e .a < e .b = e .is-edge .up in
         subst (λ (j : ℕ). getD low j 0 ≤ getD high j 0) (e .at) (omega (arith, ordered (e .a) (e .b), length-up n low (e .a) (e .b) up, length-up n high (e .a) (e .b) up))
 
-pub low-serves : {n : ℕ} {low high : List ℕ} → length low ≡ edgeCount n → Serves n (limitsAlone low high) low
+pub low-serves : {n : ℕ} {low high : List ℕ} → length low ≡ edgeCount n → Serves n (intervalsAlone low high) low
 low-serves {n} {low} {high} whole = record { whole = whole; between = ordered-between n low high whole; own = inr refl }
 
 module _ (n : ℕ) (some : leastPoints ≤ n) (most : n ≤ mostPoints) (before : List ℕ) (sized : length before ≡ packedSize n) where
   module _ (T : Tables) (low-whole : length (whole32 (T .low)) ≡ edgeCount n) (steps : List Step) where
-    -- PAPER 9 in C, where the marks serve some table: the board's own (`one-serves`), one between low and high (`limits-serve`), or the low one (`low-serves`)
+    -- PAPER 9 in C, where the marks serve some table: the board's own (`one-serves`), one between low and high (`intervals-serve`), or the low one (`low-serves`)
     module _ {table : List ℕ} (served : Serves n (lengthsIn T) table) where
       pub two-open-edges-in-C : (v : ℕ) → Point n v → 2 ≤ openDegree n (marksOf n (stepsInC T steps (freshIn n before))) v
       two-open-edges-in-C = keeps-degree n (lengthsIn T) _ some served (shortest-open-in-C n some most before sized T low-whole steps)
@@ -66,17 +66,17 @@ module _ (n : ℕ) (some : leastPoints ≤ n) (most : n ≤ mostPoints) (before 
   module _ (low high : List ℕ) (low-whole : length (whole32 low) ≡ edgeCount n) (calls : List Call) where
     pub three-optimal-open-between-in-C : OrderFree (map stepIn (map marking-between calls)) → (table : List ℕ) → length table ≡ edgeCount n → Between (whole32 low) (whole32 high) table →
         (t : List ℕ) → ThreeOptimal n (lengthOf n table) t → (a b : ℕ) → Uses t a b →
-        markAt (marksOf n (stepsInC (limitsAlone low high) (map marking-between calls) (freshIn n before))) (place n a b) ≡ openMark
+        markAt (marksOf n (stepsInC (intervalsAlone low high) (map marking-between calls) (freshIn n before))) (place n a b) ≡ openMark
     unfolding numbers32 whole32
-    three-optimal-open-between-in-C free table whole limits =
-        three-optimal-open-in-C n some most before sized (limitsAlone low high) low-whole (map marking-between calls) free table (limits-serve whole limits)
+    three-optimal-open-between-in-C free table whole intervals =
+        three-optimal-open-in-C n some most before sized (intervalsAlone low high) low-whole (map marking-between calls) free table (intervals-serve whole intervals)
 
     pub shortest-open-between-in-C : (table : List ℕ) → length table ≡ edgeCount n → Between (whole32 low) (whole32 high) table →
         (t : List ℕ) → Shortest n (lengthOf n table) t → (a b : ℕ) → Uses t a b →
-        markAt (marksOf n (stepsInC (limitsAlone low high) (map marking-between calls) (freshIn n before))) (place n a b) ≡ openMark
+        markAt (marksOf n (stepsInC (intervalsAlone low high) (map marking-between calls) (freshIn n before))) (place n a b) ≡ openMark
     unfolding numbers32 whole32
-    shortest-open-between-in-C table whole limits =
-        shortest-open-in-C n some most before sized (limitsAlone low high) low-whole (map marking-between calls) table (limits-serve whole limits)
+    shortest-open-between-in-C table whole intervals =
+        shortest-open-in-C n some most before sized (intervalsAlone low high) low-whole (map marking-between calls) table (intervals-serve whole intervals)
 
   -- DEMAND 3 in C: for every n from 4 to 180, every table of n(n - 1)/2 lengths, every list of calls of `revosti_mark_sheet` and every shortest tour, each
   -- edge of the tour is open after the run that starts from the set that `revosti_fresh_marks` left in a buffer for this n. Table and sheets are bytes.

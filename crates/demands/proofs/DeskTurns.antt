@@ -25,10 +25,10 @@ module _ {n : ℕ} {table t : List ℕ} {Orders : Type 0} (some : leastPoints �
   -- one line, marked under the marks that it finds, over the table of the turns
   from-kept : (own : List ℕ) → LengthsBetween n own own table → (s : List ℕ) → (HasOrder s → Orders) → (marks : List ℕ) (index owner lines : ℕ) → Kept n t marks →
       Kept n t (turnFrom (markingOf n own) s (waiting marks index owner lines) .marks)
-  from-kept own limits s may marks index owner lines kept =
+  from-kept own intervals s may marks index owner lines kept =
       let at : Place (List ℕ) = waiting marks index owner lines in
       from-keeps (Kept n t) (markingOf n own) s at kept
-      (λ q e. step-safe (markingOf n own) (InTour t) Orders (Kept n t) (guarded some limits best reach struckMark) s may at q kept e)
+      (λ q e. step-safe (markingOf n own) (InTour t) Orders (Kept n t) (guarded some intervals best reach struckMark) s may at q kept e)
 
   -- KEPT: for every state of any bytes, a turn leaves every edge of the tour open, if a call that passes the tests
   -- states the n of the table. A turn that is refused, finds no line or fails a test changes no mark. Else it marks at

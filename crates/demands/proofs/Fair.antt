@@ -24,7 +24,7 @@ use Rattle.desks.specs.declared.turn.Served.{Served}
 use Rattle.desks.specs.declared.turn.Turned.the-variants as turned
 use Rattle.desks.proofs.DeskNumbers.{desk-length, desk-byte, desk-other, line-other, served-length, served-last, served-byte, served-line, distance, distance-falls, next-ahead}
 use Rattle.desks.proofs.HandInAnswers.{short, long, desk-asked}
-use Rattle.desks.proofs.RoundRobin.{Found, following-desk, next-found}
+use Rattle.desks.proofs.RoundRobin.{DeskFound, following-desk, next-found}
 use Rattle.demands.specs.Desks.{Buffers, DeskCall, handing, turning, handedIn, stateAfter, turnsIn, ServedIn, at-once, later, meanwhile, OnlyDesk}
 
 -- a turn with the bytes of a state
@@ -214,7 +214,7 @@ before x e d low high (la, inr p) (lb, inr q) (lc, inr r) h = omega arith
 -- THE ROUND ROBIN takes the nearest: the desk that a turn serves has a line left, and no desk with a line left lies
 -- nearer ahead of the last served
 pub next-nearest : (state : List ℕ) (e : ℕ) → nextDesk state ≡ next.Desk e →
-    Found state e × ((d : ℕ) → 1 ≤ d → d ≤ deskCount → hasLine state d ≡ true → gap e state ≤ gap d state)
+    DeskFound state e × ((d : ℕ) → 1 ≤ d → d ≤ deskCount → hasLine state d ≡ true → gap e state ≤ gap d state)
 next-nearest state e g = (next-found state g, nearest)
   where
     nearest : (d : ℕ) → 1 ≤ d → d ≤ deskCount → hasLine state d ≡ true → gap e state ≤ gap d state

@@ -49,12 +49,12 @@ pub record Kept (n : ℕ) (t marks : List ℕ) : Type 0 where
 pub fresh-kept : {n : ℕ} {t : List ℕ} → leastPoints ≤ n → Tour n t → Kept n t (freshMarks n)
 fresh-kept {n} some tour = record { whole = fresh-size n; all-open = λ a b u. fresh-open (tour-edge tour (omega arith) a b u) }
 
--- `Orders` says whether new orders of segments may occur (02, Paper 10): where it does, none settles edges that the tour uses, over lengths between which the table's lie
+-- `Orders` says whether new orders of segments may occur (02, Paper 10): where it does, none closes edges that the tour uses, over lengths between which the table's lie
 abbrev pub OutOfReach : (n : ℕ) (table t : List ℕ) (Orders : Type 0) → Type 0
 OutOfReach n table t Orders =
     (out put : List ℕ) → LengthsBetween n out put table → Orders → (K : List Edge) (u v : ℕ) (vs : List ℕ) → InTour t K → Reorders (lengthOf n out) (lengthOf n put) K u v vs → ⊥
 
-module _ {n : ℕ} {low high table t : List ℕ} {Orders : Type 0} (some : leastPoints ≤ n) (limits : LengthsBetween n low high table) (best : ThreeOptimal n (lengthOf n table) t)
+module _ {n : ℕ} {low high table t : List ℕ} {Orders : Type 0} (some : leastPoints ≤ n) (intervals : LengthsBetween n low high table) (best : ThreeOptimal n (lengthOf n table) t)
     (reach : OutOfReach n table t Orders) where
   symmetric : Symmetric (lengthOf n table)
   symmetric = length-symmetric n table
@@ -68,45 +68,45 @@ module _ {n : ℕ} {low high table t : List ℕ} {Orders : Type 0} (some : least
         → (x : ℕ) × (y : ℕ) × FeasiblePair n (lengthOf n low) (lengthOf n high) (openIn n marks) K c x y × InTour t (withPair K c x y)
     unfolding withPair
     own K c uses S =
-        (S .x, S .y, feasible-over (limits .under) (limits .over) (S .feasible), inside-cons (edge c (S .y) ∷ K) (closedEdges t) c (S .x) (S .uses-x) (inside-cons K (closedEdges t) c (S .y) (S .uses-y) uses))
+        (S .x, S .y, feasible-over (intervals .under) (intervals .over) (S .feasible), inside-cons (edge c (S .y) ∷ K) (closedEdges t) c (S .x) (S .uses-x) (inside-cons K (closedEdges t) c (S .y) (S .uses-y) uses))
 
-    -- a closing that settles over low and high settles under the table, and none settles edges of the tour
+    -- a closing that closes over low and high closes under the table, and none closes edges of the tour
     upheld : Upheld (rulesBetween n low high marks) (InTour t) Orders
     upheld =
         record {
           keeps = λ K c uses p. own K c uses (optimal-feasible best symmetric (openIn n marks) K (kept .all-open) uses (omega arith) c p);
-          unsettled = λ K p q r s uses c. optimal-not-closed best symmetric K uses p q r s (closes-under (limits .under) (limits .over) c);
-          unordered = reach low high limits;
+          unclosed = λ K p q r s uses c. optimal-not-closed best symmetric K uses p q r s (closes-under (intervals .under) (intervals .over) c);
+          unordered = reach low high intervals;
         }
 
     -- another mark for an edge that the tour does not use leaves the tour's edges open
-    spared : (by a b : ℕ) → IsEdge n a b → (InTour t (edge a b ∷ []) → ⊥) → Kept n t (markIn by n marks a b)
-    spared by a b e unused =
+    spared : (mark a b : ℕ) → IsEdge n a b → (InTour t (edge a b ∷ []) → ⊥) → Kept n t (markIn mark n marks a b)
+    spared mark a b e unused =
         record {
-          whole = length-marked by n marks a b ∙ kept .whole;
-          all-open = λ c d u. marked-other by marks e (used-edge c d u) (λ j. unused (inside-cons [] (closedEdges t) a b (used c d u j) (λ x y k. absurd k))) ∙ kept .all-open c d u;
+          whole = length-marked mark n marks a b ∙ kept .whole;
+          all-open = λ c d u. marked-other mark marks e (used-edge c d u) (λ j. unused (inside-cons [] (closedEdges t) a b (used c d u j) (λ x y k. absurd k))) ∙ kept .all-open c d u;
         }
       where
         used : (c d : ℕ) → Uses t c d → Joins (edge a b) c d → Uses t a b
         used c d u (inl s) = rw (s .0, s .1) u
         used c d u (inr s) = has-sym (closedEdges t) b a (rw (s .0, s .1) u)
 
-  pub guarded : (by : ℕ) → Guarded (markingBetween by n low high) (InTour t) Orders (Kept n t)
-  guarded by =
+  pub guarded : (mark : ℕ) → Guarded (markingBetween mark n low high) (InTour t) Orders (Kept n t)
+  guarded mark =
       record {
         lawful = λ m k. lawful-between n low high m;
         upheld = upheld;
-        spares = λ m a b k pa pb ne o unused. spared m k by a b (record { first = pa; second = pb; apart = ne }) unused;
+        spares = λ m a b k pa pb ne o unused. spared m k mark a b (record { first = pa; second = pb; apart = ne }) unused;
       }
 
   -- what the tests of a call come to: a refusal changes no mark, and a call that passes states the n of the tables
-  pub tested-kept : (by : ℕ) (s marks : List ℕ) → (HasOrder s → Orders) → Kept n t marks → (r : Tested) → ((p : ℕ) → r ≡ Points p → p ≡ n) → Kept n t (markTested by r low high marks s .marks)
-  tested-kept by s marks may kept (Refused k) same = kept
-  tested-kept by s marks may kept (Points p) same = sized (wholeSheet (length s))
+  pub tested-kept : (mark : ℕ) (s marks : List ℕ) → (HasOrder s → Orders) → Kept n t marks → (r : Tested) → ((p : ℕ) → r ≡ Points p → p ≡ n) → Kept n t (markTested mark r low high marks s .marks)
+  tested-kept mark s marks may kept (Refused k) same = kept
+  tested-kept mark s marks may kept (Points p) same = sized (wholeSheet (length s))
     where
-      marked : Kept n t (sheet (markingBetween by n low high) s marks .marks)
-      marked = sheet-safe (markingBetween by n low high) (InTour t) Orders (Kept n t) (guarded by) s may marks kept
+      marked : Kept n t (sheet (markingBetween mark n low high) s marks .marks)
+      marked = sheet-safe (markingBetween mark n low high) (InTour t) Orders (Kept n t) (guarded mark) s may marks kept
 
-      sized : (b : Bool) → Kept n t (unless b (turnedDown 7 marks) (sheet (markingBetween by p low high) s marks) .marks)
-      sized true = subst (λ (q : ℕ). Kept n t (sheet (markingBetween by q low high) s marks .marks)) (sym (same p refl)) marked
+      sized : (b : Bool) → Kept n t (unless b (turnedDown 7 marks) (sheet (markingBetween mark p low high) s marks) .marks)
+      sized true = subst (λ (q : ℕ). Kept n t (sheet (markingBetween mark q low high) s marks .marks)) (sym (same p refl)) marked
       sized false = kept

@@ -18,8 +18,8 @@ use Rattle.marks.specs.Mark.{openIn}
 use Rattle.rules.specs.Pairs.{feasiblePairs}
 use Rattle.sets.specs.Shape.{Shape}
 use Rattle.closings.specs.declared.closing.ThreeOptOutcome.{ThreeOptOutcome}
-use Rattle.closings.specs.declared.closing.ThreeOptOutcome.the-variants.{Settled, NoMoves, NoSaving}
-use Rattle.closings.proofs.ClosingExact.{settled-exact}
+use Rattle.closings.specs.declared.closing.ThreeOptOutcome.the-variants.{Closed, NoMoves, NoSaving}
+use Rattle.closings.proofs.ClosingExact.{closed-exact}
 use Rattle.sets.proofs.Exact.{shape-exact, kept-shape, single-shape}
 use Rattle.rules.proofs.PairLists.{feasiblePairs-rising}
 use Rattle.rules.proofs.PairTests.{feasiblePairs-iff}
@@ -29,19 +29,19 @@ use Rattle.segments.proofs.SegmentExact.{reorder-sound, reorder-complete, reord
 use Rattle.argument.specs.Rules.{Points, NamesFeasible, Reached, single, grown, Lawful}
 use Rattle.sheets.specs.Rules.{rulesWhere, rulesBetween, rulesOf}
 
-zero-settled : (c : ThreeOptOutcome) → refusalOf c ≡ 0 → c ≡ Settled
+zero-closed : (c : ThreeOptOutcome) → refusalOf c ≡ 0 → c ≡ Closed
 unfolding refusalOf
-zero-settled Settled h = refl
-zero-settled NoMoves h = absurd (omega arith)
-zero-settled NoSaving h = absurd (omega arith)
+zero-closed Closed h = refl
+zero-closed NoMoves h = absurd (omega arith)
+zero-closed NoSaving h = absurd (omega arith)
 
-settled-zero : refusalOf Settled ≡ 0
+closed-zero : refusalOf Closed ≡ 0
 unfolding refusalOf
-settled-zero = refl
+closed-zero = refl
 
 refused-number : (c : ThreeOptOutcome) → 1 ≤ refusalOf c → (15 ≤ refusalOf c) × (refusalOf c ≤ 16)
 unfolding refusalOf
-refused-number Settled h = absurd (omega arith)
+refused-number Closed h = absurd (omega arith)
 refused-number NoMoves h = (omega arith, omega arith)
 refused-number NoSaving h = (omega arith, omega arith)
 
@@ -91,8 +91,8 @@ module _ (n : ℕ) (out put : List ℕ) (open? : ℕ → ℕ → Bool) where
   lawful-where =
       record {
         listed = names-feasible;
-        settled = λ K p q r s h. settled-exact (lengthOf n out) (lengthOf n put) K p q r s .0 (zero-settled (threeOptOutcome (lengthOf n out) (lengthOf n put) K p q r s) h);
-        settles = λ K p q r s c. ap refusalOf (settled-exact (lengthOf n out) (lengthOf n put) K p q r s .1 c) ∙ settled-zero;
+        closed = λ K p q r s h. closed-exact (lengthOf n out) (lengthOf n put) K p q r s .0 (zero-closed (threeOptOutcome (lengthOf n out) (lengthOf n put) K p q r s) h);
+        closes = λ K p q r s c. ap refusalOf (closed-exact (lengthOf n out) (lengthOf n put) K p q r s .1 c) ∙ closed-zero;
         pair-points = λ K c x y f. (f .point-x, f .point-y, f .rising);
         three-opt-points = λ K p q r s reached c.
             let w = reached-within reached in

@@ -30,7 +30,7 @@ pub mod Runs
 pub mod SavingsInC
 pub mod SheetLines
 pub mod Sizes
-pub mod Slips
+pub mod Receipts
 pub mod Strikes
 pub mod TestNumbers
 pub mod TextTables

@@ -36,14 +36,14 @@ use Rattle.desks.proofs.DeskNumbers.{desk-length, desk-other, apart, served-len
 use Rattle.desks.proofs.RoundRobin.{next-found}
 use Rattle.revosti.specs.Desk.{handedNumber, deskBit}
 use Rattle.revosti.specs.Mark.{resultNumber, markInC}
-use Rattle.revosti.specs.Slip.{releasedBit, aboveSlip, slipIn}
-use Rattle.slips.specs.Slip.{slipOf}
-use Rattle.slips.proofs.Views.{slip-same}
+use Rattle.revosti.specs.Receipt.{releasedBit, aboveReceipt, receiptIn}
+use Rattle.receipts.specs.Receipt.{receiptOf}
+use Rattle.receipts.proofs.Views.{receipt-same}
 use Rattle.demands.specs.SheetAnswer.{of-marking}
 use Rattle.demands.specs.Desks.{Buffers, turning, stateAfter, Seen, Meanwhile, nothing, hands-in, other-served, served, EndedAlone, MarkedAlone}
 use Rattle.demands.proofs.Fair.{found-asked, state-served, turn-nothing-left, handed-over, HandsIn, refused, taken}
 use Rattle.demands.proofs.Fair as fair
-use Rattle.demands.proofs.Slips.{marked-slip}
+use Rattle.demands.proofs.Receipts.{marked-receipt}
 use Rattle.demands.proofs.OwnTurns.{sheet-passed, Going, Gone, going-line, goes, going-start}
 use Rattle.demands.proofs.TestNumbers.{ready-number}
 
@@ -232,17 +232,17 @@ marked-alone state d n table set s e {turns} {x} m =
     told p w (inr g) = record { few = g .few; ended = λ f. g .ended; part = λ f. absurd (true≢false (sym f ∙ g .free)) }
 
 -- a slip does not read the bits above its own
-slip-above : (k j : ℕ) → slipIn (k + aboveSlip * j) ≡ slipIn k
-unfolding slipIn
-slip-above k j =
-    slip-same (omega arith) (omega arith) (omega arith)
-    (ap (λ (b : ℕ). eqb b 1) (let e : (k + aboveSlip * j) / releasedBit % 2 ≡ k / releasedBit % 2 = omega arith in e))
+receipt-above : (k j : ℕ) → receiptIn (k + aboveReceipt * j) ≡ receiptIn k
+unfolding receiptIn
+receipt-above k j =
+    receipt-same (omega arith) (omega arith) (omega arith)
+    (ap (λ (b : ℕ). eqb b 1) (let e : (k + aboveReceipt * j) / releasedBit % 2 ≡ k / releasedBit % 2 = omega arith in e))
 
 -- THE SLIP: the last answer of a desk whose sheet has ended is the slip of the sheet marked alone, not released
-pub ended-slip : {d n : ℕ} {table set s : List ℕ} {x : Seen} → EndedAlone d n table set s x →
-    slipIn (x .answer) ≡ slipOf (markInC struckMark n table set s)
-ended-slip {d} {n} {table} {set} {s} e =
-    let bits : deskBit * d ≡ aboveSlip * (128 * d) = omega arith in
-    ap slipIn (e .answered ∙ ap (λ (b : ℕ). resultNumber (markInC struckMark n table set s) + b) bits)
-    ∙ slip-above (resultNumber (markInC struckMark n table set s)) (128 * d)
-    ∙ marked-slip (of-marking struckMark n table set s)
+pub ended-receipt : {d n : ℕ} {table set s : List ℕ} {x : Seen} → EndedAlone d n table set s x →
+    receiptIn (x .answer) ≡ receiptOf (markInC struckMark n table set s)
+ended-receipt {d} {n} {table} {set} {s} e =
+    let bits : deskBit * d ≡ aboveReceipt * (128 * d) = omega arith in
+    ap receiptIn (e .answered ∙ ap (λ (b : ℕ). resultNumber (markInC struckMark n table set s) + b) bits)
+    ∙ receipt-above (resultNumber (markInC struckMark n table set s)) (128 * d)
+    ∙ marked-receipt (of-marking struckMark n table set s)

@@ -24,7 +24,7 @@ use Rattle.lengths.specs.declared.outcome.Outcome.the-variants.{Done, Refused}
 use Rattle.lengths.proofs.Coordinates.{x-small, y-small, squares-small}
 use Rattle.lengths.proofs.Distances.{distance-euc2d, euc2d-only, distance-ceil2d, ceil2d-only, distance-att, att-only, distance-man2d, man2d-only, distance-max2d, max2d-only}
 use Rattle.lengths.proofs.Filling.{length-measured, measured-again, measured-length}
-use Rattle.lengths.proofs.Limits.{limit-each}
+use Rattle.lengths.proofs.AtMostTests.{at-most-each}
 use Rattle.lengths.proofs.Tables.{length-self}
 use Rattle.admission.proofs.Passed.{range-admits}
 use Rattle.revosti.specs.Measure.{MeasuredInC}
@@ -136,7 +136,7 @@ demand-2-measure n rule cs table h =
     let z3 = answered (eqb (length (whole32 table)) (edgeCount n)) _ _ Done not-done (z2 .1) in
     let z4 = answered (known (ruleOf rule)) _ _ Done not-done (z3 .1) in
     let z5 = answered (allAtMost mostCoordinate cs) _ _ Done not-done (z4 .1) in
-    by (record { some = omega (arith, range-admits n (z1 .0) .least); small = limit-each mostCoordinate cs (z5 .0) }) (rule-named rule (z4 .0))
+    by (record { some = omega (arith, range-admits n (z1 .0) .least); small = at-most-each mostCoordinate cs (z5 .0) }) (rule-named rule (z4 .0))
   where
     by : Surveyed n cs → Named rule → Measures n rule cs (whole32 (tableAfter n rule cs table))
     by p k = rw (tableAfter, h, k .known, k .same, measured-again (k .rule) cs (p .small) n) (measures n cs p (k .rule))

@@ -1,5 +1,5 @@
--- Lengths between low and high ones (02, Paper 11): a pair that is feasible under them is feasible over low and high, and a closing that settles over low and
--- high settles under them. So over low and high there are no fewer pairs to argue about, and no more closings. Assumes nothing.
+-- Lengths between low and high ones (02, Paper 11): a pair that is feasible under them is feasible over low and high, and a closing that closes over low and
+-- high closes under them. So over low and high there are no fewer pairs to argue about, and no more closings. Assumes nothing.
 use Prim.Native.Nat.{ℕ, _≤_}
 use mathlib.Core.Path.{_≡_, refl}
 use mathlib.Core.Bool.{Bool, true, false}
@@ -55,7 +55,7 @@ module _ {l m h : ℕ → ℕ → ℕ} (low : NoLonger l m) (high : NoLonger m h
         five = λ w s t u v d k uw vw saves. f .five w s t u v d k uw vw (move-under w s t u v saves);
       }
 
-  -- and a closing that settles over l and h settles under m, for the same reason
+  -- and a closing that closes over l and h closes under m, for the same reason
   pub closes-under : {K : List Edge} {p q r s : ℕ} → Closes l h K p q r s → Closes m m K p q r s
   closes-under {p = p} {q} {r} {s} c =
       record { x = c .x; y = c .y; z = c .z; w = c .w; moves = c .moves; saves = saves-under p q r s (c .x) (c .y) (c .z) (c .w) (c .saves) }
@@ -75,7 +75,7 @@ pub record LengthsBetween (n : ℕ) (low high table : List ℕ) : Type 0 where
   pub over : NoLonger (lengthOf n table) (lengthOf n high)
 
 pub lengths-between : (n : ℕ) {low high table : List ℕ} → Between low high table → LengthsBetween n low high table
-lengths-between n {low} {high} {table} limits = record { under = length-no-longer n low table (limits .from-low); over = length-no-longer n table high (limits .to-high) }
+lengths-between n {low} {high} {table} intervals = record { under = length-no-longer n low table (intervals .from-low); over = length-no-longer n table high (intervals .to-high) }
 
 -- one table is all three
 pub lengths-same : {n : ℕ} {table : List ℕ} → LengthsBetween n table table table

@@ -21,9 +21,9 @@ use Rattle.lengths.specs.declared.outcome.Outcome.the-variants as outcome
 use Rattle.marks.specs.Mark.{struckMark, areMarks}
 use Rattle.marks.specs.Fresh.{freshAnswer, freshSetAnswer, freshLeft, freshSetLeft}
 use Rattle.marks.specs.Packed.{ByteSet, packedBytes, packedSize, packed, wellPacked, marksOf, repacked}
-use Rattle.marks.specs.Pending.{settledAnswer, settledLeft, settledSetAnswer, settledSet}
+use Rattle.marks.specs.Pending.{resolvedAnswer, resolvedLeft, resolvedSetAnswer, resolvedSet}
 use Rattle.marks.proofs.PackedSets.{packed-length, well-packed, marks-none, marks-size, marks-are, packed-marks, repacked-same, packed-is-well, marks-packed, some-edges}
-use Rattle.admission.specs.Tests.{testedTable, testedLimits, untilMarks, testedBetween, readyBetween, tested, untilPending, ready}
+use Rattle.admission.specs.Tests.{testedTable, testedIntervals, untilMarks, testedBetween, readyBetween, tested, untilPending, ready}
 use Rattle.marking.specs.MarkBetween.{markBetween, markBetweenPacked}
 use Rattle.marking.specs.ListBetween.{listedBetween}
 use Rattle.marking.specs.Listing.{listTested, listed, listLeft}
@@ -114,10 +114,10 @@ shared-tested n table =
     by marks h true true true = rw h
 
 shared-between : (n : ℕ) (low high : List ℕ) → Shared (testedBetween n low high) n
-unfolding testedBetween testedLimits
+unfolding testedBetween testedIntervals
 shared-between n low high =
     record {
-      outside = λ h marks. rw (testedBetween, testedLimits, h);
+      outside = λ h marks. rw (testedBetween, testedIntervals, h);
       number =
           unless (inRange n) 1 (unless (eqb (length low) (edgeCount n)) 2 (unless (eqb (length high) (edgeCount n)) 2
           (unless (allAtMost mostLength low) 5 (unless (allAtMost mostLength high) 5 (unless (eachAtMost low high) 25 6)))));
@@ -148,20 +148,20 @@ alike tests {n} {bytes} s (other r size q z e) = refused (s .number) (ap tests e
 module _ {p : ℕ} {bytes : List ℕ} (some : leastPoints ≤ p) (b : ByteSet p bytes) (n : ℕ) where
   -- what is marked and listed behind such tests
   module _ (tests : List ℕ → Tested) (shared : Shared tests n) (out put : List ℕ) where
-    marked-alike : (by : ℕ) (s : List ℕ) →
-        repack n (packed bytes) (markTested by (untilPending (tests (marksOf n (packed bytes))) (marksOf n (packed bytes))) out put (marksOf n (packed bytes)) s)
-        ≡ packedResult (markTested by (untilPending (tests bytes) bytes) out put bytes s)
+    marked-alike : (mark : ℕ) (s : List ℕ) →
+        repack n (packed bytes) (markTested mark (untilPending (tests (marksOf n (packed bytes))) (marksOf n (packed bytes))) out put (marksOf n (packed bytes)) s)
+        ≡ packedResult (markTested mark (untilPending (tests bytes) bytes) out put bytes s)
     unfolding repacked
-    marked-alike by s = on (alike tests shared (meet some b n))
+    marked-alike mark s = on (alike tests shared (meet some b n))
       where
         on : Alike tests n bytes →
-            repack n (packed bytes) (markTested by (untilPending (tests (marksOf n (packed bytes))) (marksOf n (packed bytes))) out put (marksOf n (packed bytes)) s)
-            ≡ packedResult (markTested by (untilPending (tests bytes) bytes) out put bytes s)
+            repack n (packed bytes) (markTested mark (untilPending (tests (marksOf n (packed bytes))) (marksOf n (packed bytes))) out put (marksOf n (packed bytes)) s)
+            ≡ packedResult (markTested mark (untilPending (tests bytes) bytes) out put bytes s)
         on (refused k f g) =
-            ap (λ (t : Tested). repack n (packed bytes) (markTested by (untilPending t (marksOf n (packed bytes))) out put (marksOf n (packed bytes)) s)) f
+            ap (λ (t : Tested). repack n (packed bytes) (markTested mark (untilPending t (marksOf n (packed bytes))) out put (marksOf n (packed bytes)) s)) f
             ∙ ap (turnedDown k) (repacked-same n (packed bytes))
-            ∙ sym (ap (λ (t : Tested). packedResult (markTested by (untilPending t bytes) out put bytes s)) g)
-        on (held w e) = ap (λ (m : List ℕ). repack n (packed bytes) (markTested by (untilPending (tests m) m) out put m s)) e ∙ rw w
+            ∙ sym (ap (λ (t : Tested). packedResult (markTested mark (untilPending t bytes) out put bytes s)) g)
+        on (held w e) = ap (λ (m : List ℕ). repack n (packed bytes) (markTested mark (untilPending (tests m) m) out put m s)) e ∙ rw w
 
     listed-alike : (x y c size : ℕ) → listTested (tests (marksOf n (packed bytes))) out put (marksOf n (packed bytes)) x y c size ≡ listTested (tests bytes) out put bytes x y c size
     listed-alike x y c size = on (alike tests shared (meet some b n))
@@ -185,9 +185,9 @@ module _ {p : ℕ} {bytes : List ℕ} (some : leastPoints ≤ p) (b : ByteSet p 
         on (held w e) = ap (λ (m : List ℕ). listLeft (listTested (tests m) out put m x y c size) n out put m x y c list) e
 
   -- MARKING AND ASKING, and marking over two tables
-  pub mark-on-packed : (by : ℕ) (table s : List ℕ) → markPackedBy by n table (packed bytes) s ≡ packedResult (markBy by n table bytes s)
+  pub mark-on-packed : (mark : ℕ) (table s : List ℕ) → markPackedBy mark n table (packed bytes) s ≡ packedResult (markBy mark n table bytes s)
   unfolding markPackedBy markBy ready
-  mark-on-packed by table s = marked-alike (tested n table) (shared-tested n table) table table by s
+  mark-on-packed mark table s = marked-alike (tested n table) (shared-tested n table) table table mark s
 
   pub mark-between-on-packed : (low high s : List ℕ) → markBetweenPacked n low high (packed bytes) s ≡ packedResult (markBetween n low high bytes s)
   unfolding markBetweenPacked markBetween readyBetween
@@ -222,31 +222,31 @@ module _ {p : ℕ} {bytes : List ℕ} (some : leastPoints ≤ p) (b : ByteSet p 
       room false = refl
 
   -- CONFIRMING AND WITHDRAWING
-  pub settle-on-packed-answer : settledSetAnswer n (packed bytes) ≡ settledAnswer n bytes
-  unfolding settledAnswer
-  settle-on-packed-answer = on (meet some b n)
+  pub resolve-on-packed-answer : resolvedSetAnswer n (packed bytes) ≡ resolvedAnswer n bytes
+  unfolding resolvedAnswer
+  resolve-on-packed-answer = on (meet some b n)
     where
-      on : Meeting n bytes → settledSetAnswer n (packed bytes) ≡ settledAnswer n bytes
+      on : Meeting n bytes → resolvedSetAnswer n (packed bytes) ≡ resolvedAnswer n bytes
       on (outside h) = rw h
-      on (stated w e) = ap (settledAnswer n) e
-      on (other r s q z e) = ap (settledAnswer n) e ∙ rw (r, q, z)
+      on (stated w e) = ap (resolvedAnswer n) e
+      on (other r s q z e) = ap (resolvedAnswer n) e ∙ rw (r, q, z)
 
-  pub settle-on-packed : (mark : ℕ) → settledSet mark n (packed bytes) ≡ packed (settledLeft (settledAnswer n bytes) mark bytes)
-  unfolding settledAnswer repacked
-  settle-on-packed mark = on (meet some b n)
+  pub resolve-on-packed : (mark : ℕ) → resolvedSet mark n (packed bytes) ≡ packed (resolvedLeft (resolvedAnswer n bytes) mark bytes)
+  unfolding resolvedAnswer repacked
+  resolve-on-packed mark = on (meet some b n)
     where
       -- a refusal leaves both sets as they are
-      kept : (k : ℕ) → settledAnswer n (marksOf n (packed bytes)) ≡ outcome.Refused k 0 → settledAnswer n bytes ≡ outcome.Refused k 0
-          → settledSet mark n (packed bytes) ≡ packed (settledLeft (settledAnswer n bytes) mark bytes)
+      kept : (k : ℕ) → resolvedAnswer n (marksOf n (packed bytes)) ≡ outcome.Refused k 0 → resolvedAnswer n bytes ≡ outcome.Refused k 0
+          → resolvedSet mark n (packed bytes) ≡ packed (resolvedLeft (resolvedAnswer n bytes) mark bytes)
       kept k f g =
-          ap (λ (r : Outcome). repacked n (packed bytes) (settledLeft r mark (marksOf n (packed bytes)))) f
+          ap (λ (r : Outcome). repacked n (packed bytes) (resolvedLeft r mark (marksOf n (packed bytes)))) f
           ∙ repacked-same n (packed bytes)
-          ∙ sym (ap (λ (r : Outcome). packed (settledLeft r mark bytes)) g)
+          ∙ sym (ap (λ (r : Outcome). packed (resolvedLeft r mark bytes)) g)
 
-      on : Meeting n bytes → settledSet mark n (packed bytes) ≡ packed (settledLeft (settledAnswer n bytes) mark bytes)
+      on : Meeting n bytes → resolvedSet mark n (packed bytes) ≡ packed (resolvedLeft (resolvedAnswer n bytes) mark bytes)
       on (outside h) = kept 1 (rw h) (rw h)
-      on (stated w e) = ap (λ (m : List ℕ). repacked n (packed bytes) (settledLeft (settledAnswer n m) mark m)) e ∙ rw w
-      on (other r s q z e) = kept 6 (ap (settledAnswer n) e ∙ rw (r, z)) (rw (r, q))
+      on (stated w e) = ap (λ (m : List ℕ). repacked n (packed bytes) (resolvedLeft (resolvedAnswer n m) mark m)) e ∙ rw w
+      on (other r s q z e) = kept 6 (ap (resolvedAnswer n) e ∙ rw (r, z)) (rw (r, q))
 
   -- LISTING PAIRS: the answer, and the list's bytes; and over two tables
   pub list-on-packed : (table : List ℕ) (x y c size : ℕ) → listed n table (marksOf n (packed bytes)) x y c size ≡ listed n table bytes x y c size

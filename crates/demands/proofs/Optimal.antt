@@ -1,4 +1,4 @@
--- A 3-optimal tour keeps to the rules: its edges are compatible, its two edges at a point are a feasible pair, and no closing settles edges
+-- A 3-optimal tour keeps to the rules: its edges are compatible, its two edges at a point are a feasible pair, and no closing closes edges
 -- that it uses. Assumes nothing.
 use Prim.Native.Nat.{ℕ, _≤_, _<_}
 use mathlib.Core.Path.{_≡_, sym, ap, ap₂, subst}

@@ -16,7 +16,7 @@ use Rattle.lists.proofs.Tests.{answered}
 use Rattle.endian.specs.Bytes.{whole16, whole32}
 use Rattle.lengths.specs.Edge.{edgeCount, place}
 use Rattle.lengths.specs.Instance.{inRange, mostLength}
-use Rattle.lengths.proofs.Limits.{limit-each, each-limit}
+use Rattle.lengths.proofs.AtMostTests.{at-most-each, at-most-all}
 use Rattle.marks.specs.Mark.{struckMark, openMark, nonePending, setMark, markIn}
 use Rattle.marks.specs.Packed.{ByteSet, packed, wellPacked, marksOf, repacked}
 use Rattle.marks.proofs.PackedMarks.{held-set}
@@ -91,7 +91,7 @@ ready-again n table marks left h b none =
 -- a struck edge leaves nothing pending
 none-struck : (n : ℕ) (marks : List ℕ) (a b : ℕ) → nonePending marks ≡ true → nonePending (markIn struckMark n marks a b) ≡ true
 unfolding markIn setMark
-none-struck n marks a b h = each-limit openMark (set marks (place n a b) struckMark)
+none-struck n marks a b h = at-most-all openMark (set marks (place n a b) struckMark)
     (λ i l. each i (omega (arith, length-set marks (place n a b) struckMark)))
   where
     each : (i : ℕ) → i < length marks → getD (set marks (place n a b) struckMark) i 0 ≤ openMark
@@ -103,7 +103,7 @@ none-struck n marks a b h = each-limit openMark (set marks (place n a b) struckM
             getD-set-same marks (place n a b) struckMark 0
                 (subst (λ (k : ℕ). k < length marks) z l),
           )
-          | no z ↦ omega (arith, getD-set-other marks (place n a b) i struckMark 0 z, limit-each openMark marks h i)
+          | no z ↦ omega (arith, getD-set-other marks (place n a b) i struckMark 0 z, at-most-each openMark marks h i)
         ]
 
 -- one line more

@@ -11,10 +11,10 @@ use Rattle.lengths.specs.Instance.{leastPoints, mostPoints}
 use Rattle.marks.specs.Fresh.{freshMarks}
 use Rattle.marks.specs.Mark.{struckMark, openMark, pendingMark}
 use Rattle.marks.specs.Packed.{ByteSet, packedSize, packed, marksOf}
-use Rattle.marks.specs.Pending.{settledAnswer}
+use Rattle.marks.specs.Pending.{resolvedAnswer}
 use Rattle.marks.proofs.FreshMarks.{fresh-set-left, fresh-byte-set}
 use Rattle.marks.proofs.PackedSets.{marks-packed}
-use Rattle.marks.proofs.Settling.{settled-byte-set}
+use Rattle.marks.proofs.Resolving.{resolved-byte-set}
 use Rattle.tours.specs.Tour.{Shortest, ThreeOptimal}
 use Rattle.argument.proofs.Safe.{run-keeps}
 use Rattle.marking.specs.MarkBetween.{markBetween}
@@ -23,7 +23,7 @@ use Rattle.marking.proofs.PackedSheets.{mark-byte-set, tested-byte-set}
 use Rattle.demands.specs.Keeping.{OrderFree, KeepsTours}
 use Rattle.demands.specs.Run.{Tables, Step, marking, asking, confirming, withdrawing, marking-between, turning, stepped, stepsOf, steppedPacked, stepsPacked, steppedInC, stepsInC, stepIn, lengthsIn, freshIn, run}
 use Rattle.demands.proofs.DeskTurns.{turn-stays}
-use Rattle.demands.proofs.OnPacked.{mark-on-packed, mark-between-on-packed, settle-on-packed, turn-on-packed}
+use Rattle.demands.proofs.OnPacked.{mark-on-packed, mark-between-on-packed, resolve-on-packed, turn-on-packed}
 use Rattle.demands.proofs.Runs.{run-open, run-shortest}
 use Rattle.demands.proofs.Sizes.{in-limits}
 
@@ -40,8 +40,8 @@ module _ {p : ℕ} (some : leastPoints ≤ p) (T : Tables) where
   unfolding markBetween
   step-stays (marking call) m b = mark-byte-set struckMark (call .n) (T .own) (call .sheet) (omega arith) b
   step-stays (asking call) m b = mark-byte-set pendingMark (call .n) (T .own) (call .sheet) (omega arith) b
-  step-stays (confirming n) m b = settled-byte-set struckMark (omega arith) b (settledAnswer n m)
-  step-stays (withdrawing n) m b = settled-byte-set openMark (omega arith) b (settledAnswer n m)
+  step-stays (confirming n) m b = resolved-byte-set struckMark (omega arith) b (resolvedAnswer n m)
+  step-stays (withdrawing n) m b = resolved-byte-set openMark (omega arith) b (resolvedAnswer n m)
   step-stays (marking-between call) m b = tested-byte-set struckMark (T .low) (T .high) (call .sheet) (omega arith) b (readyBetween (call .n) (T .low) (T .high) m)
   step-stays (turning state call) m b = turn-stays state (call .n) (T .own) (call .sheet) m b
 
@@ -49,8 +49,8 @@ module _ {p : ℕ} (some : leastPoints ≤ p) (T : Tables) where
   step-on-packed : (step : Step) (m : List ℕ) → ByteSet p m → steppedPacked T step (packed m) ≡ packed (stepped T step m)
   step-on-packed (marking call) m b = ap (λ r. r .marks) (mark-on-packed some b (call .n) struckMark (T .own) (call .sheet))
   step-on-packed (asking call) m b = ap (λ r. r .marks) (mark-on-packed some b (call .n) pendingMark (T .own) (call .sheet))
-  step-on-packed (confirming n) m b = settle-on-packed some b n struckMark
-  step-on-packed (withdrawing n) m b = settle-on-packed some b n openMark
+  step-on-packed (confirming n) m b = resolve-on-packed some b n struckMark
+  step-on-packed (withdrawing n) m b = resolve-on-packed some b n openMark
   step-on-packed (marking-between call) m b = ap (λ r. r .marks) (mark-between-on-packed some b (call .n) (T .low) (T .high) (call .sheet))
   step-on-packed (turning state call) m b = ap (λ r. r .marks) (turn-on-packed some b (call .n) state (T .own) (call .sheet))
 

@@ -17,9 +17,9 @@ use Rattle.admission.specs.Tests.{tested}
 use Rattle.admission.specs.declared.tested.Tested.{Tested}
 use Rattle.admission.specs.declared.tested.Tested.the-variants as tests
 use Rattle.admission.proofs.Passed.{passed}
-use Rattle.pages.specs.AllPages.{Board, readInto, readPages}
+use Rattle.pages.specs.AllPages.{PageBuffers, readInto, readPages}
 use Rattle.pages.specs.Page.{pageCount, isPage, pageText}
-use Rattle.pages.specs.PageOf.{Instance, PageOf, WrongPage}
+use Rattle.pages.specs.PageOf.{Printable, PageOf, WrongPage}
 use Rattle.pages.specs.Reading.{Passes, Tried, pageAnswer, tableAfter, setAfter}
 use Rattle.pages.specs.Writing.{writeTested, writeAnswer, writeLeft}
 use Rattle.pages.specs.declared.reading.PageRead.{PageRead}
@@ -30,7 +30,7 @@ use Rattle.pages.proofs.PageAnswers.{Numbered, done, early, told, answer-number
 use Rattle.pages.proofs.RoundTrips.{edges-there, pages-there, read-accepted, read-lengths, read-marks, all-lengths, all-packed}
 use Rattle.revosti.specs.Page.{writtenNumber, pageReadNumber, WrittenInC, PageReadInC}
 use Rattle.demands.specs.Pages.{Copied, CopiedTo, none, next, PageCopied}
-use Rattle.demands.proofs.Slips.{tested-numbered}
+use Rattle.demands.proofs.Receipts.{tested-numbered}
 
 -- which answer of reading a number is
 number-done : {a : PageRead} → Numbered a → pageReadNumber a ≡ 0 → a ≡ read.Done
@@ -83,7 +83,7 @@ write-numbered n lengths marks p size = by (tested n lengths marks) refl
 
 -- a page that is not refused: what is left has it in front, as many bytes as are answered, and it is one of an instance
 record Taken (n p : ℕ) (lengths marks : List ℕ) (r : ℕ) (left : List ℕ) : Type 0 where
-  instance : Instance n lengths marks
+  instance : Printable n lengths marks
   page : isPage n p ≡ true
   is : take (r / 65536) left ≡ pageText n p lengths marks
 
@@ -104,7 +104,7 @@ taken {n} {lengths} {marks} {p} {text} {r} {left} w h = by (write-numbered n len
         }
 
 -- a page that is copied is one of an instance, and what is left is what reading that page leaves
-module _ {n p : ℕ} {from into out : Board} (c : Copied n p from into out) where
+module _ {n p : ℕ} {from into out : PageBuffers} (c : Copied n p from into out) where
   abbrev lengths : List ℕ
   lengths = whole32 (from .table)
 
@@ -130,11 +130,11 @@ module _ {n p : ℕ} {from into out : Board} (c : Copied n p from into out) wher
   }
 
 -- pages that are copied leave what reading them leaves
-record Read (n : ℕ) (from into : Board) (k : ℕ) (out : Board) : Type 0 where
+record Read (n : ℕ) (from into : PageBuffers) (k : ℕ) (out : PageBuffers) : Type 0 where
   table : out .table ≡ readPages n (whole32 (from .table)) (marksOf n (from .set)) k into .table
   set : out .set ≡ readPages n (whole32 (from .table)) (marksOf n (from .set)) k into .set
 
-copied-to : {n : ℕ} {from into : Board} {k : ℕ} {out : Board} → CopiedTo n from into k out → Read n from into k out
+copied-to : {n : ℕ} {from into : PageBuffers} {k : ℕ} {out : PageBuffers} → CopiedTo n from into k out → Read n from into k out
 unfolding readPages readInto
 copied-to none = record { table = refl; set = refl }
 copied-to {n} {from} (next {k} cs c) =
@@ -146,11 +146,11 @@ copied-to {n} {from} (next {k} cs c) =
     }
 
 -- ROUND TRIP in C, ALL PAGES: into whatever table and marks pass the tests, they leave the board's lengths and its packed set
-module _ {n : ℕ} {from into out : Board} (cs : CopiedTo n from into (pageCount n) out) (t : Passes n (into .table) (into .set)) where
-  whole : Instance n (whole32 (from .table)) (marksOf n (from .set))
+module _ {n : ℕ} {from into out : PageBuffers} (cs : CopiedTo n from into (pageCount n) out) (t : Passes n (into .table) (into .set)) where
+  whole : Printable n (whole32 (from .table)) (marksOf n (from .set))
   whole = by (pageCount n) refl cs
     where
-      by : (k : ℕ) {b : Board} → pageCount n ≡ k → CopiedTo n from into k b → Instance n (whole32 (from .table)) (marksOf n (from .set))
+      by : (k : ℕ) {b : PageBuffers} → pageCount n ≡ k → CopiedTo n from into k b → Printable n (whole32 (from .table)) (marksOf n (from .set))
       by zero e none = absurd (omega (arith, e, pages-there t))
       by (suc k) e (next cs c) = page c .instance
 

@@ -1,4 +1,4 @@
--- No shortest tour uses a set that a new order of a segment settles (02, Paper 10), under any lengths between the low
+-- No shortest tour uses a set that a new order of a segment closes (02, Paper 10), under any lengths between the low
 -- and the high ones. Assumes nothing.
 use Prim.Native.Nat.{ℕ, _≤_}
 use mathlib.Core.List.{List, [], _∷_}
@@ -27,15 +27,15 @@ module _ {l m h : ℕ → ℕ → ℕ} (low : NoLonger l m) (high : NoLonger m h
         shorter = omega (arith, R .shorter, total-no-longer high (pathEdges u vs v), total-no-longer low (pathEdges u (R .ws) v));
       }
 
-  -- REORDERED: for lengths l ≤ m ≤ h, no shortest tour under m uses a set that a reordering settles over l and h.
-  -- The reordering settles it under m, too. A tour that uses the set uses the segment's path; with the inner points in
+  -- REORDERED: for lengths l ≤ m ≤ h, no shortest tour under m uses a set that a reordering closes over l and h.
+  -- The reordering closes it under m, too. A tour that uses the set uses the segment's path; with the inner points in
   -- the new order it is a tour again (`reorder`), shorter by what the new path is shorter by than the old one. But no
   -- tour is shorter than a shortest one.
   pub shortest-not-reordered :
       {n : ℕ} {t : List ℕ} {K : List Edge} {u v : ℕ} {vs : List ℕ} →
       Symmetric m → Shortest n m t → ((a b : ℕ) → Has K a b → Uses t a b) → Reorders l h K u v vs → ⊥
-  shortest-not-reordered {n} {t} {u = u} {v} {vs} y S uses settled =
-      let R = reorders-under settled in
+  shortest-not-reordered {n} {t} {u = u} {v} {vs} y S uses closed =
+      let R = reorders-under closed in
       let X : Exchanged n t (pathEdges u (R .ws) v) (pathEdges u vs v) =
       reorder (S .tour) u (R .ws) v vs (R .segment .path .once) (λ a b k. uses a b (R .segment .path .inside a b k)) (R .same)
       in

@@ -13,13 +13,13 @@ use Rattle.lengths.specs.Table.{lengthOf}
 use Rattle.lengths.proofs.Tables.{length-symmetric}
 use Rattle.marks.specs.Fresh.{freshMarks}
 use Rattle.marks.specs.Mark.{markAt, struckMark, openMark, pendingMark, openUpTo}
-use Rattle.marks.specs.Pending.{settledAnswer, settledLeft}
+use Rattle.marks.specs.Pending.{resolvedAnswer, resolvedLeft}
 use Rattle.lengths.specs.declared.outcome.Outcome.{Outcome}
-use Rattle.lengths.specs.declared.outcome.Outcome.the-variants as settling
+use Rattle.lengths.specs.declared.outcome.Outcome.the-variants as resolving
 use Rattle.marks.proofs.FreshMarks.{fresh-left}
 use Rattle.marks.proofs.Marks.{open-mark}
 use Rattle.marks.proofs.PackedSets.{some-edges}
-use Rattle.marks.proofs.PendingMarks.{settled-size, settled-open}
+use Rattle.marks.proofs.PendingMarks.{resolved-size, resolved-open}
 use Rattle.tours.specs.Tour.{Uses, Shortest, ThreeOptimal}
 use Rattle.tours.proofs.ThreeOptimal.{shortest-optimal}
 use Rattle.argument.specs.Safety.{HasOrder}
@@ -56,10 +56,10 @@ module _ {n : ℕ} (T : Tables) (some : leastPoints ≤ n) (low-whole : length (
     (best : ThreeOptimal n (lengthOf n table) t) {Orders : Type 0} (reach : OutOfReach n table t Orders) where
   -- a sheet leaves the tour's edges open, marked or asked, whatever n and records it states: where its tests pass, they answer n, and the lengths by which the
   -- tour is 3-optimal lie between those of what is taken out and of what is put in
-  call-kept : (by : ℕ) (out put s : List ℕ) → (HasOrder s → Orders) → (marks : List ℕ) → Kept n t marks → (r : Tested) → ((p : ℕ) → r ≡ Points p → (p ≡ n) × LengthsBetween n out put table) →
-      Kept n t (markTested by r out put marks s .marks)
-  call-kept by out put s may marks kept (Refused k) told = kept
-  call-kept by out put s may marks kept (Points p) told = tested-kept some (told p refl .1) best reach by s marks may kept (Points p) (λ q e. told q e .0)
+  call-kept : (mark : ℕ) (out put s : List ℕ) → (HasOrder s → Orders) → (marks : List ℕ) → Kept n t marks → (r : Tested) → ((p : ℕ) → r ≡ Points p → (p ≡ n) × LengthsBetween n out put table) →
+      Kept n t (markTested mark r out put marks s .marks)
+  call-kept mark out put s may marks kept (Refused k) told = kept
+  call-kept mark out put s may marks kept (Points p) told = tested-kept some (told p refl .1) best reach mark s marks may kept (Points p) (λ q e. told q e .0)
 
   -- a call over the board's own table that passes states its n; over no table none passes
   own-passed : (m : ℕ) (marks : List ℕ) (p : ℕ) → ready m (T .own) marks ≡ Points p → (p ≡ n) × LengthsBetween n (T .own) (T .own) table
@@ -80,30 +80,30 @@ module _ {n : ℕ} (T : Tables) (some : leastPoints ≤ n) (low-whole : length (
 
   -- and so does a call over low and high
   between-passed : (m : ℕ) (marks : List ℕ) (p : ℕ) → readyBetween m (T .low) (T .high) marks ≡ Points p → (p ≡ n) × LengthsBetween n (T .low) (T .high) table
-  between-passed m marks p e = (same, lengths-between n (served .between (subst (λ (q : ℕ). Ordered q (T .low) (T .high)) same (limited .listable .limits .order))))
+  between-passed m marks p e = (same, lengths-between n (served .between (subst (λ (q : ℕ). Ordered q (T .low) (T .high)) same (interval-passed .listable .intervals .order))))
     where
-      limited : BetweenPassed m (T .low) (T .high) marks p
-      limited = passed-ready e
+      interval-passed : BetweenPassed m (T .low) (T .high) marks p
+      interval-passed = passed-ready e
 
       same : p ≡ n
-      same = edge-count-injective p n (omega (arith, limited .listable .least)) (omega arith) (sym (limited .listable .limits .out-lengths .whole) ∙ low-whole)
+      same = edge-count-injective p n (omega (arith, interval-passed .listable .least)) (omega arith) (sym (interval-passed .listable .intervals .out-lengths .whole) ∙ low-whole)
 
-  sheet-kept : (by : ℕ) (call : Call) → (HasOrder (call .sheet) → Orders) → (marks : List ℕ) → Kept n t marks → Kept n t (markBy by (call .n) (T .own) marks (call .sheet) .marks)
+  sheet-kept : (mark : ℕ) (call : Call) → (HasOrder (call .sheet) → Orders) → (marks : List ℕ) → Kept n t marks → Kept n t (markBy mark (call .n) (T .own) marks (call .sheet) .marks)
   unfolding markBy
-  sheet-kept by call may marks kept = call-kept by (T .own) (T .own) (call .sheet) may marks kept (ready (call .n) (T .own) marks) (own-passed (call .n) marks)
+  sheet-kept mark call may marks kept = call-kept mark (T .own) (T .own) (call .sheet) may marks kept (ready (call .n) (T .own) marks) (own-passed (call .n) marks)
 
   -- confirming and withdrawing change pending marks alone, and the tour's edges have mark 1
-  settle-kept : (mark : ℕ) (marks : List ℕ) → Kept n t marks → (r : Outcome) → Kept n t (settledLeft r mark marks)
-  settle-kept mark marks kept (settling.Refused k rec) = kept
-  settle-kept mark marks kept settling.Done =
-      record { whole = settled-size mark marks ∙ kept .whole; all-open = λ a b u. settled-open mark n marks a b (kept .all-open a b u) }
+  resolve-kept : (mark : ℕ) (marks : List ℕ) → Kept n t marks → (r : Outcome) → Kept n t (resolvedLeft r mark marks)
+  resolve-kept mark marks kept (resolving.Refused k rec) = kept
+  resolve-kept mark marks kept resolving.Done =
+      record { whole = resolved-size mark marks ∙ kept .whole; all-open = λ a b u. resolved-open mark n marks a b (kept .all-open a b u) }
 
   step-kept : (step : Step) → (StepOrder step → Orders) → (marks : List ℕ) → Kept n t marks → Kept n t (stepped T step marks)
   unfolding markBetween
   step-kept (marking call) may marks kept = sheet-kept struckMark call may marks kept
   step-kept (asking call) may marks kept = sheet-kept pendingMark call may marks kept
-  step-kept (confirming m) may marks kept = settle-kept struckMark marks kept (settledAnswer m marks)
-  step-kept (withdrawing m) may marks kept = settle-kept openMark marks kept (settledAnswer m marks)
+  step-kept (confirming m) may marks kept = resolve-kept struckMark marks kept (resolvedAnswer m marks)
+  step-kept (withdrawing m) may marks kept = resolve-kept openMark marks kept (resolvedAnswer m marks)
   step-kept (marking-between call) may marks kept =
       call-kept struckMark (T .low) (T .high) (call .sheet) may marks kept (readyBetween (call .n) (T .low) (T .high) marks) (between-passed (call .n) marks)
   step-kept (turning state call) may marks kept = turn-kept some best reach state (call .n) (T .own) (call .sheet) may marks kept (own-passed (call .n) marks)
@@ -122,8 +122,8 @@ module _ {n : ℕ} (T : Tables) (some : leastPoints ≤ n) (low-whole : length (
 -- On fresh marks all edges of the tour are open. Suppose that they are open before a step. If the step is a sheet that is refused before its
 -- first line, no mark changes. If not, it states the n of the tables, since n(n - 1)/2 tells n, and its lines are judged one after the other. An
 -- accepted line has a closed argument for its edge ab. If the tour used ab, its own two neighbours of each split point would be a feasible pair under the table, and
--- so over low and high (`feasible-over`): the argument would have a case for them, and a further split or a 3-opt closing that settles it; going down, some 3-opt
--- closing would settle a set of edges that the tour uses, over low and high and so under the table (`closes-under`), and one of its two moves would shorten the
+-- so over low and high (`feasible-over`): the argument would have a case for them, and a further split or a 3-opt closing that closes it; going down, some 3-opt
+-- closing would close a set of edges that the tour uses, over low and high and so under the table (`closes-under`), and one of its two moves would shorten the
 -- tour. So ab is no edge of the tour, and another mark for ab leaves the tour's edges open. A turn marks one such line at most. Confirming and withdrawing change
 -- pending marks alone, and no edge of the tour has one.
 pub run-open : (n : ℕ) → leastPoints ≤ n → (T : Tables) → length (T .low) ≡ edgeCount n → (steps : List Step) → OrderFree steps →
@@ -131,7 +131,7 @@ pub run-open : (n : ℕ) → leastPoints ≤ n → (T : Tables) → length (T .l
 run-open n some T low-whole steps free table served t best =
     run-kept T some low-whole served best {Orders = ⊥} (λ out put between may. absurd may) steps (free-allowed steps free)
 
--- and of every tour that is shortest, whatever records the sheets have: it is 3-optimal, and no new order settles edges that it uses (`shortest-not-reordered`)
+-- and of every tour that is shortest, whatever records the sheets have: it is 3-optimal, and no new order closes edges that it uses (`shortest-not-reordered`)
 pub run-shortest : (n : ℕ) → leastPoints ≤ n → (T : Tables) → length (T .low) ≡ edgeCount n → (steps : List Step) →
     KeepsTours Shortest n T (stepsOf T steps (freshMarks n))
 run-shortest n some T low-whole steps table served t best =

@@ -1,7 +1,7 @@
 -- THE SAVINGS IN C decide the rules: where a function's number is 65,536 times a saving, its rule shuts a case out, by
 -- the test that the marker computes, exactly when that saving is above 0. A refusal's number is from 1 to 11, so it is
 -- no such multiple, and a multiple tells its saving: the rest is what the operations say (`exchange-decides`,
--- `move-decides`, `crossing-decides`). Assumes nothing.
+-- `move-decides`, `three-opt-decides`). Assumes nothing.
 use Prim.Native.Nat.{ℕ, zero, suc, _-_, _*_, _≤_}
 use mathlib.Core.Path.{_≡_, refl, sym, _∙_, ap}
 use mathlib.Core.Bool.{Bool, true, false}
@@ -20,14 +20,14 @@ use Rattle.lengths.specs.Table.{lengthOf}
 use Rattle.rules.specs.PairTest.{every, compatible?, stays?}
 use Rattle.closings.specs.Closing.{ThreeOptMoves}
 use Rattle.closings.specs.ClosingTest.{threeOptOutcome}
-use Rattle.closings.specs.declared.closing.ThreeOptOutcome.the-variants.{Settled}
+use Rattle.closings.specs.declared.closing.ThreeOptOutcome.the-variants.{Closed}
 use Rattle.admission.specs.Tests.{testedTable}
 use Rattle.admission.specs.declared.tested.Tested.{Tested}
 use Rattle.admission.specs.declared.tested.Tested.the-variants as tests
 use Rattle.savings.specs.Edges.{isEdge}
-use Rattle.savings.specs.Saved.{savedTested, exchangeSaved, moveSaved, crossingSaved}
+use Rattle.savings.specs.Saved.{savedTested, exchangeSaved, moveSaved, threeOptSaved}
 use Rattle.savings.specs.declared.saved.Saved.the-variants.{Saving, Refused}
-use Rattle.savings.proofs.Decides.{exchange-decides, move-decides, crossing-decides}
+use Rattle.savings.proofs.Decides.{exchange-decides, move-decides, three-opt-decides}
 use Rattle.revosti.specs.Saved.{savedNumber}
 
 -- 65,536 times a number with a sign
@@ -99,9 +99,9 @@ module _ (n : ℕ) (table : List ℕ) (s : ℤ) where
   unfolding moveSaved
   move-decides-in-C c x y u v e = move-decides n (whole32 table) s c x y u v (told-number _ _ e)
 
-  pub crossing-decides-in-C : (K : List Edge) (p q r t x y z w : ℕ)
-      → savedNumber (crossingSaved n (whole32 table) p q r t x y z w) ≡ pos 65536 *ℤ s
+  pub three-opt-decides-in-C : (K : List Edge) (p q r t x y z w : ℕ)
+      → savedNumber (threeOptSaved n (whole32 table) p q r t x y z w) ≡ pos 65536 *ℤ s
       → ThreeOptMoves K p q r t x y z w
-      → (threeOptOutcome (lengthOf n (whole32 table)) (lengthOf n (whole32 table)) K p q r t ≡ Settled) ↔ (gains? s ≡ true)
-  unfolding crossingSaved
-  crossing-decides-in-C K p q r t x y z w e = crossing-decides n (whole32 table) s K p q r t x y z w (told-number _ _ e)
+      → (threeOptOutcome (lengthOf n (whole32 table)) (lengthOf n (whole32 table)) K p q r t ≡ Closed) ↔ (gains? s ≡ true)
+  unfolding threeOptSaved
+  three-opt-decides-in-C K p q r t x y z w e = three-opt-decides n (whole32 table) s K p q r t x y z w (told-number _ _ e)

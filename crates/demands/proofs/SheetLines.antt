@@ -28,7 +28,7 @@ use Rattle.demands.proofs.Changed.{chain-changes, no-changes}
 use Rattle.demands.proofs.Lawful.{lawful-between}
 
 -- A line is accepted exactly when it is complete. The walk accepts exactly the complete arguments laid out there (`line-sound`, `line-complete`), since the rules are
--- lawful: on every set that an argument comes to, the walk's list has exactly the feasible pairs, and its number is 0 exactly where the 3-opt closing settles.
+-- lawful: on every set that an argument comes to, the walk's list has exactly the feasible pairs, and its number is 0 exactly where the 3-opt closing closes.
 pub judged-exact :
     (n : ℕ) (out put marks sheet : List ℕ) (i a b next high : ℕ) →
     (judge (rulesBetween n out put marks) (openIn n marks) sheet i ≡ accepted (strikes a b next high)) ↔ CompleteLine (rulesBetween n out put marks) (openIn n marks) sheet i a b next high
@@ -37,21 +37,21 @@ judged-exact n out put marks sheet i a b next high = (
   line-complete (rulesBetween n out put marks) (lawful-between n out put marks) sheet (openIn n marks) i a b next high,
 )
 
-module _ (by n : ℕ) (out put marks s : List ℕ) where
+module _ (mark n : ℕ) (out put marks s : List ℕ) where
   -- a call that passes the tests, and 7, has its lines marked
-  pub lines-marked : (t : Tested) → t ≡ Points n → wholeSheet (length s) ≡ true → markTested by t out put marks s ≡ sheet (markingBetween by n out put) s marks
-  lines-marked t e w = ap (λ (r : Tested). markTested by r out put marks s) e ∙ rw w
+  pub lines-marked : (t : Tested) → t ≡ Points n → wholeSheet (length s) ≡ true → markTested mark t out put marks s ≡ sheet (markingBetween mark n out put) s marks
+  lines-marked t e w = ap (λ (r : Tested). markTested mark r out put marks s) e ∙ rw w
 
   -- what is said of a call whose answer is that of its lines
-  module _ (answer : Result (List ℕ)) (lines-of : answer ≡ sheet (markingBetween by n out put) s marks) where
+  module _ (answer : Result (List ℕ)) (lines-of : answer ≡ sheet (markingBetween mark n out put) s marks) where
     -- its lines are judged one after the other (`sheet-exact`)
-    pub answers : (r : Result (List ℕ)) → (answer ≡ r) ↔ Answers (markingBetween by n out put) s (start marks) r
+    pub answers : (r : Result (List ℕ)) → (answer ≡ r) ↔ Answers (markingBetween mark n out put) s (start marks) r
     answers r =
-        let e = sheet-exact (markingBetween by n out put) (lawful-between n out put) s marks r in
+        let e = sheet-exact (markingBetween mark n out put) (lawful-between n out put) s marks r in
         (λ h. e .0 (sym lines-of ∙ h), λ m. lines-of ∙ e .1 m)
 
     -- a chain of complete lines that ends at index 0 is such an answer, and the place behind a chain has counted its lines
-    pub answers-whole : (lines : List Struck) (q : Place (List ℕ)) → CompleteLines (markingBetween by n out put) s (start marks) lines q → q .index ≡ 0 →
+    pub answers-whole : (lines : List Struck) (q : Place (List ℕ)) → CompleteLines (markingBetween mark n out put) s (start marks) lines q → q .index ≡ 0 →
         answer ≡ record { marks = q .marks; lines = length lines; verdict = accepted tt }
     unfolding start
     answers-whole lines q chain z =
@@ -62,46 +62,46 @@ module _ (by n : ℕ) (out put marks s : List ℕ) where
           chain = chain;
           stops = ended z;
           marks-left = refl;
-          counted = let c = chain-length (markingBetween by n out put) s lines (start marks) q chain in omega (arith, c);
+          counted = let c = chain-length (markingBetween mark n out put) s lines (start marks) q chain in omega (arith, c);
         })
 
     -- the sheet has a record, so index 1 is entered, and from then on a refusal names a record that was entered
     pub answers-refusal : wholeSheet (length s) ≡ true → (number rec : ℕ) → answer .verdict ≡ refused number rec → RefusedAt s number rec
     answers-refusal w number rec e =
-        refusal-told (markingBetween by n out put) (lawful-between n out put) s marks answer (sheet-records s w .some) (answers answer .0 refl) number rec e
+        refusal-told (markingBetween mark n out put) (lawful-between n out put) s marks answer (sheet-records s w .some) (answers answer .0 refl) number rec e
 
   -- every call: one that fails a test accepts no line and changes nothing
-  pub tested-changes : (by ≡ openMark → ⊥) → (t : Tested) → ((p : ℕ) → t ≡ Points p → (p ≡ n) × (length marks ≡ edgeCount n)) →
-      (struck : List Edge) × Changes by n marks (markTested by t out put marks s .marks) struck (markTested by t out put marks s .lines)
+  pub tested-changes : (mark ≡ openMark → ⊥) → (t : Tested) → ((p : ℕ) → t ≡ Points p → (p ≡ n) × (length marks ≡ edgeCount n)) →
+      (struck : List Edge) × Changes mark n marks (markTested mark t out put marks s .marks) struck (markTested mark t out put marks s .lines)
   tested-changes other t told = tests t told
     where
-      Found : Result (List ℕ) → Type 0
-      Found r = (struck : List Edge) × Changes by n marks (r .marks) struck (r .lines)
+      ChangesIn : Result (List ℕ) → Type 0
+      ChangesIn r = (struck : List Edge) × Changes mark n marks (r .marks) struck (r .lines)
 
-      whole : length marks ≡ edgeCount n → (b : Bool) → Found (unless b (turnedDown 7 marks) (sheet (markingBetween by n out put) s marks))
+      whole : length marks ≡ edgeCount n → (b : Bool) → ChangesIn (unless b (turnedDown 7 marks) (sheet (markingBetween mark n out put) s marks))
       whole size true =
-          let m = sheet-exact (markingBetween by n out put) (lawful-between n out put) s marks (sheet (markingBetween by n out put) s marks) .0 refl in
-          (struckEdges (m .lines), chain-changes by other n out put s marks size (sheet (markingBetween by n out put) s marks) m)
-      whole size false = ([], no-changes by n marks)
+          let m = sheet-exact (markingBetween mark n out put) (lawful-between n out put) s marks (sheet (markingBetween mark n out put) s marks) .0 refl in
+          (struckEdges (m .lines), chain-changes mark other n out put s marks size (sheet (markingBetween mark n out put) s marks) m)
+      whole size false = ([], no-changes mark n marks)
 
-      tests : (r : Tested) → ((p : ℕ) → r ≡ Points p → (p ≡ n) × (length marks ≡ edgeCount n)) → Found (markTested by r out put marks s)
-      tests (Refused number) e = ([], no-changes by n marks)
-      tests (Points m) e = let z = e m refl in subst (λ (k : ℕ). Found (markTested by (Points k) out put marks s)) (sym (z .0)) (whole (z .1) (wholeSheet (length s)))
+      tests : (r : Tested) → ((p : ℕ) → r ≡ Points p → (p ≡ n) × (length marks ≡ edgeCount n)) → ChangesIn (markTested mark r out put marks s)
+      tests (Refused number) e = ([], no-changes mark n marks)
+      tests (Points m) e = let z = e m refl in subst (λ (k : ℕ). ChangesIn (markTested mark (Points k) out put marks s)) (sym (z .0)) (whole (z .1) (wholeSheet (length s)))
 
 -- a call that accepts no line leaves the marks as they were, whatever its tests come to: a chain without a line has not left its beginning
-module _ (by : ℕ) (out put marks s : List ℕ) where
-  no-lines : (n : ℕ) (xs : List Struck) (q : Place (List ℕ)) → CompleteLines (markingBetween by n out put) s (start marks) xs q → q .lines ≡ 0 → q .marks ≡ marks
+module _ (mark : ℕ) (out put marks s : List ℕ) where
+  no-lines : (n : ℕ) (xs : List Struck) (q : Place (List ℕ)) → CompleteLines (markingBetween mark n out put) s (start marks) xs q → q .lines ≡ 0 → q .marks ≡ marks
   unfolding start CompleteLines
   no-lines n [] q chain e = sym (ap (λ (p : Place (List ℕ)). p .marks) chain)
-  no-lines n (x ∷ xs) q chain e = let c = chain-length (markingBetween by n out put) s (x ∷ xs) (start marks) q chain in absurd (omega (arith, c, e))
+  no-lines n (x ∷ xs) q chain e = let c = chain-length (markingBetween mark n out put) s (x ∷ xs) (start marks) q chain in absurd (omega (arith, c, e))
 
-  pub tested-unmarked : (t : Tested) → markTested by t out put marks s .lines ≡ 0 → markTested by t out put marks s .marks ≡ marks
+  pub tested-unmarked : (t : Tested) → markTested mark t out put marks s .lines ≡ 0 → markTested mark t out put marks s .marks ≡ marks
   tested-unmarked (Refused number) e = refl
   tested-unmarked (Points n) e = whole (wholeSheet (length s)) e
     where
-      whole : (b : Bool) → unless b (turnedDown 7 marks) (sheet (markingBetween by n out put) s marks) .lines ≡ 0 →
-          unless b (turnedDown 7 marks) (sheet (markingBetween by n out put) s marks) .marks ≡ marks
+      whole : (b : Bool) → unless b (turnedDown 7 marks) (sheet (markingBetween mark n out put) s marks) .lines ≡ 0 →
+          unless b (turnedDown 7 marks) (sheet (markingBetween mark n out put) s marks) .marks ≡ marks
       whole false z = refl
       whole true z =
-          let m = sheet-exact (markingBetween by n out put) (lawful-between n out put) s marks (sheet (markingBetween by n out put) s marks) .0 refl in
+          let m = sheet-exact (markingBetween mark n out put) (lawful-between n out put) s marks (sheet (markingBetween mark n out put) s marks) .0 refl in
           m .marks-left ∙ no-lines n (m .lines) (m .place) (m .chain) (sym (m .counted) ∙ z)

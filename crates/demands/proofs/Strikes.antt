@@ -51,19 +51,19 @@ unfolding openUpTo markIn markAt setMark
 struck-count n marks a b h =
     count-set openMark struckMark 0 (λ e. omega arith) (λ e. omega arith) marks (place n a b) (open-mark marks (place n a b) h)
 
-module _ (by : ℕ) {n : ℕ} (marks : List ℕ) {a b : ℕ} (ab : IsEdge n a b) where
+module _ (mark : ℕ) {n : ℕ} (marks : List ℕ) {a b : ℕ} (ab : IsEdge n a b) where
   -- an edge that gets another mark than 1 is not open to a sheet, in either order of its points
-  pub marked-same : (by ≡ openMark → ⊥) → length marks ≡ edgeCount n → (c d : ℕ) → Joins (edge a b) c d → openIn n (markIn by n marks a b) c d ≡ false
+  pub marked-same : (mark ≡ openMark → ⊥) → length marks ≡ edgeCount n → (c d : ℕ) → Joins (edge a b) c d → openIn n (markIn mark n marks a b) c d ≡ false
   unfolding openUpTo markIn
   marked-same other whole c d j =
-      ap (openAt openMark (setMark marks (place n a b) by)) (place-joined n a b c d j)
-      ∙ ap (opens openMark) (mark-same marks (place n a b) by (omega (arith, place-below ab)))
-      ∙ open-one by
-      ∙ ne-eqb by openMark other
+      ap (openAt openMark (setMark marks (place n a b) mark)) (place-joined n a b c d j)
+      ∙ ap (opens openMark) (mark-same marks (place n a b) mark (omega (arith, place-below ab)))
+      ∙ open-one mark
+      ∙ ne-eqb mark openMark other
 
   -- any other edge keeps its mark
-  pub marked-other : {c d : ℕ} → IsEdge n c d → (Joins (edge a b) c d → ⊥) → openIn n (markIn by n marks a b) c d ≡ openIn n marks c d
+  pub marked-other : {c d : ℕ} → IsEdge n c d → (Joins (edge a b) c d → ⊥) → openIn n (markIn mark n marks a b) c d ≡ openIn n marks c d
   unfolding openUpTo markIn
   marked-other {c} {d} cd other =
       ap (opens openMark)
-      (mark-other marks (place n a b) (place n c d) by (λ e. other (⊎-elim (λ s. inl (s .0, s .1)) (λ s. inr (s .0, s .1)) (place-injective ab cd e))))
+      (mark-other marks (place n a b) (place n c d) mark (λ e. other (⊎-elim (λ s. inl (s .0, s .1)) (λ s. inr (s .0, s .1)) (place-injective ab cd e))))

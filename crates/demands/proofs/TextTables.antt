@@ -17,10 +17,10 @@ use Rattle.lengths.specs.Instance.{inRange, mostLength}
 use Rattle.lengths.specs.Measure.{measured, tableAfter}
 use Rattle.lengths.specs.declared.outcome.Outcome.{Outcome}
 use Rattle.lengths.specs.declared.outcome.Outcome.the-variants as measuring
-use Rattle.lengths.proofs.Limits.{limit-each}
+use Rattle.lengths.proofs.AtMostTests.{at-most-each}
 use Rattle.lists.specs.Test.{allAtMost, unless}
 use Rattle.lists.proofs.Tests.{answered}
-use Rattle.tsplib_lines.specs.declared.line.Weighing.the-variants.{Explicit, Rule}
+use Rattle.tsplib_lines.specs.declared.text_line.Weighing.the-variants.{Explicit, Rule}
 use Rattle.tsplib.specs.Language.{Tsplib}
 use Rattle.tsplib.specs.Reading.{ofMeasured, ofWeights, filledWith, ReadAs, answerFor, leftFor}
 use Rattle.tsplib.specs.declared.reading.Read.{Read}
@@ -64,7 +64,7 @@ text-weights {n = n} {ws} t {table} {left} {m} r =
     let e : m ≡ n = cc in (
       e,
       ap whole32 (a .table-left ∙ ap (λ (x : Read). filledWith x ws table) (sym (a .answered)))
-          ∙ read-again32 ws (λ i. omega (arith, limit-each mostLength ws (z3 .0) i)),
+          ∙ read-again32 ws (λ i. omega (arith, at-most-each mostLength ws (z3 .0) i)),
     )
 
 -- IN C: where the lowest byte of the answer, its refusal, is 0

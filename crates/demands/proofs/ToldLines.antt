@@ -40,7 +40,7 @@ use Rattle.reasons.specs.declared.telling.Telling.the-variants.{Bytes, Refused}
 use Rattle.reasons.proofs.LineTold.{line-told, each-pair-once}
 use Rattle.reasons.proofs.PairCounts.{pairs-many, as-many-pairs}
 use Rattle.reasons.proofs.SmallReasons.{line-small}
-use Rattle.demands.specs.Told.{TellPasses, firstAt, TellAnswers, told, too-long, not-complete}
+use Rattle.demands.specs.ToldLine.{TellPasses, firstAt, TellAnswers, told, too-long, not-complete}
 use Rattle.demands.proofs.Demand2.{demand-2}
 
 -- a call that fails a test of 1, 2, 5 and 6, then 7, then 8, answers its number, record 0

@@ -19,7 +19,7 @@ use Rattle.reasons.specs.Tells.{TellsLine}
 use Rattle.reasons.specs.declared.telling.Telling.{Telling}
 use Rattle.reasons.specs.declared.telling.Telling.the-variants.{Bytes}
 use Rattle.revosti.specs.Tell.{tellingNumber, ToldInC}
-use Rattle.demands.specs.Told.{TellPasses, told, TellAnswersInC}
+use Rattle.demands.specs.ToldLine.{TellPasses, told, TellAnswersInC}
 use Rattle.demands.proofs.ToldLines.{tells-exactly, told-text, told-line, told-fits, told-apart}
 
 bytes-number : (size : ℕ) → tellingNumber (Bytes size) ≡ 65536 * size

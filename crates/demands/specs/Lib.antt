@@ -8,4 +8,4 @@ pub mod Measured
 pub mod Pages
 pub mod Run
 pub mod SheetAnswer
-pub mod Told
+pub mod ToldLine

@@ -43,10 +43,10 @@ differences [] ys = 0
 differences (x ∷ xs) [] = 0
 differences (x ∷ xs) (y ∷ ys) = elim (eqb x y) [ true ↦ differences xs ys | false ↦ suc (differences xs ys) ]
 
--- from `marks` to `left` so many marks changed, each from open to the mark `by`, struck or pending: those of these edges, and no other
-pub record Changes (by n : ℕ) (marks left : List ℕ) (struck : List Edge) (lines : ℕ) : Type 0 where
+-- from `marks` to `left` so many marks changed, each from open to the mark `mark`, struck or pending: those of these edges, and no other
+pub record Changes (mark n : ℕ) (marks left : List ℕ) (struck : List Edge) (lines : ℕ) : Type 0 where
   pub size : length left ≡ length marks
-  pub each : (i : ℕ) → (markAt left i ≡ markAt marks i) ⊎ ((markAt marks i ≡ openMark) × (markAt left i ≡ by))
+  pub each : (i : ℕ) → (markAt left i ≡ markAt marks i) ⊎ ((markAt marks i ≡ openMark) × (markAt left i ≡ mark))
   pub counted : differences marks left ≡ lines
   pub exactly : (a b : ℕ) → IsEdge n a b → Has struck a b ↔ ((openIn n marks a b ≡ true) × (openIn n left a b ≡ false))
 

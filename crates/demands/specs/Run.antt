@@ -6,7 +6,7 @@ use lib.ListN.{length}
 use Rattle.endian.specs.Bytes.{whole16, whole32}
 use Rattle.marks.specs.Fresh.{freshAnswer, freshLeft, freshSetAnswer, freshSetLeft}
 use Rattle.marks.specs.Mark.{struckMark, openMark, pendingMark}
-use Rattle.marks.specs.Pending.{settledAnswer, settledLeft, settledSet}
+use Rattle.marks.specs.Pending.{resolvedAnswer, resolvedLeft, resolvedSet}
 use Rattle.revosti.specs.Between.{markBetweenInC}
 use Rattle.revosti.specs.Desk.{turnInC}
 use Rattle.revosti.specs.Mark.{markInC}
@@ -30,8 +30,8 @@ pub record Tables : Type 0 where
 abbrev pub oneTable : List ℕ → Tables
 oneTable table = record { low = table; high = table; own = table }
 
-abbrev pub limitsAlone : (low high : List ℕ) → Tables
-limitsAlone low high = record { low = low; high = high; own = [] }
+abbrev pub intervalsAlone : (low high : List ℕ) → Tables
+intervalsAlone low high = record { low = low; high = high; own = [] }
 
 -- a call with the n it states and its sheet
 pub record Call : Type 0 where
@@ -51,8 +51,8 @@ pub data Step : Type 0 where
 abbrev pub stepped : Tables → Step → List ℕ → List ℕ
 stepped T (marking call) m = markSheet (call .n) (T .own) m (call .sheet) .marks
 stepped T (asking call) m = askSheet (call .n) (T .own) m (call .sheet) .marks
-stepped T (confirming n) m = settledLeft (settledAnswer n m) struckMark m
-stepped T (withdrawing n) m = settledLeft (settledAnswer n m) openMark m
+stepped T (confirming n) m = resolvedLeft (resolvedAnswer n m) struckMark m
+stepped T (withdrawing n) m = resolvedLeft (resolvedAnswer n m) openMark m
 stepped T (marking-between call) m = markBetween (call .n) (T .low) (T .high) m (call .sheet) .marks
 stepped T (turning state call) m = turnOnMarks state (call .n) (T .own) m (call .sheet) .marks
 
@@ -64,8 +64,8 @@ stepsOf T = run (stepped T)
 abbrev pub steppedPacked : Tables → Step → List ℕ → List ℕ
 steppedPacked T (marking call) set = markPacked (call .n) (T .own) set (call .sheet) .marks
 steppedPacked T (asking call) set = askPacked (call .n) (T .own) set (call .sheet) .marks
-steppedPacked T (confirming n) set = settledSet struckMark n set
-steppedPacked T (withdrawing n) set = settledSet openMark n set
+steppedPacked T (confirming n) set = resolvedSet struckMark n set
+steppedPacked T (withdrawing n) set = resolvedSet openMark n set
 steppedPacked T (marking-between call) set = markBetweenPacked (call .n) (T .low) (T .high) set (call .sheet) .marks
 steppedPacked T (turning state call) set = turn state (call .n) (T .own) set (call .sheet) .marks
 
@@ -76,8 +76,8 @@ stepsPacked T = run (steppedPacked T)
 abbrev pub steppedInC : Tables → Step → List ℕ → List ℕ
 steppedInC T (marking call) set = markInC struckMark (call .n) (T .own) set (call .sheet) .marks
 steppedInC T (asking call) set = markInC pendingMark (call .n) (T .own) set (call .sheet) .marks
-steppedInC T (confirming n) set = settledSet struckMark n set
-steppedInC T (withdrawing n) set = settledSet openMark n set
+steppedInC T (confirming n) set = resolvedSet struckMark n set
+steppedInC T (withdrawing n) set = resolvedSet openMark n set
 steppedInC T (marking-between call) set = markBetweenInC (call .n) (T .low) (T .high) set (call .sheet) .marks
 steppedInC T (turning state call) set = turnInC state (call .n) (T .own) set (call .sheet) .marks
 

@@ -7,5 +7,5 @@ use Rattle.revosti.specs.Mark.{markInC}
 
 -- tables, sets and sheets are any bytes; marking writes struck marks, asking pending ones
 pub data SheetAnswer : Result (List ℕ) → Type 0 where
-  of-marking : (by n : ℕ) (table set s : List ℕ) → SheetAnswer (markInC by n table set s)
+  of-marking : (mark n : ℕ) (table set s : List ℕ) → SheetAnswer (markInC mark n table set s)
   of-between : (n : ℕ) (low high set s : List ℕ) → SheetAnswer (markBetweenInC n low high set s)

@@ -58,24 +58,24 @@ module _ {state : List ℕ} {d left : ℕ} (s : Seeking state d left) where
   seek-ends h = let k : left ≡ 0 = omega arith in sym (ap (seek state d) k) ∙ s .goes
 
 -- what is found: one of the eight, with a line left
-pub record Found (state : List ℕ) (d : ℕ) : Type 0 where
+pub record DeskFound (state : List ℕ) (d : ℕ) : Type 0 where
   pub low : 1 ≤ d
   pub high : d ≤ deskCount
   pub left : hasLine state d ≡ true
 
-pub seek-finds : (state : List ℕ) (d count e : ℕ) → 1 ≤ d → d ≤ deskCount → seek state d count ≡ next.Desk e → Found state e
+pub seek-finds : (state : List ℕ) (d count e : ℕ) → 1 ≤ d → d ≤ deskCount → seek state d count ≡ next.Desk e → DeskFound state e
 unfolding seek
 seek-finds state d zero e low high g = absurd (let z : _≡_ {A = ℕ} 0 1 = cc in omega arith)
 seek-finds state d (suc count) e low high g =
     by (hasLine state d) refl
     (λ h. seek-finds state (following d) count e (following-desk d .0) (following-desk d .1) (sym (seek-no state d count h) ∙ g))
   where
-    by : (b : Bool) → hasLine state d ≡ b → (hasLine state d ≡ false → Found state e) → Found state e
+    by : (b : Bool) → hasLine state d ≡ b → (hasLine state d ≡ false → DeskFound state e) → DeskFound state e
     by true h later = let q : next.Desk d ≡ next.Desk e = sym (seek-yes state d count h)
-        ∙ g in let i : d ≡ e = cc in subst (Found state) i (record { low = low; high = high; left = h })
+        ∙ g in let i : d ≡ e = cc in subst (DeskFound state) i (record { low = low; high = high; left = h })
     by false h later = later h
 
-pub next-found : (state : List ℕ) {d : ℕ} → nextDesk state ≡ next.Desk d → Found state d
+pub next-found : (state : List ℕ) {d : ℕ} → nextDesk state ≡ next.Desk d → DeskFound state d
 unfolding nextDesk
 next-found state {d} g = seek-finds state (following (lastServed state)) deskCount d (following-desk (lastServed state) .0)
     (following-desk (lastServed state) .1) g
@@ -85,5 +85,5 @@ pub line-left : (state : List ℕ) (d : ℕ) → hasLine state d ≡ true → li
 unfolding hasLine
 line-left state d h = ltb-true (linesAt state d) (nextIndex state d) h
 
-pub found-serves : {state : List ℕ} {d : ℕ} → stateBytes ≤ length state → Found state d → ServeAsked state d
+pub found-serves : {state : List ℕ} {d : ℕ} → stateBytes ≤ length state → DeskFound state d → ServeAsked state d
 found-serves {state} {d} room f = record { room = room; low = f .low; high = f .high; left = line-left state d (f .left) }

@@ -42,7 +42,7 @@ module _ {n : ℕ} {out put marks : List ℕ} {a b c : ℕ} {found₀ legs : Lis
   end-found : {other count : ℕ} {found : List ℕ} → EndOf (edge a b ∷ []) c other → Found (keep (atEnd? n put legs bound other) (edges n)) count found
       → Found (pairsAt n out put marks a b c) count found
   unfolding pairsAt atEnd?
-  end-found {other} e f = same-found (end-pairs (g .legs .limits .out-lengths) (g .legs .limits .put-lengths) p e (atEnd? n put legs bound other) (λ x y u. refl)) f
+  end-found {other} e f = same-found (end-pairs (g .legs .intervals .out-lengths) (g .legs .intervals .put-lengths) p e (atEnd? n put legs bound other) (λ x y u. refl)) f
 
   pub first-found : {count : ℕ} {found : List ℕ} → c ≡ a → Found (keep (atEnd? n put legs bound b) (edges n)) count found → Found (pairsAt n out put marks a b c) count found
   first-found e f = end-found (subst (λ (v : ℕ). EndOf (edge a b ∷ []) v b) (sym e) (end-first a b (g .apart))) f
@@ -123,7 +123,7 @@ module _ {n : ℕ} {out put marks : List ℕ} {a b c : ℕ} {found₀ legs : Lis
     (p : Prepared n (lengthOf n out) (lengthOf n put) (unstruckIn n marks) (edge a b ∷ []) c legs bound) (c-a : c ≡ a → ⊥) (c-b : c ≡ b → ⊥) where
   apart-pairs : {low high : ℕ} → Ordered a b low high → keep (passesApart? n put legs bound low high) (edges n) ≡ pairsAt n out put marks a b c
   unfolding pairsAt passesApart? unbarred?
-  apart-pairs {low} {high} o = single-pairs (g .legs .limits .out-lengths) (g .legs .limits .put-lengths) p (g .least) (g .apart) c-a c-b (passesApart? n put legs bound low high) same
+  apart-pairs {low} {high} o = single-pairs (g .legs .intervals .out-lengths) (g .legs .intervals .put-lengths) p (g .least) (g .apart) c-a c-b (passesApart? n put legs bound low high) same
     where
       same : (x y : ℕ) → IsEdgeUp n x y → passes? n put legs bound x y && not (eqb y (barredIn low high x)) ≡ passes? n put legs bound x y && not (joins? a b x y)
       same x y u = ap (λ (t : Bool). passes? n put legs bound x y && not t) (barred-edge o x y (u .low) (u .up))

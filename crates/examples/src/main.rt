@@ -9,9 +9,9 @@ mod measure;
 mod pages;
 mod pairs;
 mod pending;
+mod receipts;
 mod savings;
 mod six;
-mod slips;
 mod texts;
 mod tour_checks;
 
@@ -27,7 +27,7 @@ fn main() {
     let t = six::run(t);
     let t = converting::run(t);
     let t = savings::run(t);
-    let t = slips::run(t);
+    let t = receipts::run(t);
     let t = between::run(t);
     let t = texts::run(t);
     let t = pages::run(t);

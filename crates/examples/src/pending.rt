@@ -25,7 +25,7 @@ const FRESH: [u8; 3] = [85, 5, 85];
 const PENDING: [u8; 3] = [89, 6, 170];
 
 // Confirms, or withdraws.
-fn settle(confirms: bool, n: u32, marks: &mut [u8]) -> u64 {
+fn resolve(confirms: bool, n: u32, marks: &mut [u8]) -> u64 {
     if confirms {
         text(b"confirm,");
         return revosti_confirm(n, marks);
@@ -35,7 +35,7 @@ fn settle(confirms: bool, n: u32, marks: &mut [u8]) -> u64 {
 }
 
 // Confirms, or withdraws, with n stated and the first so many bytes of these marks.
-fn settled(
+fn resolved(
     t: Tally,
     confirms: bool,
     n: u32,
@@ -46,7 +46,7 @@ fn settled(
 ) -> Tally {
     let mut found = lent;
     let k = some_bytes(size, &found);
-    let got = settle(confirms, n, &mut found[..k]);
+    let got = resolve(confirms, n, &mut found[..k]);
     figure(b" points ", n as u64);
     figure(b", first ", size as u64);
     text(b" bytes of marks");
@@ -57,14 +57,14 @@ fn settled(
 
 // The same, where it is refused: the marks stay.
 fn refused(t: Tally, confirms: bool, n: u32, lent: [u8; 3], size: usize, number: u64) -> Tally {
-    settled(t, confirms, n, lent, size, number, lent)
+    resolved(t, confirms, n, lent, size, number, lent)
 }
 
-// What is pending is settled, of the two edges and of marks 021022; each refusal, and their order.
+// What is pending is resolved, of the two edges and of marks 021022; each refusal, and their order.
 fn each(t: Tally, confirms: bool, two: [u8; 3], three: [u8; 3]) -> Tally {
-    let t = settled(t, confirms, 4, PENDING, 2, 0, two);
+    let t = resolved(t, confirms, 4, PENDING, 2, 0, two);
     let t = refused(t, confirms, 4, two, 2, 21);
-    let t = settled(t, confirms, 4, [24, 10, 255], 2, 0, three);
+    let t = resolved(t, confirms, 4, [24, 10, 255], 2, 0, three);
     let t = refused(t, confirms, 3, [25, 6, 170], 1, 1);
     let t = refused(t, confirms, 181, PENDING, 2, 1);
     let t = refused(t, confirms, 4, PENDING, 1, 6);
@@ -94,7 +94,7 @@ fn as_marked(t: Tally, sheet: [u8; 112], size: usize, number: u64) -> Tally {
     figure(b": ", got);
     figure(b", should be as marked, ", verdict);
     let t = t.judged(got == verdict);
-    settled(t, true, 4, asked, 2, number, marked)
+    resolved(t, true, 4, asked, 2, number, marked)
 }
 
 // Accepted; stopped behind its first line; and stopped there, so that nothing is pending.

@@ -6,7 +6,7 @@ pub mod Extremes
 pub mod Filling
 pub mod Guesses
 pub mod Instances
-pub mod Limits
+pub mod AtMostTests
 pub mod Measuring
 pub mod Products
 pub mod RowFilling

@@ -18,7 +18,7 @@ use Rattle.lengths.specs.declared.instance.Instance.{Instance}
 use Rattle.lengths.specs.Instance.{admission, mostCoordinate}
 use Rattle.lengths.specs.declared.outcome.Outcome.the-variants.{Done, Refused}
 use Rattle.lists.specs.Test.{allAtMost}
-use Rattle.lengths.proofs.Limits.{limit-each}
+use Rattle.lengths.proofs.AtMostTests.{at-most-each}
 use Rattle.lengths.proofs.Instances.{Admits, out-of-range}
 
 -- tests 1 and 2 are passed
@@ -78,6 +78,6 @@ fillable {n} {i} {cs} {table} s w = record {
   some = omega (arith, s .admits);
   few = omega (arith, s .admits);
   located = omega (arith, s .admits .points, s .coordinates);
-  small = limit-each mostCoordinate cs w;
+  small = at-most-each mostCoordinate cs w;
   whole = s .whole ∙ ap edgeCount (sym (s .admits .points));
 }

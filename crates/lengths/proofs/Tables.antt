@@ -11,10 +11,10 @@ use lib.ListN.{getD}
 use borrow.Author.Tests.{eq-eqb, ne-eqb}
 use Rattle.lengths.specs.Edge.{place, placeUp}
 use Rattle.lengths.specs.Instance.{mostLength}
-use Rattle.lengths.specs.Table.{Lengths, Limits, lengthOf}
+use Rattle.lengths.specs.Table.{Lengths, Intervals, lengthOf}
 use Rattle.lists.specs.Test.{eachAtMost}
 use Rattle.lengths.proofs.Edges.{place-symmetric, place-up, three-way}
-use Rattle.lengths.proofs.Limits.{order-each}
+use Rattle.lengths.proofs.AtMostTests.{order-each}
 
 pub length-self : (n : ℕ) (table : List ℕ) (a : ℕ) → lengthOf n table a a ≡ 0
 unfolding lengthOf
@@ -48,13 +48,13 @@ length-small {n} {table} h a b = go (eqb a b) refl
     go false e = rw (lengthOf, e) (h .small (place n a b))
 
 -- one table is what is taken out and what is put in
-pub limits-same : {n : ℕ} {table : List ℕ} → Lengths n table → Limits n table table
-limits-same l = record { out-lengths = l; put-lengths = l; order = λ a b. omega arith }
+pub intervals-same : {n : ℕ} {table : List ℕ} → Lengths n table → Intervals n table table
+intervals-same l = record { out-lengths = l; put-lengths = l; order = λ a b. omega arith }
 
 -- two tables of n points whose entries are in order are limits of each length
-pub limits-ordered : {n : ℕ} {low high : List ℕ} → Lengths n low → Lengths n high → eachAtMost low high ≡ true → Limits n low high
+pub intervals-ordered : {n : ℕ} {low high : List ℕ} → Lengths n low → Lengths n high → eachAtMost low high ≡ true → Intervals n low high
 unfolding lengthOf
-limits-ordered {n} {low} {high} l h o = record { out-lengths = l; put-lengths = h; order = λ a b. go a b (eqb a b) refl }
+intervals-ordered {n} {low} {high} l h o = record { out-lengths = l; put-lengths = h; order = λ a b. go a b (eqb a b) refl }
   where
     go : (a b : ℕ) (t : Bool) → eqb a b ≡ t → lengthOf n low a b ≤ lengthOf n high a b
     go a b true e = rw (lengthOf, e) (omega arith)

@@ -1,8 +1,8 @@
 // The first layer: the order of edges, TSPLIB's distances, and tables of lengths.
+pub mod at_most;
 pub mod distance;
 pub mod edge;
 pub mod instance;
-pub mod limit;
 pub mod measure;
 pub mod outcome;
 pub mod refusal;

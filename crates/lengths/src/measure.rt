@@ -1,4 +1,5 @@
 // The operation "measure": coordinates into a table of lengths, both little-endian bytes.
+use crate::at_most::all_at_most;
 use crate::distance::NamedRule;
 use crate::distance::Root;
 use crate::distance::Rule;
@@ -6,7 +7,6 @@ use crate::distance::gap_distance;
 use crate::edge;
 use crate::instance::Admission;
 use crate::instance::Instance;
-use crate::limit::all_at_most;
 use crate::outcome::Outcome;
 use crate::outcome::refused;
 use crate::refusal;

@@ -40,7 +40,7 @@ module _ {n : ℕ} {out put marks : List ℕ} (l : Listable n out put marks) (a 
   -- the array has room for a pair with each edge
   findable : {found : List ℕ} → 2 * edgeCount n ≤ length found → FindAsked n out put marks a b c found
   findable z = record {
-    legs = record { limits = l .limits; marked = l .marked; centre = fitting .how-fits };
+    legs = record { intervals = l .intervals; marked = l .marked; centre = fitting .closing-fits };
     least = l .least;
     first = fitting .point-a;
     second = fitting .point-b;
@@ -53,7 +53,7 @@ module _ {n : ℕ} {out put marks : List ℕ} (l : Listable n out put marks) (a 
   findable-small h z = findable (omega (arith, edges-fewer n h))
 
   pub findable-large : {found : List ℕ} → length found ≡ 2 * mostEdges → FindAsked n out put marks a b c found
-  findable-large z = findable (omega (arith, edges-few n (l .limits .out-lengths .few)))
+  findable-large z = findable (omega (arith, edges-few n (l .intervals .out-lengths .few)))
 
 -- the ways out of `list_tested`
 module _ {n : ℕ} {out put marks : List ℕ} {a b c : ℕ} {list : List ℕ} {answer : Listed} where

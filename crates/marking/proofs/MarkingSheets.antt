@@ -36,9 +36,9 @@ use Rattle.admission.specs.declared.tested.Tested.{Tested}
 use Rattle.admission.specs.declared.tested.Tested.the-variants.{Points, Refused}
 
 -- arrays for the rows of `most` points have room for those of fewer
-pub rows-room : {by n : ℕ} {out put outs puts marks s : List ℕ} {count : ℕ} (most : ℕ) → AdmittedBy by n out put marks s count → n ≤ most
-    → length outs ≡ (most + 1) * (most + 1) → length puts ≡ (most + 1) * (most + 1) → RowsAsked by n out put outs puts marks s count
-rows-room {by} {n} most a h e f =
+pub rows-room : {mark n : ℕ} {out put outrows putrows marks s : List ℕ} {count : ℕ} (most : ℕ) → AdmittedBy mark n out put marks s count → n ≤ most
+    → length outrows ≡ (most + 1) * (most + 1) → length putrows ≡ (most + 1) * (most + 1) → RowsAsked mark n out put outrows putrows marks s count
+rows-room {mark} {n} most a h e f =
     let up : n + 1 ≤ most + 1 = omega arith in
     let room : (n + 1) * (n + 1) ≤ (most + 1) * (most + 1) = mul-le-mul up up in
     record { is-mark = a .is-mark; admitted = a .admitted; out-room = omega (arith, room); put-room = omega (arith, room) }
@@ -48,26 +48,26 @@ pub cleared : (most : ℕ) → length (replicate {A = ℕ} ((most + 1) * (most +
 cleared most = length-replicate {A = ℕ} ((most + 1) * (most + 1)) 0
 
 -- a sheet that the tests pass is admitted with its instance
-pub admits-between : {by n : ℕ} {out put : List ℕ} (set : List ℕ) {s : List ℕ} {p : ℕ} {a : SheetAdmission} {x : declared.Sheet} → by ≤ pendingMark → BetweenPassed n out put (marksOf n set) p
-    → a ≡ sheetAdmission (length s) → a ≡ admitting.Admitted x → AdmittedBy by p out put (marksOf p set) s (x .records)
+pub admits-between : {mark n : ℕ} {out put : List ℕ} (set : List ℕ) {s : List ℕ} {p : ℕ} {a : SheetAdmission} {x : declared.Sheet} → mark ≤ pendingMark → BetweenPassed n out put (marksOf n set) p
+    → a ≡ sheetAdmission (length s) → a ≡ admitting.Admitted x → AdmittedBy mark p out put (marksOf p set) s (x .records)
 unfolding records
 admits-between set {s = s} l t w z =
     let i = sheet-admitted (sym w ∙ z) in
     let h = sheet-records s (i .passed) in
     let m = listable-set set t in
-    record { admitted = record { least = m .least; limits = m .limits; marked = m .marked; whole = record { exact = h .whole; counted = i .counted }; few = h .few }; is-mark = l }
+    record { admitted = record { least = m .least; intervals = m .intervals; marked = m .marked; whole = record { exact = h .whole; counted = i .counted }; few = h .few }; is-mark = l }
 
-pub sheet-admits : {by : ℕ} (n : ℕ) {table : List ℕ} (set : List ℕ) {s : List ℕ} {r : Tested} {p : ℕ} {a : SheetAdmission} {x : declared.Sheet} → by ≤ pendingMark → r ≡ ready n table (marksOf n set) → r ≡ Points p
-    → a ≡ sheetAdmission (length s) → a ≡ admitting.Admitted x → AdmittedBy by p table table (marksOf p set) s (x .records)
+pub sheet-admits : {mark : ℕ} (n : ℕ) {table : List ℕ} (set : List ℕ) {s : List ℕ} {r : Tested} {p : ℕ} {a : SheetAdmission} {x : declared.Sheet} → mark ≤ pendingMark → r ≡ ready n table (marksOf n set) → r ≡ Points p
+    → a ≡ sheetAdmission (length s) → a ≡ admitting.Admitted x → AdmittedBy mark p table table (marksOf p set) s (x .records)
 sheet-admits n set l e g w z = admits-between set l (both-passed (passed (ready-tested (sym e ∙ g) .tests))) w z
 
 -- marks of n points, one of them or those of a sheet's lines marked anew, are marks of n points
-pub struck-set : (by p : ℕ) {n : ℕ} → by ≤ pendingMark → (m : List ℕ) (a b : ℕ) → ByteSet n m → ByteSet n (markIn by p m a b)
+pub struck-set : (mark p : ℕ) {n : ℕ} → mark ≤ pendingMark → (m : List ℕ) (a b : ℕ) → ByteSet n m → ByteSet n (markIn mark p m a b)
 unfolding markIn
-struck-set by p l m a b k = record { size = length-marked by p m a b ∙ k .size; are = marks-set m (place p a b) by l (k .are) }
+struck-set mark p l m a b k = record { size = length-marked mark p m a b ∙ k .size; are = marks-set m (place p a b) mark l (k .are) }
 
-pub marked-set : (by p : ℕ) {n : ℕ} (out put s : List ℕ) {marks : List ℕ} → by ≤ pendingMark → ByteSet n marks → ByteSet n (sheet (markingBetween by p out put) s marks .marks)
-marked-set by p {n} out put s {marks} l = sheet-keeps (markingBetween by p out put) (ByteSet n) (struck-set by p l) s marks
+pub marked-set : (mark p : ℕ) {n : ℕ} (out put s : List ℕ) {marks : List ℕ} → mark ≤ pendingMark → ByteSet n marks → ByteSet n (sheet (markingBetween mark p out put) s marks .marks)
+marked-set mark p {n} out put s {marks} l = sheet-keeps (markingBetween mark p out put) (ByteSet n) (struck-set mark p l) s marks
 
 packed-result : (v : Verdict) {left : List ℕ} (marks : List ℕ) → left ≡ packed marks → resultOf v left ≡ packedResult (resultOf v marks)
 packed-result (verdict.Accepted lines) marks e = ap (λ (m : List ℕ). resultOf (verdict.Accepted lines) m) e
@@ -79,18 +79,18 @@ result-marks (verdict.Accepted lines) marks = refl
 result-marks (verdict.Refused number rec lines) marks = refl
 
 -- lines that are marked over the marks of a well packed set leave the packed set of what they leave
-marked-packed : (by p n : ℕ) (out put s set : List ℕ) (v : Verdict) (left : List ℕ) → by ≤ pendingMark → 0 < edgeCount n → wellPacked n set ≡ true
-    → resultOf v (marksOf n left) ≡ sheet (markingBetween by p out put) s (marksOf n set) → resultOf v left ≡ repack n set (sheet (markingBetween by p out put) s (marksOf n set))
+marked-packed : (mark p n : ℕ) (out put s set : List ℕ) (v : Verdict) (left : List ℕ) → mark ≤ pendingMark → 0 < edgeCount n → wellPacked n set ≡ true
+    → resultOf v (marksOf n left) ≡ sheet (markingBetween mark p out put) s (marksOf n set) → resultOf v left ≡ repack n set (sheet (markingBetween mark p out put) s (marksOf n set))
 unfolding repacked
-marked-packed by p n out put s set v left l some h q =
-    let m : marksOf n left ≡ sheet (markingBetween by p out put) s (marksOf n set) .marks = sym (result-marks v (marksOf n left)) ∙ ap (λ (r : Result (List ℕ)). r .marks) q in
-    let e : left ≡ packed (marksOf n left) = held-packed left some m (marked-set by p out put s l (held-set n set h)) ∙ ap packed (sym m) in
+marked-packed mark p n out put s set v left l some h q =
+    let m : marksOf n left ≡ sheet (markingBetween mark p out put) s (marksOf n set) .marks = sym (result-marks v (marksOf n left)) ∙ ap (λ (r : Result (List ℕ)). r .marks) q in
+    let e : left ≡ packed (marksOf n left) = held-packed left some m (marked-set mark p out put s l (held-set n set h)) ∙ ap packed (sym m) in
     packed-result v (marksOf n left) e ∙ ap packedResult q ∙ sym (rw h)
 
 -- the ways out, over the packed set, behind tests that answer `base`
-module _ (by n : ℕ) (out put set s : List ℕ) {r base : Tested} (e : r ≡ base) where
-  as-tested : {r′ : Tested} → r ≡ r′ → repack n set (markTested by r′ out put (marksOf n set) s) ≡ repack n set (markTested by base out put (marksOf n set) s)
-  as-tested g = ap (λ (t : Tested). repack n set (markTested by t out put (marksOf n set) s)) (sym g ∙ e)
+module _ (mark n : ℕ) (out put set s : List ℕ) {r base : Tested} (e : r ≡ base) where
+  as-tested : {r′ : Tested} → r ≡ r′ → repack n set (markTested mark r′ out put (marksOf n set) s) ≡ repack n set (markTested mark base out put (marksOf n set) s)
+  as-tested g = ap (λ (t : Tested). repack n set (markTested mark t out put (marksOf n set) s)) (sym g ∙ e)
 
   -- a call that is turned down leaves the set as it is
   turns-down : {v : Verdict} {number : ℕ} → v ≡ verdict.Refused number 0 0 → resultOf v set ≡ repack n set (turnedDown number (marksOf n set))
@@ -98,36 +98,36 @@ module _ (by n : ℕ) (out put set s : List ℕ) {r base : Tested} (e : r ≡ ba
       ap (λ (v : Verdict). resultOf v set) h
       ∙ ap (λ (m : List ℕ). resultOf (verdict.Refused number 0 0) m) (sym (repacked-same n set))
 
-  pub untested : {number : ℕ} {v : Verdict} → r ≡ Refused number → v ≡ verdict.Refused number 0 0 → resultOf v set ≡ repack n set (markTested by base out put (marksOf n set) s)
+  pub untested : {number : ℕ} {v : Verdict} → r ≡ Refused number → v ≡ verdict.Refused number 0 0 → resultOf v set ≡ repack n set (markTested mark base out put (marksOf n set) s)
   untested g h = turns-down h ∙ as-tested g
 
   module _ {p : ℕ} (g : r ≡ Points p) {a : SheetAdmission} (w : a ≡ sheetAdmission (length s)) where
-    as-whole : (b : Bool) → wholeSheet (length s) ≡ b → repack n set (unless b (turnedDown 7 (marksOf n set)) (sheet (markingBetween by p out put) s (marksOf n set)))
-        ≡ repack n set (markTested by base out put (marksOf n set) s)
-    as-whole b h = ap (λ (t : Bool). repack n set (unless t (turnedDown 7 (marksOf n set)) (sheet (markingBetween by p out put) s (marksOf n set)))) (sym h) ∙ as-tested g
+    as-whole : (b : Bool) → wholeSheet (length s) ≡ b → repack n set (unless b (turnedDown 7 (marksOf n set)) (sheet (markingBetween mark p out put) s (marksOf n set)))
+        ≡ repack n set (markTested mark base out put (marksOf n set) s)
+    as-whole b h = ap (λ (t : Bool). repack n set (unless t (turnedDown 7 (marksOf n set)) (sheet (markingBetween mark p out put) s (marksOf n set)))) (sym h) ∙ as-tested g
 
-    pub not-whole : {v : Verdict} → a ≡ admitting.Refused → v ≡ verdict.Refused 7 0 0 → resultOf v set ≡ repack n set (markTested by base out put (marksOf n set) s)
+    pub not-whole : {v : Verdict} → a ≡ admitting.Refused → v ≡ verdict.Refused 7 0 0 → resultOf v set ≡ repack n set (markTested mark base out put (marksOf n set) s)
     not-whole z h = turns-down h ∙ as-whole false (sheet-refused (length s) (sym w ∙ z))
 
-    pub marked : {x : declared.Sheet} → a ≡ admitting.Admitted x → BetweenPassed n out put (marksOf n set) p → (v : Verdict) (left : List ℕ) → by ≤ pendingMark
-        → resultOf v (marksOf p left) ≡ sheet (markingBetween by p out put) s (marksOf p set) → resultOf v left ≡ repack n set (markTested by base out put (marksOf n set) s)
+    pub marked : {x : declared.Sheet} → a ≡ admitting.Admitted x → BetweenPassed n out put (marksOf n set) p → (v : Verdict) (left : List ℕ) → mark ≤ pendingMark
+        → resultOf v (marksOf p left) ≡ sheet (markingBetween mark p out put) s (marksOf p set) → resultOf v left ≡ repack n set (markTested mark base out put (marksOf n set) s)
     marked z t v left l q =
-        marked-packed by p n out put s set v left l (passed-some t) (passed-well set t)
-        (ap (λ (k : ℕ). resultOf v (marksOf k left)) (sym (t .same)) ∙ q ∙ ap (λ (k : ℕ). sheet (markingBetween by p out put) s (marksOf k set)) (t .same))
+        marked-packed mark p n out put s set v left l (passed-some t) (passed-well set t)
+        (ap (λ (k : ℕ). resultOf v (marksOf k left)) (sym (t .same)) ∙ q ∙ ap (λ (k : ℕ). sheet (markingBetween mark p out put) s (marksOf k set)) (t .same))
         ∙ as-whole true (sheet-admitted (sym w ∙ z) .passed)
 
 -- the ways out of `mark_with`
-module _ (by n : ℕ) (table set s : List ℕ) {r : Tested} (e : r ≡ ready n table (marksOf n set)) where
-  pub sheet-untested : {number : ℕ} {v : Verdict} → r ≡ Refused number → v ≡ verdict.Refused number 0 0 → resultOf v set ≡ markPackedBy by n table set s
+module _ (mark n : ℕ) (table set s : List ℕ) {r : Tested} (e : r ≡ ready n table (marksOf n set)) where
+  pub sheet-untested : {number : ℕ} {v : Verdict} → r ≡ Refused number → v ≡ verdict.Refused number 0 0 → resultOf v set ≡ markPackedBy mark n table set s
   unfolding markBy markPackedBy
-  sheet-untested g h = untested by n table table set s e g h
+  sheet-untested g h = untested mark n table table set s e g h
 
   module _ {p : ℕ} (g : r ≡ Points p) {a : SheetAdmission} (w : a ≡ sheetAdmission (length s)) where
-    pub sheet-not-whole : {v : Verdict} → a ≡ admitting.Refused → v ≡ verdict.Refused 7 0 0 → resultOf v set ≡ markPackedBy by n table set s
+    pub sheet-not-whole : {v : Verdict} → a ≡ admitting.Refused → v ≡ verdict.Refused 7 0 0 → resultOf v set ≡ markPackedBy mark n table set s
     unfolding markBy markPackedBy
-    sheet-not-whole z h = not-whole by n table table set s e g w z h
+    sheet-not-whole z h = not-whole mark n table table set s e g w z h
 
-    pub sheet-marked : {x : declared.Sheet} → a ≡ admitting.Admitted x → (v : Verdict) (left : List ℕ) → by ≤ pendingMark
-        → resultOf v (marksOf p left) ≡ sheet (markingBy by p table) s (marksOf p set) → resultOf v left ≡ markPackedBy by n table set s
+    pub sheet-marked : {x : declared.Sheet} → a ≡ admitting.Admitted x → (v : Verdict) (left : List ℕ) → mark ≤ pendingMark
+        → resultOf v (marksOf p left) ≡ sheet (markingBy mark p table) s (marksOf p set) → resultOf v left ≡ markPackedBy mark n table set s
     unfolding markBy markPackedBy
-    sheet-marked z v left l q = marked by n table table set s e g w z (both-passed (passed (ready-tested (sym e ∙ g) .tests))) v left l q
+    sheet-marked z v left l q = marked mark n table table set s e g w z (both-passed (passed (ready-tested (sym e ∙ g) .tests))) v left l q

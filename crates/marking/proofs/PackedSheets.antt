@@ -22,25 +22,25 @@ use Rattle.admission.specs.declared.tested.Tested.{Tested}
 use Rattle.admission.specs.declared.tested.Tested.the-variants.{Points, Refused}
 
 -- marks of p points that are marked behind any tests, or turned down, are marks of p points, whatever n a call states
-pub tested-byte-set : (by : ℕ) {p : ℕ} (out put s : List ℕ) {bytes : List ℕ} → by ≤ pendingMark → ByteSet p bytes → (t : Tested) → ByteSet p (markTested by t out put bytes s .marks)
-tested-byte-set by {p} out put s {bytes} l b (Refused number) = b
-tested-byte-set by {p} out put s {bytes} l b (Points q) = whole (wholeSheet (length s))
+pub tested-byte-set : (mark : ℕ) {p : ℕ} (out put s : List ℕ) {bytes : List ℕ} → mark ≤ pendingMark → ByteSet p bytes → (t : Tested) → ByteSet p (markTested mark t out put bytes s .marks)
+tested-byte-set mark {p} out put s {bytes} l b (Refused number) = b
+tested-byte-set mark {p} out put s {bytes} l b (Points q) = whole (wholeSheet (length s))
   where
-    whole : (t : Bool) → ByteSet p (unless t (turnedDown 7 bytes) (sheet (markingBetween by q out put) s bytes) .marks)
-    whole true = marked-set by q out put s l b
+    whole : (t : Bool) → ByteSet p (unless t (turnedDown 7 bytes) (sheet (markingBetween mark q out put) s bytes) .marks)
+    whole true = marked-set mark q out put s l b
     whole false = b
 
-pub mark-byte-set : (by n : ℕ) {p : ℕ} (table s : List ℕ) {bytes : List ℕ} → by ≤ pendingMark → ByteSet p bytes → ByteSet p (markBy by n table bytes s .marks)
+pub mark-byte-set : (mark n : ℕ) {p : ℕ} (table s : List ℕ) {bytes : List ℕ} → mark ≤ pendingMark → ByteSet p bytes → ByteSet p (markBy mark n table bytes s .marks)
 unfolding markBy
-mark-byte-set by n {p} table s {bytes} l b = tested-byte-set by table table s l b (ready n table bytes)
+mark-byte-set mark n {p} table s {bytes} l b = tested-byte-set mark table table s l b (ready n table bytes)
 
-module _ (by : ℕ) {n : ℕ} (table s : List ℕ) {bytes : List ℕ} (b : ByteSet n bytes) where
+module _ (mark : ℕ) {n : ℕ} (table s : List ℕ) {bytes : List ℕ} (b : ByteSet n bytes) where
   -- the packed set of marks, marked
-  pub mark-packed : markPackedBy by n table (packed bytes) s ≡ packedResult (markBy by n table bytes s)
+  pub mark-packed : markPackedBy mark n table (packed bytes) s ≡ packedResult (markBy mark n table bytes s)
   unfolding markPackedBy repacked
   mark-packed =
-      let r : Result (List ℕ) = markBy by n table bytes s in
-      ap (λ (m : List ℕ). repack n (packed bytes) (markBy by n table m s)) (marks-packed b)
+      let r : Result (List ℕ) = markBy mark n table bytes s in
+      ap (λ (m : List ℕ). repack n (packed bytes) (markBy mark n table m s)) (marks-packed b)
       ∙ ap (λ (t : Bool). record { marks = cond t (packed (r .marks)) (packed bytes); lines = r .lines; verdict = r .verdict }) (packed-is-well b)
 
   -- a result by the marks that its packed set holds
@@ -52,9 +52,9 @@ module _ (by : ℕ) {n : ℕ} (table s : List ℕ) {bytes : List ℕ} (b : ByteS
   held-result (verdict.Refused number rec lines) left = refl
 
   -- what marking the packed set leaves holds what marking the byte set leaves
-  pub mark-held : (v : Verdict) (left : List ℕ) → by ≤ pendingMark → resultOf v left ≡ markPackedBy by n table (packed bytes) s → resultOf v (marksOf n left) ≡ markBy by n table bytes s
+  pub mark-held : (v : Verdict) (left : List ℕ) → mark ≤ pendingMark → resultOf v left ≡ markPackedBy mark n table (packed bytes) s → resultOf v (marksOf n left) ≡ markBy mark n table bytes s
   mark-held v left l e =
-      let r : Result (List ℕ) = markBy by n table bytes s in
+      let r : Result (List ℕ) = markBy mark n table bytes s in
       held-result v left
       ∙ ap held (e ∙ mark-packed)
-      ∙ ap (λ (m : List ℕ). record { marks = m; lines = r .lines; verdict = r .verdict }) (marks-packed (mark-byte-set by n table s l b))
+      ∙ ap (λ (m : List ℕ). record { marks = m; lines = r .lines; verdict = r .verdict }) (marks-packed (mark-byte-set mark n table s l b))

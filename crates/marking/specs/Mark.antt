@@ -17,13 +17,14 @@ use Rattle.admission.specs.declared.tested.Tested.the-variants.{Points, Refused
 abbrev pub turnedDown : ℕ → List ℕ → Result (List ℕ)
 turnedDown number marks = record { marks = marks; lines = 0; verdict = refused number 0 }
 
-abbrev pub markTested : (by : ℕ) → Tested → (out put marks : List ℕ) → List ℕ → Result (List ℕ)
-markTested by (Refused number) out put marks s = turnedDown number marks
-markTested by (Points n) out put marks s = unless (wholeSheet (length s)) (turnedDown 7 marks) (sheet (markingBetween by n out put) s marks)
+abbrev pub markTested : (mark : ℕ) → Tested → (out put marks : List ℕ) → List ℕ → Result (List ℕ)
+markTested mark (Refused number) out put marks s = turnedDown number marks
+markTested mark (Points n) out put marks s =
+    unless (wholeSheet (length s)) (turnedDown 7 marks) (sheet (markingBetween mark n out put) s marks)
 
--- a sheet whose accepted lines write the mark `by`: what it answers, and the marks that it leaves
-unfoldable pub markBy : (by : ℕ) → ℕ → List ℕ → List ℕ → List ℕ → Result (List ℕ)
-markBy by n table marks s = markTested by (ready n table marks) table table marks s
+-- a sheet whose accepted lines write the mark `mark`: what it answers, and the marks that it leaves
+unfoldable pub markBy : (mark : ℕ) → ℕ → List ℕ → List ℕ → List ℕ → Result (List ℕ)
+markBy mark n table marks s = markTested mark (ready n table marks) table table marks s
 
 -- "mark a sheet": its strikes are struck
 abbrev pub markSheet : ℕ → List ℕ → List ℕ → List ℕ → Result (List ℕ)
@@ -41,8 +42,8 @@ packedResult r = record { marks = packed (r .marks); lines = r .lines; verdict =
 abbrev pub repack : ℕ → List ℕ → Result (List ℕ) → Result (List ℕ)
 repack n set r = record { marks = repacked n set (r .marks); lines = r .lines; verdict = r .verdict }
 
-unfoldable pub markPackedBy : (by : ℕ) → ℕ → List ℕ → List ℕ → List ℕ → Result (List ℕ)
-markPackedBy by n table set s = repack n set (markBy by n table (marksOf n set) s)
+unfoldable pub markPackedBy : (mark : ℕ) → ℕ → List ℕ → List ℕ → List ℕ → Result (List ℕ)
+markPackedBy mark n table set s = repack n set (markBy mark n table (marksOf n set) s)
 
 abbrev pub markPacked : ℕ → List ℕ → List ℕ → List ℕ → Result (List ℕ)
 markPacked = markPackedBy struckMark

@@ -30,44 +30,44 @@ pub const MOST_ROWS: usize = Instance::PLACES * Instance::PLACES;
 // Writes the rows of lengths, and marks the lines by them: one table is what is taken out and what is put in.
 fn mark_by_rows(
     n: u16,
-    by: u8,
+    mark: u8,
     table: &[u8],
     rows: &mut [u32],
     marks: &mut [u8],
     sheet: &[u8],
     count: u16,
 ) -> Verdict
-    requires { ⌜ RowsAsked by n (whole32 (now table)) (whole32 (now table)) (now rows) (now rows)
+    requires { ⌜ RowsAsked mark n (whole32 (now table)) (whole32 (now table)) (now rows) (now rows)
         (marksOf n (now marks)) (whole16 (now sheet)) count ⌝ }
     ensures { λ r. ⌜ resultOf r (marksOf n (now (marks .exit))) ≡ lines.sheet
-        (markingBy by n (whole32 (now (table .entry)))) (whole16 (now (sheet .entry)))
+        (markingBy mark n (whole32 (now (table .entry)))) (whole16 (now (sheet .entry)))
         (marksOf n (now (marks .entry))) ⌝ }
 {
     fill_rows(n, table, rows);
-    mark_lines(n, by, table, table, rows, rows, marks, sheet, count)
+    mark_lines(n, mark, table, table, rows, rows, marks, sheet, count)
 }
 
 // Marks the lines of a sheet that passed the tests, and has so many records. Few points take a small array, which is
 // cleared sooner.
 fn mark_admitted(
     n: u16,
-    by: u8,
+    mark: u8,
     table: &[u8],
     marks: &mut [u8],
     sheet: &[u8],
     count: u16,
 ) -> Verdict
-    requires { ⌜ AdmittedBy by n (whole32 (now table)) (whole32 (now table)) (marksOf n (now marks)) (whole16 (now sheet)) count ⌝ }
+    requires { ⌜ AdmittedBy mark n (whole32 (now table)) (whole32 (now table)) (marksOf n (now marks)) (whole16 (now sheet)) count ⌝ }
     ensures { λ r. ⌜ resultOf r (marksOf n (now (marks .exit))) ≡ lines.sheet
-        (markingBy by n (whole32 (now (table .entry)))) (whole16 (now (sheet .entry)))
+        (markingBy mark n (whole32 (now (table .entry)))) (whole16 (now (sheet .entry)))
         (marksOf n (now (marks .entry))) ⌝ }
 {
     if n <= Instance::FEW_POINTS {
         let mut rows = [0u32; FEW_ROWS];
-        return mark_by_rows(n, by, table, &mut rows, marks, sheet, count);
+        return mark_by_rows(n, mark, table, &mut rows, marks, sheet, count);
     }
     let mut rows = [0u32; MOST_ROWS];
-    mark_by_rows(n, by, table, &mut rows, marks, sheet, count)
+    mark_by_rows(n, mark, table, &mut rows, marks, sheet, count)
 }
 
 // The answer where a test of the call fails: no record is at fault, and no line was accepted.
@@ -81,10 +81,10 @@ pub fn turned_down(number: u8) -> Verdict
     }
 }
 
-// A sheet whose accepted lines write the mark `by`: tests 1, 2, 5, 6, 20 and 7, then its lines.
-fn mark_with(by: u8, n: u32, table: &[u8], marks: &mut [u8], sheet: &[u8]) -> Verdict
-    requires { ⌜ by ≤ pendingMark ⌝ }
-    ensures { λ r. ⌜ resultOf r (now (marks .exit)) ≡ markPackedBy by n (whole32 (now (table .entry)))
+// A sheet whose accepted lines write the mark `mark`: tests 1, 2, 5, 6, 20 and 7, then its lines.
+fn mark_with(mark: u8, n: u32, table: &[u8], marks: &mut [u8], sheet: &[u8]) -> Verdict
+    requires { ⌜ mark ≤ pendingMark ⌝ }
+    ensures { λ r. ⌜ resultOf r (now (marks .exit)) ≡ markPackedBy mark n (whole32 (now (table .entry)))
         (now (marks .entry)) (whole16 (now (sheet .entry))) ⌝ }
 {
     let points = match test_ready(n, table, marks) {
@@ -96,7 +96,7 @@ fn mark_with(by: u8, n: u32, table: &[u8], marks: &mut [u8], sheet: &[u8]) -> Ve
         SheetAdmission::Refused => turned_down(refusal::SHEET),
         SheetAdmission::Admitted(admitted) => mark_admitted(
             points,
-            by,
+            mark,
             table,
             marks,
             sheet,

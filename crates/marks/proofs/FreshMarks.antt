@@ -13,7 +13,7 @@ use Rattle.lengths.specs.Instance.{admission, inRange}
 use Rattle.lengths.specs.declared.instance.Admission.the-variants.{OutOfRange}
 use Rattle.lengths.specs.declared.instance.Instance.{Instance}
 use Rattle.lengths.proofs.Edges.{place-below}
-use Rattle.lengths.proofs.Limits.{each-limit}
+use Rattle.lengths.proofs.AtMostTests.{at-most-all}
 use Rattle.lengths.proofs.Instances.{Admits, out-of-range}
 use Rattle.marks.specs.Mark.{markAt, openMark, pendingMark, opens, openUpTo, openIn}
 use Rattle.marks.specs.Packed.{ByteSet, packedBytes, packedSize, byteOf, packed}
@@ -106,5 +106,5 @@ pub fresh-byte-set : (n : ℕ) → ByteSet n (freshMarks n)
 unfolding freshMarks
 fresh-byte-set n = record {
   size = fresh-size n;
-  are = each-limit pendingMark (freshMarks n) (λ i h. omega (arith, getD-replicate {A = ℕ} (edgeCount n) i 1 0 (omega (arith, fresh-size n))));
+  are = at-most-all pendingMark (freshMarks n) (λ i h. omega (arith, getD-replicate {A = ℕ} (edgeCount n) i 1 0 (omega (arith, fresh-size n))));
 }

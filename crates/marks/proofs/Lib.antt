@@ -9,4 +9,4 @@ pub mod PackedSets
 pub mod PackedTests
 pub mod Packing
 pub mod PendingMarks
-pub mod Settling
+pub mod Resolving

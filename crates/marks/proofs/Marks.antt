@@ -13,7 +13,7 @@ use borrow.Author.Tests.{le-leb, lt-leb, eqb-true, ne-eqb}
 use Rattle.lists.specs.Test.{allAtMost}
 use Rattle.lists.proofs.Bools.{and-left, and-right, and-both, and-no}
 use Rattle.lengths.specs.Edge.{place}
-use Rattle.lengths.proofs.Limits.{limit-each, each-limit}
+use Rattle.lengths.proofs.AtMostTests.{at-most-each, at-most-all}
 use Rattle.marks.specs.Mark.{markAt, setMark, struckMark, openMark, pendingMark, areMarks, nonePending, opens, openAt, markIn}
 
 pub mark-size : (marks : List ℕ) (i mark : ℕ) → length (setMark marks i mark) ≡ length marks
@@ -53,4 +53,4 @@ open-mark marks i h = eqb-true (markAt marks i) openMark (sym (open-one (markAt 
 pub none-pending-exact : (marks : List ℕ) → areMarks marks ≡ true → (nonePending marks ≡ true) ↔ ((i : ℕ) → markAt marks i ≡ pendingMark → ⊥)
 unfolding markAt allAtMost
 none-pending-exact marks are =
-    (λ h i e. omega (arith, limit-each openMark marks h i), λ h. each-limit openMark marks (λ i g. omega (arith, limit-each pendingMark marks are i, h i)))
+    (λ h i e. omega (arith, at-most-each openMark marks h i), λ h. at-most-all openMark marks (λ i g. omega (arith, at-most-each pendingMark marks are i, h i)))

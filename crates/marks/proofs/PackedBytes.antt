@@ -1,5 +1,5 @@
 -- One byte of a packed set: a mark put into a quarter, the marks above a limit, the byte of open edges, a byte that is
--- settled. Assumes nothing.
+-- resolved. Assumes nothing.
 use Prim.Native.Nat.{ℕ, zero, suc, _+_, _-_, _*_, _/_, _%_, _^_, _≤_, _<_}
 use mathlib.Core.Path.{_≡_, refl, sym, _∙_, ap}
 use mathlib.Core.Bool.{Bool, true, false, cond, not}
@@ -11,7 +11,7 @@ use lib.Dec.{eqb, leb, ltb}
 use lib.ListN.{getD}
 use borrow.Author.Tests.{le-leb, lt-leb, eq-eqb, ne-eqb, ltb-true, ltb-false}
 use Rattle.lists.specs.Test.{allAtMost}
-use Rattle.lengths.proofs.Limits.{limit-each, each-limit}
+use Rattle.lengths.proofs.AtMostTests.{at-most-each, at-most-all}
 use Rattle.lists.proofs.Bools.{and-both, and-no}
 use Rattle.marks.specs.Mark.{struckMark, opens}
 use Rattle.marks.specs.Packed.{quarter, quarters, byteOf}
@@ -131,7 +131,7 @@ above {most} {byte} h g = record { small = g; none = none; some = λ l. by (allA
     none : total ≡ 0 → allAtMost most (quarters (byte ∷ [])) ≡ true
     none e =
         let z = no-sum (over most (byte % 4)) (over most (byte / 4 % 4)) (over most (byte / 16 % 4)) (over most (byte / 64 % 4)) e in
-        each-limit most (quarters (byte ∷ [])) (at (z .0) (z .1 .0) (z .1 .1 .0) (z .1 .1 .1))
+        at-most-all most (quarters (byte ∷ [])) (at (z .0) (z .1 .0) (z .1 .1 .0) (z .1 .1 .1))
       where
         at : over most (byte % 4) ≡ 0 → over most (byte / 4 % 4) ≡ 0 → over most (byte / 16 % 4) ≡ 0 → over most (byte / 64 % 4) ≡ 0
             → (i : ℕ) → i < 4 → getD (quarters (byte ∷ [])) i 0 ≤ most
@@ -144,7 +144,7 @@ above {most} {byte} h g = record { small = g; none = none; some = λ l. by (allA
     by : (t : Bool) → allAtMost most (quarters (byte ∷ [])) ≡ t → 0 < total → t ≡ false
     by false e l = refl
     by true e l =
-        let each = limit-each most (quarters (byte ∷ [])) e in
+        let each = at-most-each most (quarters (byte ∷ [])) e in
         absurd (sums (none-over most (byte % 4) h (lowest-quarter byte most (each 0))) (none-over most (byte / 4 % 4) h (each 1)) (none-over most (byte / 16 % 4) h (each 2)) (none-over most (byte / 64 % 4) h (each 3)) l)
       where
         sums : {a b c d : ℕ} → a ≡ 0 → b ≡ 0 → c ≡ 0 → d ≡ 0 → 0 < a + b + c + d → ⊥

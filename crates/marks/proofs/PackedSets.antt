@@ -15,7 +15,7 @@ use Rattle.lengths.specs.Instance.{leastPoints}
 use Rattle.lengths.specs.declared.instance.Instance.{Instance}
 use Rattle.lengths.proofs.Edges.{edgeCount-tri, tri-mono}
 use Rattle.lengths.proofs.Instances.{Admits}
-use Rattle.lengths.proofs.Limits.{limit-each, each-limit}
+use Rattle.lengths.proofs.AtMostTests.{at-most-each, at-most-all}
 use Rattle.lists.specs.Test.{allAtMost, AtMost}
 use Rattle.lists.proofs.Bools.{and-left, and-right, and-both}
 use Rattle.marks.specs.Mark.{areMarks, pendingMark}
@@ -156,9 +156,9 @@ module _ (n : ℕ) (set : List ℕ) where
       let last = and-right bytes (marks && unusedTest) later in
       record {
         size = eqb-true (length set) (packedSize n) (and-left size (bytes && (marks && unusedTest)) h);
-        bytes = limit-each 255 set (and-left bytes (marks && unusedTest) later);
-        marks = λ i. omega (arith, limit-each pendingMark (quarters set) (and-left marks unusedTest last) i, quarters-at set i);
-        unused = λ i g. zeros i g (limit-each 0 (drop (edgeCount n) (quarters set)) (and-right marks unusedTest last));
+        bytes = at-most-each 255 set (and-left bytes (marks && unusedTest) later);
+        marks = λ i. omega (arith, at-most-each pendingMark (quarters set) (and-left marks unusedTest last) i, quarters-at set i);
+        unused = λ i g. zeros i g (at-most-each 0 (drop (edgeCount n) (quarters set)) (and-right marks unusedTest last));
       }
     where
       zeros : (i : ℕ) → edgeCount n ≤ i → AtMost 0 (drop (edgeCount n) (quarters set)) → quarter (getD set (i / 4) 0) (i % 4) ≡ 0
@@ -173,10 +173,10 @@ module _ (n : ℕ) (set : List ℕ) where
       and-both (eqb (length set) (packedSize n)) (allAtMost 255 set && (areMarks (quarters set) && allAtMost 0 (drop (edgeCount n) (quarters set))))
       (eq-eqb (length set) (packedSize n) (w .size))
       (and-both (allAtMost 255 set) (areMarks (quarters set) && allAtMost 0 (drop (edgeCount n) (quarters set)))
-      (each-limit 255 set (λ i g. w .bytes i))
+      (at-most-all 255 set (λ i g. w .bytes i))
       (and-both (areMarks (quarters set)) (allAtMost 0 (drop (edgeCount n) (quarters set)))
-      (each-limit pendingMark (quarters set) (λ i g. omega (arith, w .marks i, quarters-at set i)))
-      (each-limit 0 (drop (edgeCount n) (quarters set)) (λ i g. omega (arith, getD-drop (edgeCount n) (quarters set) i 0, quarters-at set (edgeCount n + i), w .unused (edgeCount n + i) (omega arith))))))
+      (at-most-all pendingMark (quarters set) (λ i g. omega (arith, w .marks i, quarters-at set i)))
+      (at-most-all 0 (drop (edgeCount n) (quarters set)) (λ i g. omega (arith, getD-drop (edgeCount n) (quarters set) i 0, quarters-at set (edgeCount n + i), w .unused (edgeCount n + i) (omega arith))))))
 
   -- the marks that a set holds
 
@@ -186,7 +186,7 @@ module _ (n : ℕ) (set : List ℕ) where
   marks-are = by (wellPacked n set) refl
     where
       by : (b : Bool) → wellPacked n set ≡ b → areMarks (cond b (take (edgeCount n) (quarters set)) []) ≡ true
-      by true h = each-limit pendingMark (take (edgeCount n) (quarters set)) (λ i g. omega (arith, g, length-take (edgeCount n) (quarters set), getD-take (edgeCount n) (quarters set) i 0 (omega (arith, g, length-take (edgeCount n) (quarters set))), quarters-at set i, well-packed h .marks i))
+      by true h = at-most-all pendingMark (take (edgeCount n) (quarters set)) (λ i g. omega (arith, g, length-take (edgeCount n) (quarters set), getD-take (edgeCount n) (quarters set) i 0 (omega (arith, g, length-take (edgeCount n) (quarters set))), quarters-at set i, well-packed h .marks i))
       by false h = refl
 
   -- as many marks as edges, of which there are some, stand in a well packed set
@@ -234,7 +234,7 @@ module _ (n : ℕ) (set : List ℕ) where
 -- marks of n points and their packed set
 module _ {n : ℕ} {marks : List ℕ} (s : ByteSet n marks) where
   at-most : (i : ℕ) → getD marks i 0 ≤ pendingMark
-  at-most = limit-each pendingMark marks (s .are)
+  at-most = at-most-each pendingMark marks (s .are)
 
   packed-quarters : (i : ℕ) → quarter (getD (packed marks) (i / 4) 0) (i % 4) ≡ getD marks i 0
   packed-quarters = packed-quarter marks (λ i. omega (arith, at-most i))

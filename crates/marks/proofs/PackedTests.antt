@@ -12,7 +12,7 @@ use lib.ListN.{length, getD, drop, length-drop, drop-of-length-le, List·getD-eq
 use lib.Seq.{drop-cons, getD-drop}
 use borrow.Author.Tests.{eq-eqb, ne-eqb}
 use Rattle.lengths.specs.Edge.{edgeCount}
-use Rattle.lengths.proofs.Limits.{limit-each, each-limit}
+use Rattle.lengths.proofs.AtMostTests.{at-most-each, at-most-all}
 use Rattle.lists.specs.Test.{allAtMost}
 use Rattle.marks.specs.Mark.{pendingMark}
 use Rattle.marks.specs.Packed.{quarter, quarters, packedBytes, packedSize, byteOf, wellPacked}
@@ -147,10 +147,10 @@ module _ {n : ℕ} {set : List ℕ} (a : LastAsked n set) where
       zeros e j g l =
           let i : used + (j - used) ≡ j = omega arith in
           let at = at-last (j - used) (omega (arith, last-few, last-inside)) in
-          omega (arith, ap (quarter (getD set (length set - 1) 0)) i, at, limit-each 0 (drop (edgeCount n) (quarters set)) e (j - used))
+          omega (arith, ap (quarter (getD set (length set - 1) 0)) i, at, at-most-each 0 (drop (edgeCount n) (quarters set)) e (j - used))
 
       clear : high ≡ 0 → allAtMost 0 (drop (edgeCount n) (quarters set)) ≡ true
-      clear z = each-limit 0 (drop (edgeCount n) (quarters set)) (λ i g.
+      clear z = at-most-all 0 (drop (edgeCount n) (quarters set)) (λ i g.
           let h : edgeCount n + i < 4 * length set = omega (arith, g, length-drop (edgeCount n) (quarters set), quarters-size set) in
           omega (arith, at-last i h, clear-quarter (getD set (length set - 1) 0) used z (used + i) (omega (arith, h, last-few, last-inside)) (omega arith)))
 
@@ -167,11 +167,11 @@ module _ (n : ℕ) (set : List ℕ) where
   module _ (size : length set ≡ packedSize n) where
     pub wrong-mark : {r : Bool} → SetWithin pendingMark set r → r ≡ false → false ≡ wellPacked n set
     unfolding wellPacked
-    wrong-mark t e = sym (rw (eq-eqb (length set) (packedSize n) size, each-limit 255 set (λ i g. t .bytes i), sym (t .tested) ∙ e))
+    wrong-mark t e = sym (rw (eq-eqb (length set) (packedSize n) size, at-most-all 255 set (λ i g. t .bytes i), sym (t .tested) ∙ e))
 
     pub last-asked : {r : Bool} → 0 < edgeCount n → SetWithin pendingMark set r → LastAsked n set
     last-asked some t = record { some = some; size = size; bytes = t .bytes }
 
     pub unused-left : {r clear : Bool} → SetWithin pendingMark set r → r ≡ true → clear ≡ unusedClear n set → clear ≡ wellPacked n set
     unfolding wellPacked unusedClear
-    unused-left t e c = c ∙ sym (rw (eq-eqb (length set) (packedSize n) size, each-limit 255 set (λ i g. t .bytes i), sym (t .tested) ∙ e))
+    unused-left t e c = c ∙ sym (rw (eq-eqb (length set) (packedSize n) size, at-most-all 255 set (λ i g. t .bytes i), sym (t .tested) ∙ e))

@@ -17,7 +17,7 @@ use Rattle.lengths.specs.Instance.{admission}
 use Rattle.lengths.specs.declared.instance.Admission.the-variants.{OutOfRange}
 use Rattle.lengths.specs.declared.instance.Instance.{Instance}
 use Rattle.lengths.proofs.Instances.{Admits, out-of-range}
-use Rattle.lengths.proofs.Limits.{limit-each}
+use Rattle.lengths.proofs.AtMostTests.{at-most-each}
 use Rattle.marks.specs.Mark.{areMarks, pendingMark}
 use Rattle.marks.specs.Packed.{ByteSet, quarters, packedBytes, packedSize, byteOf, packed, wellPacked}
 use Rattle.marks.specs.Converting.{isByteSet, packAnswer, unpackAnswer, PackedAs, UnpackedAs}
@@ -95,7 +95,7 @@ module _ {n : ℕ} (bytes s : List ℕ) where
       module _ (size : length s ≡ packedSize (i .points)) where
         pub pack-asked : PackAsked bytes s
         pack-asked = let b = byte-set n bytes (read ∙ yes) in
-            record { marks = limit-each pendingMark bytes (b .are); room = size ∙ ap packedSize (a .points) ∙ ap packedBytes (sym (b .size)) }
+            record { marks = at-most-each pendingMark bytes (b .are); room = size ∙ ap packedSize (a .points) ∙ ap packedBytes (sym (b .size)) }
 
         pub pack-done : {left : List ℕ} → left ≡ packed bytes → PackedAs n bytes s Done left
         unfolding packAnswer

@@ -8,7 +8,7 @@ use Rattle.lengths.specs.Edge.{place}
 use Rattle.lists.specs.Count.{count}
 use Rattle.lists.specs.Test.{allAtMost}
 
--- "0 struck, 1 open, 2 pending"
+-- "0 struck, 1 open, 2 pending": a struck edge is eliminated
 abbrev pub struckMark : ℕ
 struckMark = 0
 

@@ -15,8 +15,8 @@ use Rattle.lengths.specs.declared.outcome.Outcome.{Outcome}
 use Rattle.lengths.specs.declared.outcome.Outcome.the-variants.{Done, Refused}
 
 -- a refusal names record 0: no record is at fault
-unfoldable pub settledAnswer : ℕ → List ℕ → Outcome
-settledAnswer n marks =
+unfoldable pub resolvedAnswer : ℕ → List ℕ → Outcome
+resolvedAnswer n marks =
     unless (inRange n) (Refused 1 0)
     (unless (eqb (length marks) (edgeCount n)) (Refused 6 0)
     (unless (areMarks marks) (Refused 6 0)
@@ -24,25 +24,25 @@ settledAnswer n marks =
     Done)))
 
 -- a mark with `mark` in the place of pending
-abbrev pub settledMark : (mark : ℕ) → ℕ → ℕ
-settledMark mark m = cond (eqb m pendingMark) mark m
+abbrev pub resolvedMark : (mark : ℕ) → ℕ → ℕ
+resolvedMark mark m = cond (eqb m pendingMark) mark m
 
 -- every pending mark turned into `mark`
-unfoldable pub settledMarks : (mark : ℕ) → List ℕ → List ℕ
-settledMarks mark marks = map (settledMark mark) marks
+unfoldable pub resolvedMarks : (mark : ℕ) → List ℕ → List ℕ
+resolvedMarks mark marks = map (resolvedMark mark) marks
 
-abbrev pub settledLeft : Outcome → (mark : ℕ) → List ℕ → List ℕ
-settledLeft Done mark marks = settledMarks mark marks
-settledLeft (Refused number rec) mark marks = marks
+abbrev pub resolvedLeft : Outcome → (mark : ℕ) → List ℕ → List ℕ
+resolvedLeft Done mark marks = resolvedMarks mark marks
+resolvedLeft (Refused number rec) mark marks = marks
 
 -- over a packed set: the answer, and the set that is left
-abbrev pub settledSetAnswer : ℕ → List ℕ → Outcome
-settledSetAnswer n set = settledAnswer n (marksOf n set)
+abbrev pub resolvedSetAnswer : ℕ → List ℕ → Outcome
+resolvedSetAnswer n set = resolvedAnswer n (marksOf n set)
 
-abbrev pub settledSet : (mark : ℕ) → ℕ → List ℕ → List ℕ
-settledSet mark n set = repacked n set (settledLeft (settledSetAnswer n set) mark (marksOf n set))
+abbrev pub resolvedSet : (mark : ℕ) → ℕ → List ℕ → List ℕ
+resolvedSet mark n set = repacked n set (resolvedLeft (resolvedSetAnswer n set) mark (marksOf n set))
 
 -- what `confirm` (with struck) and `withdraw` (with open) ensure: the answer, and the packed set that is left
-pub record SettledAs (n mark : ℕ) (set : List ℕ) (answer : Outcome) (left : List ℕ) : Type 0 where
-  pub answered : answer ≡ settledSetAnswer n set
-  pub set-left : left ≡ settledSet mark n set
+pub record ResolvedAs (n mark : ℕ) (set : List ℕ) (answer : Outcome) (left : List ℕ) : Type 0 where
+  pub answered : answer ≡ resolvedSetAnswer n set
+  pub set-left : left ≡ resolvedSet mark n set

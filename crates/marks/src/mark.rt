@@ -10,7 +10,7 @@ ghost use Rattle.marks.specs.Mark.{markAt, opens, openAt, openUpTo, mark
 ghost use Rattle.marks.specs.Packed.{quarters, marksOf};
 ghost use Rattle.marks.specs.asks.Mark.{MarkAtAsked, MarkSet, MarkAsked, SetAsked};
 
-// An edge that is struck.
+// An edge that is struck: it is eliminated.
 pub const STRUCK: u8 = 0;
 
 // An edge that is open.

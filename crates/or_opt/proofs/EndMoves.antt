@@ -23,9 +23,9 @@ use Rattle.sets.specs.declared.edge_set.EdgeSet.{EdgeSet}
 use Rattle.rules.specs.PairTest.{every, stays?, endAt?, endStays?}
 use Rattle.rules.specs.asks.Legs.{far, RowLent}
 use Rattle.rules.proofs.LegLoops.{stored-list, stored-here}
-use Rattle.or_opt.specs.asks.Settled.{Further}
+use Rattle.or_opt.specs.asks.DegreeTwo.{Further}
 use Rattle.or_opt.specs.asks.Ends.{OntoAsked, Onto, AllAsked, AtAll, EndAsked, EndTold, LegAsked, LegTold, EndsAsked, EndsTold}
-use Rattle.or_opt.proofs.SettledLegs.{further-then, further-kept}
+use Rattle.or_opt.proofs.PointLegs.{further-then, further-kept}
 
 module _ {n : ℕ} {out put : List ℕ} {w taken given u v : ℕ} (a : OntoAsked n out put w taken given u v) where
   pub onto-from : u ≡ w → Onto n out put w taken given u v true

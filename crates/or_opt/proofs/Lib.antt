@@ -1,2 +1,2 @@
 pub mod EndMoves
-pub mod SettledLegs
+pub mod PointLegs

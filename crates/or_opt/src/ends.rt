@@ -63,7 +63,7 @@ fn end_stays(n: u16, out: &[u32], put: &[u32], k: EdgeSet, c: u16, x: u16, q: u1
 
 // Takes x, which k joins to q, as an end into its leg: FAR where it does not stay. A leg that is FAR is not looked at,
 // nor the edge to c.
-fn settle_end(
+fn take_in_end(
     n: u16,
     out: &[u32],
     put: &[u32],
@@ -88,7 +88,7 @@ fn settle_end(
 }
 
 // Takes all points of k into the legs as ends. Ends: i rises to the count of k.
-pub fn settle_ends(
+pub fn take_in_ends(
     n: u16,
     out: &[u32],
     put: &[u32],
@@ -104,8 +104,8 @@ pub fn settle_ends(
     let count = k.count;
     let mut i = 0;
     while i < count {
-        settle_end(n, out, put, k, c, from[i], to[i], legs);
-        settle_end(n, out, put, k, c, to[i], from[i], legs);
+        take_in_end(n, out, put, k, c, from[i], to[i], legs);
+        take_in_end(n, out, put, k, c, to[i], from[i], legs);
         i += 1;
     }
 }

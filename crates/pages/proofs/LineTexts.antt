@@ -20,8 +20,8 @@ use Rattle.text.proofs.Decimals.{decimal-length}
 use Rattle.text.proofs.Padding.{padded-length, padded-wider, padded-value}
 use Rattle.text.proofs.SameTexts.{same-self, same-equal}
 use Rattle.text.proofs.Writing.{wrote-both}
-use Rattle.pages.specs.Line.{lineBytes, pendingWord, markWord, lineText, lengthRead, markOfLetter, markRead, isLine}
-use Rattle.pages.specs.asks.Line.{lineEnd, ShortPoints, LineAsked, MarkReadIs}
+use Rattle.pages.specs.PageLine.{lineBytes, pendingWord, markWord, lineText, lengthRead, markOfLetter, markRead, isLine}
+use Rattle.pages.specs.asks.PageLine.{lineEnd, ShortPoints, LineAsked, MarkReadIs}
 
 -- the digits that the columns hold
 point-digits : (a : ℕ) → a < 1000 → length (decimal a) ≤ 3

@@ -12,9 +12,9 @@ use Rattle.lengths.specs.asks.Edge.{Cursor, Follows, IsEdgeUp}
 use Rattle.marks.specs.Mark.{markAt}
 use Rattle.text.specs.Words.{Wrote}
 use Rattle.text.proofs.Writing.{wrote-none, wrote-both}
-use Rattle.pages.specs.Line.{lineBytes, lineText}
+use Rattle.pages.specs.PageLine.{lineBytes, lineText}
 use Rattle.pages.specs.Page.{edgeAt, edgeLine, placeLine, firstPlace, pageLines, pageText}
-use Rattle.pages.specs.asks.Line.{ShortPoints, LineAsked}
+use Rattle.pages.specs.asks.PageLine.{ShortPoints, LineAsked}
 use Rattle.pages.specs.asks.Page.{PlaceAsked, PartAsked}
 use Rattle.pages.specs.asks.Writing.{linesFrom, LinesAsked}
 use Rattle.pages.proofs.Joining.{joined-more, joined-none, joined-length}

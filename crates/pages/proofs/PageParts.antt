@@ -12,7 +12,7 @@ use Rattle.lengths.specs.Instance.{mostPoints, leastPoints}
 use Rattle.lengths.specs.asks.Edge.{Cursor, Follows, IsEdgeUp}
 use Rattle.lengths.proofs.Edges.{cursor-start, edges-at, place-onto}
 use Rattle.pages.specs.Page.{mostLines, pageCount, isPage, firstPlace, pageLines, pageOf, edgeAt}
-use Rattle.pages.specs.asks.Line.{ShortPoints}
+use Rattle.pages.specs.asks.PageLine.{ShortPoints}
 use Rattle.pages.specs.asks.Page.{PlaceAsked, PartAsked}
 use Rattle.pages.specs.declared.page.Page.the-variants.{Lines, OutOfRange}
 

@@ -18,12 +18,12 @@ use Rattle.lists.proofs.FirstFrom.{firstFrom-before, firstFrom-found, firstFrom
 use Rattle.lengths.specs.Edge.{edgeCount}
 use Rattle.lengths.specs.Instance.{mostLength}
 use Rattle.lengths.specs.Table.{Lengths}
-use Rattle.lengths.proofs.Limits.{limit-each, each-limit}
+use Rattle.lengths.proofs.AtMostTests.{at-most-each, at-most-all}
 use Rattle.marks.specs.Mark.{pendingMark, markAt}
 use Rattle.marks.specs.Packed.{ByteSet}
-use Rattle.pages.specs.Line.{lineBytes, lineText, lengthRead, markRead, isLine}
+use Rattle.pages.specs.PageLine.{lineBytes, lineText, lengthRead, markRead, isLine}
 use Rattle.pages.specs.Page.{firstPlace, pageLines, placeLine, joined, pageText}
-use Rattle.pages.specs.PageOf.{PageOf, Begins, FirstWrong}
+use Rattle.pages.specs.PageOf.{PageOf, BeginsPage, FirstWrong}
 use Rattle.pages.specs.Reading.{lineAt, lengthsRead, marksRead, rightLine, wrongLine, isPageText, overlay}
 use Rattle.pages.specs.asks.Page.{PartAsked}
 use Rattle.pages.proofs.Joining.{joined-front, joined-take, joined-part, singles-length, singles-at}
@@ -97,7 +97,7 @@ module _ (n p : ℕ) (q : PartAsked n (firstPlace p) (pageLines n p)) (text : Li
       let at = edge-of j h in
       line-of n first text j (at .is)
       ∙ ap (isLine (at .a) (at .b)) (e ∙ place-line n lengths marks (first + j) (at .is))
-      ∙ line-right (at .points) (w .small (first + j)) (limit-each pendingMark marks (m .are) (first + j))
+      ∙ line-right (at .points) (w .small (first + j)) (at-most-each pendingMark marks (m .are) (first + j))
 
   -- k right lines, and the page that begins with them: what is read from them, and zeros elsewhere
   module _ (k : ℕ) (few : k ≤ lines) (right : RightTo k) where
@@ -125,7 +125,7 @@ module _ (n p : ℕ) (q : PartAsked n (firstPlace p) (pageLines n p)) (text : Li
     unfolding read-marks marksRead
     are-marks = record {
       size = overlay-length first (marksRead text k) (zeros n) (omega (arith, marks-fit, zeros-length n)) ∙ zeros-length n;
-      are = each-limit pendingMark (overlay first (marksRead text k) (zeros n)) (λ i h. over-zeros n first pendingMark (marksRead text k) marks-fit (each-small (λ j. markRead (lineAt text j)) k pendingMark (λ j g. mark-read-small (lineAt text j))) i);
+      are = at-most-all pendingMark (overlay first (marksRead text k) (zeros n)) (λ i h. over-zeros n first pendingMark (marksRead text k) marks-fit (each-small (λ j. markRead (lineAt text j)) k pendingMark (λ j g. mark-read-small (lineAt text j))) i);
     }
 
     line-is : (j : ℕ) → j < k → lineAt text j ≡ placeLine n read-lengths read-marks (first + j)
@@ -148,7 +148,7 @@ module _ (n p : ℕ) (q : PartAsked n (firstPlace p) (pageLines n p)) (text : Li
     whole-lines (suc j) h =
         omega (arith, ap length (line-is j h), wide j (omega arith), length-take lineBytes (drop (lineBytes * j) text), length-drop (lineBytes * j) text)
 
-    pub begins : Begins n p text k
+    pub begins : BeginsPage n p text k
     unfolding pageText lineAt
     begins = record {
       page = pageText n p read-lengths read-marks;
@@ -169,10 +169,10 @@ module _ (n p : ℕ) (q : PartAsked n (firstPlace p) (pageLines n p)) (text : Li
       ap (λ (x : List ℕ). take lineBytes (drop (lineBytes * j) x)) (o .laid-out)
       ∙ joined-part (λ i. placeLine n (o .lengths) (o .marks) (first + i)) lineBytes lines (lines-wide (o .lengths) (o .marks) q (o .instance .within .small)) j h
 
-  begun-few : (k : ℕ) → Begins n p text k → k ≤ lines
+  begun-few : (k : ℕ) → BeginsPage n p text k → k ≤ lines
   begun-few k b = omega (arith, ap length (b .begun), length-take-le (lineBytes * k) text (b .whole), length-take (lineBytes * k) (b .page), page-bytes (b .is-page))
 
-  begun-right : (k : ℕ) → Begins n p text k → RightTo k
+  begun-right : (k : ℕ) → BeginsPage n p text k → RightTo k
   begun-right k b j h =
       let few = begun-few k b in
       let o = b .is-page in
@@ -197,7 +197,7 @@ module _ (n p : ℕ) (q : PartAsked n (firstPlace p) (pageLines n p)) (text : Li
     wrong = λ b. no-more b (begun-few (suc found) b);
   }
     where
-      no-more : Begins n p text (suc found) → suc found ≤ lines → ⊥
+      no-more : BeginsPage n p text (suc found) → suc found ≤ lines → ⊥
       no-more b l =
           let r = begun-right (suc found) b found (omega arith) in
           let w = firstFrom-found (λ k. not (rightLine n first text k)) 0 lines (omega arith) in
@@ -229,7 +229,7 @@ module _ (n p : ℕ) (q : PartAsked n (firstPlace p) (pageLines n p)) (text : Li
       (eq-eqb (length text) (lineBytes * lines) (page-bytes o))
 
 -- fewer lines of a text that begins a page begin it too, so there is one first wrong line only
-begins-fewer : {n p : ℕ} {text : List ℕ} {j k : ℕ} → j ≤ k → Begins n p text k → Begins n p text j
+begins-fewer : {n p : ℕ} {text : List ℕ} {j k : ℕ} → j ≤ k → BeginsPage n p text k → BeginsPage n p text j
 begins-fewer {text = text} {j} {k} h b = record {
   page = b .page;
   is-page = b .is-page;

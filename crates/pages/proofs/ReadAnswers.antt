@@ -18,7 +18,7 @@ use Rattle.marks.specs.Packed.{packedBytes, packed, wellPacked, marksOf}
 use Rattle.marks.proofs.PackedMarks.{held-packed}
 use Rattle.marks.proofs.PackedSets.{some-edges, marks-are, whole-well, well-packed}
 use Rattle.admission.specs.declared.tested.Tested.the-variants as tests
-use Rattle.pages.specs.Line.{lineBytes}
+use Rattle.pages.specs.PageLine.{lineBytes}
 use Rattle.pages.specs.Page.{firstPlace, pageLines, pageOf}
 use Rattle.pages.specs.Reading.{lengthsRead, marksRead, rightLine, wrongLine, isPageText, readAnswer, overlay, ReadAs}
 use Rattle.admission.specs.Tests.{placesTested}

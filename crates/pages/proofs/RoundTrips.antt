@@ -17,15 +17,15 @@ use Rattle.endian.specs.Bytes.{bytes32, whole32}
 use Rattle.endian.proofs.Reading.{size32}
 use Rattle.lengths.specs.Edge.{edgeCount}
 use Rattle.lengths.specs.Instance.{mostLength}
-use Rattle.lengths.proofs.Limits.{limit-each, each-limit}
+use Rattle.lengths.proofs.AtMostTests.{at-most-each, at-most-all}
 use Rattle.marks.specs.Mark.{pendingMark, markAt}
 use Rattle.marks.specs.Packed.{ByteSet, packed, marksOf}
 use Rattle.marks.proofs.PackedMarks.{held-packed}
 use Rattle.marks.proofs.PackedSets.{some-edges, marks-are, marks-packed}
-use Rattle.pages.specs.AllPages.{Board, readInto, readPages}
-use Rattle.pages.specs.Line.{lengthRead, markRead}
+use Rattle.pages.specs.AllPages.{PageBuffers, readInto, readPages}
+use Rattle.pages.specs.PageLine.{lengthRead, markRead}
 use Rattle.pages.specs.Page.{mostLines, pageCount, isPage, firstPlace, pageLines, partOf, placeLine, pageText}
-use Rattle.pages.specs.PageOf.{Instance, PageOf}
+use Rattle.pages.specs.PageOf.{Printable, PageOf}
 use Rattle.pages.specs.Reading.{lineAt, lengthsRead, marksRead, Passes, readAnswer, overlay, pageAnswer, tableAfter, setAfter}
 use Rattle.pages.specs.asks.Page.{PartAsked}
 use Rattle.pages.specs.declared.reading.PageRead.the-variants.{Done}
@@ -54,7 +54,7 @@ module _ {n : ℕ} {table set : List ℕ} (t : Passes n table set) where
   unfolding pageCount
   pages-there = omega (arith, edges-there)
 
-module _ {n : ℕ} (p : ℕ) {lengths marks table set : List ℕ} (i : Instance n lengths marks) (t : Passes n table set) (h : isPage n p ≡ true) where
+module _ {n : ℕ} (p : ℕ) {lengths marks table set : List ℕ} (i : Printable n lengths marks) (t : Passes n table set) (h : isPage n p ≡ true) where
   text : List ℕ
   text = pageText n p lengths marks
 
@@ -81,7 +81,7 @@ module _ {n : ℕ} (p : ℕ) {lengths marks table set : List ℕ} (i : Instance 
     mark-made =
         let e = edge-there n (firstPlace p + j) (part .few) (omega (arith, part .inside)) in
         ap markRead (line-made ∙ place-line n lengths marks (firstPlace p + j) (e .is))
-        ∙ mark-again (e .points) (i .within .small (firstPlace p + j)) (limit-each pendingMark marks (i .marked .are) (firstPlace p + j))
+        ∙ mark-again (e .points) (i .within .small (firstPlace p + j)) (at-most-each pendingMark marks (i .marked .are) (firstPlace p + j))
 
   part-length : (xs : List ℕ) → length xs ≡ edgeCount n → length (partOf n p xs) ≡ pageLines n p
   part-length xs size = omega (arith, length-take (pageLines n p) (drop (firstPlace p) xs), length-drop (firstPlace p) xs, part .inside, size)
@@ -128,10 +128,10 @@ module _ {n : ℕ} (p : ℕ) {lengths marks table set : List ℕ} (i : Instance 
   new-marks : ByteSet n (overlay (firstPlace p) (partOf n p marks) (marksOf n set))
   new-marks =
       let fits : firstPlace p + length (partOf n p marks) ≤ length (marksOf n set) = omega (arith, part-length marks (i .marked .size), part .inside, passed t .marked) in
-      let most = overlay-most (firstPlace p) (partOf n p marks) (marksOf n set) fits pendingMark (part-most pendingMark marks (i .marked .size) (limit-each pendingMark marks (i .marked .are))) (limit-each pendingMark (marksOf n set) (passed t .are)) in
+      let most = overlay-most (firstPlace p) (partOf n p marks) (marksOf n set) fits pendingMark (part-most pendingMark marks (i .marked .size) (at-most-each pendingMark marks (i .marked .are))) (at-most-each pendingMark (marksOf n set) (passed t .are)) in
       record {
         size = overlay-length (firstPlace p) (partOf n p marks) (marksOf n set) fits ∙ passed t .marked;
-        are = each-limit pendingMark (overlay (firstPlace p) (partOf n p marks) (marksOf n set)) (λ k l. most k);
+        are = at-most-all pendingMark (overlay (firstPlace p) (partOf n p marks) (marksOf n set)) (λ k l. most k);
       }
 
   pub read-marks : marksOf n (setAfter n p (pageText n p lengths marks) table set) ≡ overlay (firstPlace p) (partOf n p marks) (marksOf n set)
@@ -167,12 +167,12 @@ module _ {n : ℕ} (p : ℕ) {lengths marks table set : List ℕ} (i : Instance 
     told-mark before = ap (λ (xs : List ℕ). getD xs k 0) read-marks ∙ over-part marks (marksOf n set) (i .marked .size) (passed t .marked) before
 
 -- pages 1 to k are read
-record ReadTo (n : ℕ) (lengths marks : List ℕ) (k : ℕ) (b : Board) : Type 0 where
+record ReadTo (n : ℕ) (lengths marks : List ℕ) (k : ℕ) (b : PageBuffers) : Type 0 where
   passes : Passes n (b .table) (b .set)
   lengths-to : (i : ℕ) → i < mostLines * k → i < edgeCount n → getD (whole32 (b .table)) i 0 ≡ getD lengths i 0
   marks-to : (i : ℕ) → i < mostLines * k → i < edgeCount n → getD (marksOf n (b .set)) i 0 ≡ getD marks i 0
 
-module _ {n : ℕ} {lengths marks : List ℕ} (i : Instance n lengths marks) where
+module _ {n : ℕ} {lengths marks : List ℕ} (i : Printable n lengths marks) where
   there : (k : ℕ) → suc k ≤ pageCount n → isPage n (suc k) ≡ true
   unfolding isPage
   there k h = and-both (leb 1 (suc k)) (leb (suc k) (pageCount n)) (le-leb 1 (suc k) (omega arith)) (le-leb (suc k) (pageCount n) h)
@@ -185,7 +185,7 @@ module _ {n : ℕ} {lengths marks : List ℕ} (i : Instance n lengths marks) whe
   unfolding firstPlace
   earlier k j h = omega arith
 
-  read-next : (k : ℕ) (b : Board) → suc k ≤ pageCount n → ReadTo n lengths marks k b → ReadTo n lengths marks (suc k) (readInto n (suc k) (pageText n (suc k) lengths marks) b)
+  read-next : (k : ℕ) (b : PageBuffers) → suc k ≤ pageCount n → ReadTo n lengths marks k b → ReadTo n lengths marks (suc k) (readInto n (suc k) (pageText n (suc k) lengths marks) b)
   unfolding readInto
   read-next k b h r = record {
     passes = still-passes (suc k) i (r .passes) (there k h);
@@ -193,7 +193,7 @@ module _ {n : ℕ} {lengths marks : List ℕ} (i : Instance n lengths marks) whe
     marks-to = λ j l g. told-mark (suc k) i (r .passes) (there k h) j (told k j l g) (λ e. r .marks-to j (earlier k j e) g);
   }
 
-  read-to : (k : ℕ) → k ≤ pageCount n → {b : Board} → Passes n (b .table) (b .set) → ReadTo n lengths marks k (readPages n lengths marks k b)
+  read-to : (k : ℕ) → k ≤ pageCount n → {b : PageBuffers} → Passes n (b .table) (b .set) → ReadTo n lengths marks k (readPages n lengths marks k b)
   unfolding readPages
   read-to zero h t = record { passes = t; lengths-to = λ j l g. absurd (omega arith); marks-to = λ j l g. absurd (omega arith) }
   read-to (suc k) h {b} t = read-next k (readPages n lengths marks k b) h (read-to k (omega arith) t)
@@ -205,8 +205,8 @@ module _ {n : ℕ} {lengths marks : List ℕ} (i : Instance n lengths marks) whe
   -- ROUND TRIP, ALL PAGES: reading them one after the other, into whatever table and marks pass the tests, leaves the
   -- instance's lengths and its packed marks. Each page sets its edges and leaves the others, and every edge is on
   -- one of the pages.
-  module _ {b : Board} (t : Passes n (b .table) (b .set)) where
-    abbrev left : Board
+  module _ {b : PageBuffers} (t : Passes n (b .table) (b .set)) where
+    abbrev left : PageBuffers
     left = readPages n lengths marks (pageCount n) b
 
     all : ReadTo n lengths marks (pageCount n) left

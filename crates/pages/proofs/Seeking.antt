@@ -11,10 +11,10 @@ use borrow.Author.Tests.{not-false}
 use Rattle.lists.proofs.FirstFrom.{firstFrom-at, firstFrom-none}
 use Rattle.lengths.specs.Edge.{Edge, edge, edgeCount}
 use Rattle.lengths.specs.asks.Edge.{Cursor, Follows, IsEdgeUp}
-use Rattle.pages.specs.Line.{lineBytes, isLine}
+use Rattle.pages.specs.PageLine.{lineBytes, isLine}
 use Rattle.pages.specs.Page.{edgeAt}
 use Rattle.pages.specs.Reading.{lineAt, isEdgeLine, rightLine, wrongLine}
-use Rattle.pages.specs.asks.Line.{ShortPoints}
+use Rattle.pages.specs.asks.PageLine.{ShortPoints}
 use Rattle.pages.specs.asks.Page.{PartAsked}
 use Rattle.pages.specs.asks.Reading.{LineOfAsked}
 use Rattle.pages.proofs.LineTexts.{cut-line}

@@ -14,10 +14,10 @@ use Rattle.marks.specs.Mark.{setMark}
 use Rattle.marks.specs.Packed.{wellPacked, marksOf}
 use Rattle.marks.specs.asks.Mark.{MarkSet}
 use Rattle.marks.proofs.PackedSets.{marks-size}
-use Rattle.pages.specs.Line.{lineBytes, lengthRead, markRead}
+use Rattle.pages.specs.PageLine.{lineBytes, lengthRead, markRead}
 use Rattle.pages.specs.Page.{joined}
 use Rattle.pages.specs.Reading.{lineAt, lengthsRead, marksRead, overlay}
-use Rattle.pages.specs.asks.Line.{MarkReadIs}
+use Rattle.pages.specs.asks.PageLine.{MarkReadIs}
 use Rattle.pages.specs.asks.Reading.{StoreAsked, MarksStored}
 use Rattle.pages.proofs.Joining.{joined-more, singles-length}
 use Rattle.pages.proofs.Overlays.{overlay-none, overlay-length, overlay-more, overlay-one}

@@ -11,7 +11,7 @@ use Rattle.admission.specs.Tests.{tested}
 use Rattle.admission.specs.declared.tested.Tested.the-variants as tests
 use Rattle.admission.proofs.Passed.{InstancePassed, passed}
 use Rattle.text.specs.Words.{Wrote}
-use Rattle.pages.specs.Line.{lineBytes}
+use Rattle.pages.specs.PageLine.{lineBytes}
 use Rattle.pages.specs.Page.{isPage, firstPlace, pageLines, pageOf, pageText}
 use Rattle.pages.specs.Writing.{writeAnswer, WrittenAs}
 use Rattle.pages.specs.asks.Page.{PartAsked}

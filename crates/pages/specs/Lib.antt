@@ -1,6 +1,6 @@
 pub mod AllPages
 pub mod asks
-pub mod Line
+pub mod PageLine
 pub mod Page
 pub mod PageOf
 pub mod Reading

@@ -6,7 +6,7 @@ use lib.Dec.{leb}
 use lib.ListN.{getD, take, drop}
 use Rattle.lengths.specs.Edge.{Edge, edge, edges, edgeCount}
 use Rattle.marks.specs.Mark.{markAt}
-use Rattle.pages.specs.Line.{lineText}
+use Rattle.pages.specs.PageLine.{lineText}
 use Rattle.pages.specs.declared.page.Page.{Page}
 use Rattle.pages.specs.declared.page.Page.the-variants.{Lines, OutOfRange}
 
@@ -40,8 +40,8 @@ pageOf n p = cond (isPage n p) (Lines (firstPlace p) (pageLines n p)) OutOfRange
 unfoldable pub edgeAt : (n i : ℕ) → Edge
 edgeAt n i = getD (edges n) i (edge 0 0)
 
-abbrev pub edgeLine : Edge → (length mark : ℕ) → List ℕ
-edgeLine (edge a b) length mark = lineText a b length mark
+abbrev pub edgeLine : Edge → (len mark : ℕ) → List ℕ
+edgeLine (edge a b) len mark = lineText a b len mark
 
 -- the line of the edge at a place
 unfoldable pub placeLine : ℕ → (lengths marks : List ℕ) → ℕ → List ℕ

@@ -13,7 +13,7 @@ use Rattle.marks.specs.Packed.{packed, marksOf}
 use Rattle.admission.specs.Tests.{placesTested}
 use Rattle.admission.specs.declared.tested.Tested.{Tested}
 use Rattle.admission.specs.declared.tested.Tested.the-variants as tests
-use Rattle.pages.specs.Line.{lineBytes, lengthRead, markRead, isLine}
+use Rattle.pages.specs.PageLine.{lineBytes, lengthRead, markRead, isLine}
 use Rattle.pages.specs.Page.{isPage, firstPlace, pageLines, edgeAt, joined}
 use Rattle.pages.specs.declared.reading.PageRead.{PageRead}
 use Rattle.pages.specs.declared.reading.PageRead.the-variants.{Done, Refused}

@@ -1,4 +1,4 @@
-pub mod Line
+pub mod PageLine
 pub mod Page
 pub mod Reading
 pub mod Writing

@@ -1,11 +1,11 @@
 // The operation "read a page".
-use crate::line;
-use crate::line::is_line;
-use crate::line::length_read;
-use crate::line::mark_read;
 use crate::page::Page;
 use crate::page::edge_at;
 use crate::page::page_of;
+use crate::page_line;
+use crate::page_line::is_line;
+use crate::page_line::length_read;
+use crate::page_line::mark_read;
 use admission::tested::Tested;
 use admission::tests::test_places;
 use endian::bytes::put32;
@@ -16,7 +16,7 @@ ghost use mathlib.Core.Path.{_≡_};
 ghost use Prim.Native.Nat.{_*_, _/_};
 ghost use lib.ListN.{length};
 ghost use Rattle.endian.specs.Bytes.{bytes32};
-ghost use Rattle.pages.specs.Line.{isLine};
+ghost use Rattle.pages.specs.PageLine.{isLine};
 ghost use Rattle.pages.specs.Reading.{lineAt, lengthsRead, overlay, wrongLine, ReadAs};
 ghost use Rattle.pages.specs.asks.Page.{PartAsked};
 ghost use Rattle.pages.specs.asks.Reading.{LineOfAsked, StoreAsked, MarksStored};
@@ -32,8 +32,8 @@ fn has_line(a: u32, b: u32, text: &[u8], k: usize) -> bool
     requires { ⌜ LineOfAsked a b k ⌝ }
     ensures { λ r. ⌜ r ≡ isLine a b (lineAt (now (text .entry)) k) ⌝ }
 {
-    let at = line::BYTES * k;
-    let end = at + line::BYTES;
+    let at = page_line::BYTES * k;
+    let end = at + page_line::BYTES;
     if text.len() < end {
         return false;
     }
@@ -70,8 +70,8 @@ fn store_lengths(text: &[u8], first: usize, lines: usize, table: &mut [u8])
 {
     let mut i = 0;
     while i < lines {
-        let at = line::BYTES * i;
-        let end = at + line::BYTES;
+        let at = page_line::BYTES * i;
+        let end = at + page_line::BYTES;
         put32(table, first + i, length_read(&text[at..end]));
         i += 1;
     }
@@ -84,8 +84,8 @@ fn store_marks(text: &[u8], first: usize, lines: usize, set: &mut [u8])
 {
     let mut i = 0;
     while i < lines {
-        let at = line::BYTES * i;
-        let end = at + line::BYTES;
+        let at = page_line::BYTES * i;
+        let end = at + page_line::BYTES;
         set_mark_at(set, first + i, mark_read(&text[at..end]));
         i += 1;
     }
@@ -118,7 +118,7 @@ pub fn read_page(n: u32, page: u32, text: &[u8], table: &mut [u8], marks: &mut [
             line: wrong as u16,
         };
     }
-    if text.len() != line::BYTES * lines {
+    if text.len() != page_line::BYTES * lines {
         return PageRead::Refused {
             refusal: refusal::PAGE_TEXT,
             line: wrong as u16,

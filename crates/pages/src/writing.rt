@@ -1,9 +1,9 @@
 // The operation "write a page".
-use crate::line;
-use crate::line::put_line;
 use crate::page::Page;
 use crate::page::edge_at;
 use crate::page::page_of;
+use crate::page_line;
+use crate::page_line::put_line;
 use admission::tested::Tested;
 use admission::tests::test_instance;
 use endian::bytes::number32;
@@ -44,9 +44,9 @@ fn put_lines(
     let mut i = 0;
     while i < lines {
         let place = first + i;
-        let length = number32(table, place);
+        let len = number32(table, place);
         let mark = mark_at(marks, place);
-        at = put_line(a as u32, b as u32, length, mark, text, at);
+        at = put_line(a as u32, b as u32, len, mark, text, at);
         let next = following(points, a, b);
         a = next.low;
         b = next.high;
@@ -74,12 +74,12 @@ pub fn write_page(n: u32, table: &[u8], marks: &[u8], page: u32, text: &mut [u8]
             record: refusal::NO_RECORD,
         };
     };
-    if text.len() < line::BYTES * lines {
+    if text.len() < page_line::BYTES * lines {
         return Written::Refused {
             refusal: refusal::BUFFER,
             record: refusal::NO_RECORD,
         };
     }
-    let length = put_lines(points, table, marks, first, lines, text);
-    Written::Bytes(length as u16)
+    let size = put_lines(points, table, marks, first, lines, text);
+    Written::Bytes(size as u16)
 }

@@ -110,10 +110,10 @@ module _ (n : ℕ) (table marks : List ℕ) (many : 3 < n) {a b c : ℕ} {cs : C
   first-split-splits x y t h =
       splits-alone n table marks many ab (case-feasible x y t h) t (case-complete (rulesOf n table marks) (edge a b ∷ []) c cs x y t (argument .complete .2) h)
 
-  -- so no crossing and no new order is told of a complete argument
-  pub no-crossing-told : (x y p q r s saved : ℕ)
+  -- so no 3-opt closing and no new order is told of a complete argument
+  pub no-three-opt-told : (x y p q r s saved : ℕ)
       → ToldThreeOpt n (lengthOf n table) (openIn n marks) (edge a b ∷ []) c cs x y p q r s saved → ⊥
-  no-crossing-told x y p q r s saved t =
+  no-three-opt-told x y p q r s saved t =
       let k = first-split-splits x y (threeOpt p q r s) (t .case) in
       let e : threeOpt p q r s ≡ split (k .0) (k .1) = k .2 in
       let z : _≡_ {A = ℕ} 0 1 = cc in omega arith

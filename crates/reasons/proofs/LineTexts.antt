@@ -24,8 +24,8 @@ use Rattle.reasons.specs.PairReason.{PairOutcome, shut, stands}
 use Rattle.reasons.specs.Telling.{reasonAt, caseBehind, reasonsFrom}
 use Rattle.reasons.specs.asks.PairReason.{outcomeOf}
 use Rattle.reasons.specs.asks.LineText.{Fitted, FittedWithin, mostText, ToldAt, outcomesOf, splitText, TextAsked, EdgeAsked, EdgeTold}
-use Rattle.reasons.specs.declared.line_text.Told.{Told}
-use Rattle.reasons.specs.declared.line_text.Spot.{Spot}
+use Rattle.reasons.specs.declared.line_text.ToldPair.{ToldPair}
+use Rattle.reasons.specs.declared.line_text.TextPosition.{TextPosition}
 use Rattle.reasons.specs.declared.pair.PairOutcome as declared
 use Rattle.reasons.specs.declared.pair.PairOutcome.the-variants.{Shut, Stands}
 
@@ -94,7 +94,7 @@ module _ (outcome : ℕ → ℕ → PairOutcome) (s : List ℕ) {c x y : ℕ} (i
   unfolding reasonsFrom
   high-end g h = skipped (λ es. rw (ne-eqb x c g, eq-eqb y c h))
 
-  pub pair-put : (x ≡ c → ⊥) → (y ≡ c → ⊥) → {t : Told} {r : ℕ} {left : List ℕ} → ToldAt (outcome x y) s i t
+  pub pair-put : (x ≡ c → ⊥) → (y ≡ c → ⊥) → {t : ToldPair} {r : ℕ} {left : List ℕ} → ToldAt (outcome x y) s i t
       → FittedWithin sentenceBytes out at (sentence c x y (reasonOf (t .reason))) r left → EdgeTold outcome s c i x y out at (record {
         at =
             r;
@@ -153,7 +153,7 @@ module _ {n : ℕ} {table marks : List ℕ} {a b c : ℕ} (p : TextAsked n table
           ∙ ap₂ (λ (z : Edge) (j : ℕ). z ∷ drop j (edges n))
           (ap (λ (j : ℕ). getD (edges n) j (edge 0 0)) (sym (e .1)) ∙ edges-at (e .0)) (sym (add-one k))
 
-      pub put-on : {spot : Spot} {left : List ℕ} {low high : ℕ} → EdgeTold told s c case x y text at spot left
+      pub put-on : {spot : TextPosition} {left : List ℕ} {low high : ℕ} → EdgeTold told s c case x y text at spot left
           → Follows n x y low high
           → Putting n told s c first text₀ left low high (spot .case) (spot .at) (k + 1)
       put-on {spot} t f = record {

@@ -19,7 +19,7 @@ use Rattle.sets.proofs.Rising.{rising-unique, edge-first, edge-second}
 use Rattle.rules.specs.Pair.{FeasiblePair}
 use Rattle.rules.specs.Pairs.{keep}
 use Rattle.rules.proofs.PairLists.{keep-yes, keep-no, kept-in, in-kept, keep-rising, edges-rising, in-edges}
-use Rattle.argument.specs.Record.{How, splits, threeOpts, reorders, Record, line, case, visit, other, bare, content, field, recordAt}
+use Rattle.argument.specs.Record.{CaseClosing, splits, threeOpts, reorders, Record, line, case, visit, other, bare, content, field, recordAt}
 use Rattle.argument.specs.Argument.{Cases, none, pair, Closing, split, names, Complete, CompleteArgument}
 use Rattle.argument.specs.Layout.{Laid, Holds}
 use Rattle.argument.specs.Line.{CompleteLine}
@@ -199,7 +199,7 @@ module _ (n : ℕ) (table marks s : List ℕ) (many : 3 < n) {a b c : ℕ} {cs :
 
   abbrev AllDue : List Edge → Type 0
   AllDue es =
-      (rest : Cases) (high i after : ℕ) → Left rest high i after es → (t : why.Told) → List·Memᴰ t (reasonsFrom outcome s c i es) → Due
+      (rest : Cases) (high i after : ℕ) → Left rest high i after es → (t : why.ReasonedPair) → List·Memᴰ t (reasonsFrom outcome s c i es) → Due
       (t .x) (t .y) (t .reason)
 
   -- what is told of the pair x, y at record i, and what is left behind it
@@ -233,7 +233,7 @@ module _ (n : ℕ) (table marks s : List ℕ) (many : 3 < n) {a b c : ℕ} {cs :
       let own = l .part x′ y′ t (inl (refl, refl, refl)) in
       let d = first-split-splits n table marks many ab argument x′ y′ t own in
       let held = subst (λ (q : Closing). Holds s i (l .laid .0) q (l .laid .2)) (d .2) (l .laid .5) in
-      let reads = split-read s i (l .laid .4 ∙ ap (λ (g : How). case x′ y′ g (l .laid .1)) (held .1)) in (
+      let reads = split-read s i (l .laid .4 ∙ ap (λ (g : CaseClosing). case x′ y′ g (l .laid .1)) (held .1)) in (
         subst (λ (p : PairOutcome). Due x y (reasonAt p s i)) (sym o)
             (record {
               feasible =
@@ -263,7 +263,7 @@ module _ (n : ℕ) (table marks s : List ℕ) (many : 3 < n) {a b c : ℕ} {cs :
     where
       told : AllDue es → beside? c x y ≡ true → Here x y i after es → Due (t .x) (t .y) (t .reason)
       told ih h g = ⊎-elim
-          (λ e. subst (λ (u : why.Told). Due (u .x) (u .y) (u .reason)) (sym e) (g .0))
+          (λ e. subst (λ (u : why.ReasonedPair). Due (u .x) (u .y) (u .reason)) (sym e) (g .0))
           (λ k. ih (g .1) (g .2) (caseBehind (outcome x y) s i) after (g .3) t k)
           (List·Memᴰ·cases-cons (subst (List·Memᴰ t) (told-of outcome s c i x y es h) m))
 
@@ -297,7 +297,7 @@ line-told n table marks s many {i} {a} {b} {next} {high} l =
     })
 
 -- a pair that is told of has an entry
-pair-told : (ts : List why.Told) (x y : ℕ) → Among (pairsOf ts) x y → (r : why.Reason) × List·Memᴰ (record { x = x; y = y; reason = r }) ts
+pair-told : (ts : List why.ReasonedPair) (x y : ℕ) → Among (pairsOf ts) x y → (r : why.Reason) × List·Memᴰ (record { x = x; y = y; reason = r }) ts
 unfolding pairsOf
 pair-told [] x y m = absurd (List·Memᴰ·not-nil m)
 pair-told (t ∷ ts) x y m = ⊎-elim
@@ -305,7 +305,7 @@ pair-told (t ∷ ts) x y m = ⊎-elim
     (λ k. let r = pair-told ts x y k in (r .0, List·Memᴰ·tail (r .1)))
     (List·Memᴰ·cases-cons m)
   where
-    told-same : x ≡ t .x → y ≡ t .y → _≡_ {A = why.Told} (record { x = x; y = y; reason = t .reason }) t
+    told-same : x ≡ t .x → y ≡ t .y → _≡_ {A = why.ReasonedPair} (record { x = x; y = y; reason = t .reason }) t
     told-same e f = ap₂ (λ (p q : ℕ). record { x = p; y = q; reason = t .reason }) e f
 
 -- EACH PAIR ONCE: every pair x < y of 1 to n, both not c, has exactly one reason that is due, and it is the one told:

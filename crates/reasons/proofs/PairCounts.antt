@@ -14,7 +14,7 @@ use Rattle.lengths.specs.Edge.{Edge, Point, row, rows, edges, tri, edgeCount}
 use Rattle.lengths.proofs.Edges.{tri-suc, edgeCount-tri}
 use Rattle.rules.specs.Pairs.{keep}
 use Rattle.rules.proofs.PairLists.{keep-yes, keep-no, keep-append}
-use Rattle.sentences.specs.Reason.{Told}
+use Rattle.sentences.specs.Reason.{ReasonedPair}
 use Rattle.reasons.specs.Tells.{beside?, pairsOf, pairsAt}
 use Rattle.reasons.proofs.LineTold.{apart-beside}
 
@@ -74,7 +74,7 @@ pub pairs-many : (n c : ℕ) → Point n c → length (pairsAt n c) ≡ edgeCoun
 unfolding pairsAt edges
 pairs-many n c p = rows-through (n - 1) 1 c (p .low) (omega (arith, p .low, p .high)) ∙ sym (edgeCount-tri (n - 1))
 
-pub as-many-pairs : (ts : List Told) → length (pairsOf ts) ≡ length ts
+pub as-many-pairs : (ts : List ReasonedPair) → length (pairsOf ts) ≡ length ts
 unfolding pairsOf
 as-many-pairs [] = refl
 as-many-pairs (t ∷ ts) = ap suc (as-many-pairs ts)

@@ -32,7 +32,7 @@ use Rattle.sentences.specs.Small.{Small}
 use Rattle.reasons.specs.Telling.{lineReasons}
 use Rattle.reasons.specs.Tells.{FirstPair, Leg, Tells, beside?, pairsOf, pairsAt}
 use Rattle.reasons.proofs.Single.{grown, has-ends}
-use Rattle.reasons.proofs.FirstSplit.{case-complete, no-crossing-told, no-order-told}
+use Rattle.reasons.proofs.FirstSplit.{case-complete, no-three-opt-told, no-order-told}
 use Rattle.reasons.proofs.LineTold.{line-told, first-pair}
 
 -- a saving is at most what is taken out
@@ -113,7 +113,7 @@ module _ (n : ℕ) (table marks : List ℕ) (lengths : Lengths n table) {a b c x
             omega
             (arith, saved-most (lengthOf n table u v + lengthOf n table (m .s) w + lengthOf n table (m .t) w) _ k (m .saves), small u v, small (m .s) w, small (m .t) w);
       }
-  due-small (why.threeOpt p q r s k) t = absurd (no-crossing-told n table marks (P .many) (P .ab) argument x y p q r s k t)
+  due-small (why.threeOpt p q r s k) t = absurd (no-three-opt-told n table marks (P .many) (P .ab) argument x y p q r s k t)
   due-small (why.split w) t =
       record {
         points =
@@ -124,18 +124,18 @@ module _ (n : ℕ) (table marks : List ℕ) (lengths : Lengths n table) {a b c x
   due-small (why.reorder u vs v k) t = absurd (no-order-told n table marks (P .many) (P .ab) argument x y u vs v k t)
 
 -- an entry is one of a pair
-in-pairs : (ts : List why.Told) (t : why.Told) → List·Memᴰ t ts → Among (pairsOf ts) (t .x) (t .y)
+in-pairs : (ts : List why.ReasonedPair) (t : why.ReasonedPair) → List·Memᴰ t ts → Among (pairsOf ts) (t .x) (t .y)
 unfolding pairsOf
 in-pairs [] t m = absurd (List·Memᴰ·not-nil m)
 in-pairs (u ∷ ts) t m = ⊎-elim
-    (λ e. List·Memᴰ·head (ap (λ (v : why.Told). edge (v .x) (v .y)) e))
+    (λ e. List·Memᴰ·head (ap (λ (v : why.ReasonedPair). edge (v .x) (v .y)) e))
     (λ k. List·Memᴰ·tail (in-pairs ts t k))
     (List·Memᴰ·cases-cons m)
 
 -- every sentence of a complete line has its room
 pub line-small : (n : ℕ) (table marks s : List ℕ) → 3 < n → Lengths n table → {i a b next high : ℕ}
     → (l : CompleteLine (rulesOf n table marks) (openIn n marks) s i a b next high)
-    → (t : why.Told) → List·Memᴰ t (lineReasons n table marks s (recordAt s i)) → Small (l .c) t
+    → (t : why.ReasonedPair) → List·Memᴰ t (lineReasons n table marks s (recordAt s i)) → Small (l .c) t
 unfolding pairsAt Complete
 line-small n table marks s many lengths {i} {a} {b} l t m =
     let told = line-told n table marks s many l in

@@ -15,7 +15,7 @@ use Rattle.marks.specs.Mark.{openIn}
 use Rattle.marks.specs.Packed.{marksOf}
 use Rattle.text.specs.Words.{Wrote}
 use Rattle.sentences.specs.Sentence.{textOf}
-use Rattle.argument.specs.Record.{Record, line, case, visit, other, How, splits, threeOpts, reorders, records, recordAt, field, content}
+use Rattle.argument.specs.Record.{Record, line, case, visit, other, CaseClosing, splits, threeOpts, reorders, records, recordAt, field, content}
 use Rattle.argument.specs.Record.{bare}
 use Rattle.argument.specs.Line.{strikes, judge}
 use Rattle.argument.proofs.Equations.{JudgeSays, judged}
@@ -82,7 +82,7 @@ module _ (kind a b u v c d next : ℕ) where
   is-line : Reads (line a b c d next)
   is-line a′ b′ c′ d′ next′ e = (cc, cc)
 
-  no-case : (how : How) → Reads (case a b how next)
+  no-case : (how : CaseClosing) → Reads (case a b how next)
   no-case how a′ b′ c′ d′ next′ e = absurd (let z : _≡_ {A = ℕ} 0 1 = cc in omega arith)
 
   no-visit : Reads (visit a next)
@@ -147,7 +147,7 @@ module _ (n : ℕ) (table marks s : List ℕ) (i : ℕ) where
           record-asked = record {
             least = p .least;
             split = record {
-              lengths = p .limits .out-lengths;
+              lengths = p .intervals .out-lengths;
               marked = p .marked;
               point-a = says .at-line .point-a;
               point-b = says .at-line .point-b;
@@ -188,7 +188,7 @@ module _ (n : ℕ) (table set s : List ℕ) {r : Tested} (e : r ≡ tested n tab
 
     module _ {x : declared.Sheet} (z : a ≡ admitting.Admitted x) where
       pub line-admitted : Admitted p table table (marksOf p set) s (x .records)
-      line-admitted = admits-between {by = 0} set (omega arith) (both-passed tests-passed) w z .admitted
+      line-admitted = admits-between {mark = 0} set (omega arith) (both-passed tests-passed) w z .admitted
 
       pub line-told : (i : ℕ) {buffer : List ℕ} {answer : Telling} {left : List ℕ}
           → RecordTold p table (marksOf p set) s i buffer answer left → ToldAs n table (marksOf n set) s i buffer answer left

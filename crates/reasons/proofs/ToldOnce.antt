@@ -15,7 +15,7 @@ use Rattle.sentences.specs.Reason as why
 use Rattle.reasons.specs.PairReason.{shut, stands, pairOutcome}
 use Rattle.reasons.specs.Tells.{FirstPair, CaseIn, Tells}
 use Rattle.reasons.proofs.Computed.{told-struck, told-third, told-loop, told-exchange, told-move, feasible-stands}
-use Rattle.reasons.proofs.FirstSplit.{one-case, cases-rise, no-crossing-told, no-order-told}
+use Rattle.reasons.proofs.FirstSplit.{one-case, cases-rise, no-three-opt-told, no-order-told}
 
 pub open-symmetric : (n : ℕ) (marks : List ℕ) (p q : ℕ) → openIn n marks p q ≡ openIn n marks q p
 unfolding openUpTo
@@ -47,7 +47,7 @@ module _ (n : ℕ) (table marks : List ℕ) {a b c x y : ℕ} {cs : Cases} (P : 
       inl (told-exchange n (lengthOf n table) (length-symmetric n table) (openIn n marks) (open-symmetric n marks) P p q u v k t)
   told-as (why.move w u v k) t =
       inl (told-move n (lengthOf n table) (length-symmetric n table) (openIn n marks) (open-symmetric n marks) P w u v k t)
-  told-as (why.threeOpt p q r s k) t = absurd (no-crossing-told n table marks (P .many) (P .ab) argument x y p q r s k t)
+  told-as (why.threeOpt p q r s k) t = absurd (no-three-opt-told n table marks (P .many) (P .ab) argument x y p q r s k t)
   told-as (why.split w) t =
       inr (feasible-stands n (lengthOf n table) (length-symmetric n table) (openIn n marks) (open-symmetric n marks) P (t .feasible), w, t .further, refl, t .case)
   told-as (why.reorder u vs v k) t = absurd (no-order-told n table marks (P .many) (P .ab) argument x y u vs v k t)

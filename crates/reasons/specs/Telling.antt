@@ -19,7 +19,7 @@ use Rattle.sheets.specs.Sheet.{wholeSheet}
 use Rattle.admission.specs.Tests.{tested}
 use Rattle.admission.specs.declared.tested.Tested.{Tested}
 use Rattle.admission.specs.declared.tested.Tested.the-variants as tests
-use Rattle.sentences.specs.Reason.{Reason, Told, split}
+use Rattle.sentences.specs.Reason.{Reason, ReasonedPair, split}
 use Rattle.sentences.specs.Sentence.{textOf}
 use Rattle.reasons.specs.PairReason.{PairOutcome, shut, stands, pairOutcome}
 use Rattle.reasons.specs.declared.telling.Telling.{Telling}
@@ -42,14 +42,14 @@ caseBehind (shut r) s i = i
 caseBehind stands s i = nextOf s i
 
 -- the reasons of the pairs among these edges, in their order: an edge of the split point c is none
-unfoldable pub reasonsFrom : (outcome : ℕ → ℕ → PairOutcome) (s : List ℕ) (c i : ℕ) → List Edge → List Told
+unfoldable pub reasonsFrom : (outcome : ℕ → ℕ → PairOutcome) (s : List ℕ) (c i : ℕ) → List Edge → List ReasonedPair
 reasonsFrom outcome s c i [] = []
 reasonsFrom outcome s c i (edge x y ∷ es) =
     cond (eqb x c || eqb y c) (reasonsFrom outcome s c i es)
     (record { x = x; y = y; reason = reasonAt (outcome x y) s i } ∷ reasonsFrom outcome s c (caseBehind (outcome x y) s i) es)
 
 -- the reasons of all pairs at the first split of a line
-unfoldable pub lineReasons : ℕ → (table marks s : List ℕ) → Record → List Told
+unfoldable pub lineReasons : ℕ → (table marks s : List ℕ) → Record → List ReasonedPair
 lineReasons n table marks s (line a b c first next) = reasonsFrom (pairOutcome (lengthOf n table) (openIn n marks) a b c) s c first (edges n)
 lineReasons n table marks s (case a b how next) = []
 lineReasons n table marks s (visit v next) = []

@@ -13,7 +13,7 @@ use Rattle.sets.specs.EdgeSet.{Joins, Has, AtMostTwo, Cycle, NoShortCycle, Degr
 use Rattle.tours.specs.Tour.{total}
 use Rattle.rules.specs.Pair.{exchangeSaving, moveSaving, Compatible, FeasiblePair}
 use Rattle.rules.specs.Pairs.{keep}
-use Rattle.closings.specs.Closing.{ThreeOptMoves, crossingSaving}
+use Rattle.closings.specs.Closing.{ThreeOptMoves, threeOptSaving}
 use Rattle.segments.specs.Segment.{Segment}
 use Rattle.argument.specs.Argument.{Cases, none, pair, Closing, split, threeOpt, reorder}
 use Rattle.sentences.specs.Reason as why
@@ -130,7 +130,7 @@ pub record ToldThreeOpt (n : ℕ) (len : ℕ → ℕ → ℕ) (open? : ℕ → �
   pub g : ℕ
   pub h : ℕ
   pub moves : ThreeOptMoves (withPair K c x y) p q r s e f g h
-  pub saves : crossingSaving len len p q r s e f g h ≡ pos saved
+  pub saves : threeOptSaving len len p q r s e f g h ≡ pos saved
 
 -- by a further split at w
 pub record ToldSplit (n : ℕ) (len : ℕ → ℕ → ℕ) (open? : ℕ → ℕ → Bool) (K : List Edge) (c : ℕ) (cs : Cases) (x y w : ℕ) : Type 0 where
@@ -159,7 +159,7 @@ Tells n len open? K c cs x y (why.split w) = ToldSplit n len open? K c cs x y w
 Tells n len open? K c cs x y (why.reorder u vs v saved) = ToldOrder n len open? K c cs x y u vs v saved
 
 -- the pairs that a list of reasons tells of, in its order
-unfoldable pub pairsOf : List why.Told → List Edge
+unfoldable pub pairsOf : List why.ReasonedPair → List Edge
 pairsOf [] = []
 pairsOf (t ∷ ts) = edge (t .x) (t .y) ∷ pairsOf ts
 
@@ -173,6 +173,6 @@ pairsAt n c = keep (beside? c) (edges n)
 
 -- "in pair order, an English sentence for each pair at the first split": ts has one entry for each pair and nothing
 -- else, each with the reason that is due
-pub record TellsLine (n : ℕ) (len : ℕ → ℕ → ℕ) (open? : ℕ → ℕ → Bool) (a b c : ℕ) (cs : Cases) (ts : List why.Told) : Type 0 where
+pub record TellsLine (n : ℕ) (len : ℕ → ℕ → ℕ) (open? : ℕ → ℕ → Bool) (a b c : ℕ) (cs : Cases) (ts : List why.ReasonedPair) : Type 0 where
   pub pairs : pairsOf ts ≡ pairsAt n c
-  pub due : (t : why.Told) → List·Memᴰ t ts → Tells n len open? (edge a b ∷ []) c cs (t .x) (t .y) (t .reason)
+  pub due : (t : why.ReasonedPair) → List·Memᴰ t ts → Tells n len open? (edge a b ∷ []) c cs (t .x) (t .y) (t .reason)

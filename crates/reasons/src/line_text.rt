@@ -30,13 +30,13 @@ pub const FIRST: usize = 6;
 const NEXT: usize = 7;
 
 // What is told of a pair, and the record that is then the case of the next standing pair.
-pub struct Told {
+pub struct ToldPair {
     pub reason: Reason,
     pub case: u16,
 }
 
 // Where the text goes on, and the case of the next standing pair.
-pub struct Spot {
+pub struct TextPosition {
     pub at: usize,
     pub case: u16,
 }
@@ -75,19 +75,19 @@ fn tell_pair(
     x: u16,
     y: u16,
     i: u16,
-) -> Told
+) -> ToldPair
     requires { ⌜ PairAsked n (whole32 (now table)) (marksOf n (now marks)) a b c x y ⌝ }
     ensures { λ r.
         ⌜ ToldAt (outcomesOf n (whole32 (now (table .entry))) (marksOf n (now (marks .entry))) a b c x y) (whole16 (now (sheet .entry))) i r ⌝ }
 {
     match pair_outcome(n, table, marks, a, b, c, x, y) {
-        PairOutcome::Shut(reason) => Told {
+        PairOutcome::Shut(reason) => ToldPair {
             reason: reason,
             case: i,
         },
         PairOutcome::Stands => {
             let reason = Reason::Split(field(sheet, i, POINT));
-            Told {
+            ToldPair {
                 reason: reason,
                 case: field(sheet, i, NEXT),
             }
@@ -121,21 +121,21 @@ fn tell_edge(
     i: u16,
     text: &mut [u8],
     at: usize,
-) -> Spot
+) -> TextPosition
     requires { ⌜ EdgeAsked n (whole32 (now table)) (marksOf n (now marks)) a b c x y at ⌝ }
     ensures { λ r.
         ⌜ EdgeTold (outcomesOf n (whole32 (now (table .entry))) (marksOf n (now (marks .entry))) a b c) (whole16 (now (sheet .entry)))
         c i x y (now (text .entry)) at r (now (text .exit)) ⌝ }
 {
     if x == c {
-        return Spot { at: at, case: i };
+        return TextPosition { at: at, case: i };
     }
     if y == c {
-        return Spot { at: at, case: i };
+        return TextPosition { at: at, case: i };
     }
     let told = tell_pair(n, table, marks, sheet, a, b, c, x, y, i);
     let reason = told.reason;
-    Spot {
+    TextPosition {
         at: put_fitting(c, x, y, reason, text, at),
         case: told.case,
     }

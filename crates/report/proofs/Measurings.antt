@@ -18,7 +18,7 @@ use Rattle.lengths.specs.declared.outcome.Outcome.{Outcome}
 use Rattle.lengths.specs.declared.outcome.Outcome.the-variants.{Done, Refused}
 use Rattle.endian.specs.Bytes.{bytes32, whole16, whole32}
 use Rattle.lengths.proofs.Filling.{measured-again}
-use Rattle.lengths.proofs.Limits.{limit-each}
+use Rattle.lengths.proofs.AtMostTests.{at-most-each}
 use Rattle.marks.specs.Fresh.{freshMarks}
 use Rattle.marking.specs.Mark.{markSheet}
 use Rattle.report.specs.Header.{coordinatesIn, recordsIn, headerBytes, pointBytes}
@@ -44,7 +44,7 @@ done-by Unknown cs n records table h = absurd (let z : _≡_ {A = ℕ} 0 1 = cc 
 done-by (Known rule) cs n records table h = go (allAtMost mostCoordinate cs) refl
   where
     go : (b : Bool) → allAtMost mostCoordinate cs ≡ b → textBy (Known rule) n cs records ≡ markedText n (markSheet n (whole32 (bytes32 (measuredTable rule cs n))) (freshMarks n) records)
-    go true e = rw (e, measured-again rule cs (limit-each mostCoordinate cs e) n)
+    go true e = rw (e, measured-again rule cs (at-most-each mostCoordinate cs e) n)
     go false e = absurd (let z : _≡_ {A = ℕ} 0 1 = let g : Refused 4 0 ≡ Done = rw e at h in cc in omega arith)
 
 module _ (n rule : ℕ) (cs table : List ℕ) (range : inRange n ≡ true) (located : length cs ≡ 2 * n) (sized : length (whole32 table) ≡ edgeCount n) where

@@ -5,7 +5,7 @@ pub mod OutcomeAnswers
 pub mod PageNumbers
 pub mod ReadAnswers
 pub mod SavedNumbers
-pub mod SlipAnswers
-pub mod SlipNumbers
+pub mod ReceiptAnswers
+pub mod ReceiptNumbers
 pub mod TellNumbers
 pub mod TourAnswers

@@ -32,9 +32,9 @@ module _ (v : Verdict) (left : List ℕ) {x : Result (List ℕ)} (h : resultOf v
   answer-number : {r : ℕ} → MarkNumber v r → r ≡ resultNumber x
   answer-number k = k .number left ∙ ap resultNumber h
 
-pub marked-in-c : (by n : ℕ) (table set s : List ℕ) {v : Verdict} {r : ℕ} {left : List ℕ} → resultOf v left ≡ markPackedBy by n (whole32 table) set (whole16 s)
-    → MarkNumber v r → MarkedInC by n table set s r left
-marked-in-c by n table set s {v} {left = left} h k = record { answered = answer-number v left h k; set-left = marks-left v left h }
+pub marked-in-c : (mark n : ℕ) (table set s : List ℕ) {v : Verdict} {r : ℕ} {left : List ℕ} → resultOf v left ≡ markPackedBy mark n (whole32 table) set (whole16 s)
+    → MarkNumber v r → MarkedInC mark n table set s r left
+marked-in-c mark n table set s {v} {left = left} h k = record { answered = answer-number v left h k; set-left = marks-left v left h }
 
 pub marked-between-in-c : (n : ℕ) (low high set s : List ℕ) {v : Verdict} {r : ℕ} {left : List ℕ} → resultOf v left ≡ markBetweenPacked n (whole32 low) (whole32 high) set (whole16 s)
     → MarkNumber v r → MarkedBetweenInC n low high set s r left

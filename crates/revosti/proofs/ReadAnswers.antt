@@ -6,9 +6,9 @@ use mathlib.Core.List.{List}
 use native.Mathlib.Omega.{arith}
 use lib.ListN.{length}
 use Rattle.endian.specs.Bytes.{whole32}
-use Rattle.tsplib_lines.specs.declared.line.Weighing.{Weighing}
+use Rattle.tsplib_lines.specs.declared.text_line.Weighing.{Weighing}
 use Rattle.tsplib.specs.Language.{Tsplib, Outside}
-use Rattle.tsplib.specs.Told.{ToldFirst}
+use Rattle.tsplib.specs.FaultLine.{ToldFirst}
 use Rattle.tsplib.specs.Judging.{judged, linesOf}
 use Rattle.tsplib.specs.Reading.{ReadAs, readAs, answerFor, leftFor}
 use Rattle.tsplib.specs.declared.reading.Read.{Read}

@@ -11,6 +11,6 @@ pub mod Page
 pub mod Pending
 pub mod Reading
 pub mod Saved
-pub mod Slip
+pub mod Receipt
 pub mod Tell
 pub mod Tour

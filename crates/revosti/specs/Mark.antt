@@ -16,11 +16,11 @@ verdictNumber (refused number rec) = number + 256 * rec
 unfoldable pub resultNumber : Result (List ℕ) → ℕ
 resultNumber r = verdictNumber (r .verdict) + 16777216 * r .lines
 
--- what marking and asking answer and leave over bytes, where an accepted line writes the mark `by`
-abbrev pub markInC : (by : ℕ) → ℕ → List ℕ → List ℕ → List ℕ → Result (List ℕ)
-markInC by n table set s = markPackedBy by n (whole32 table) set (whole16 s)
+-- what marking and asking answer and leave over bytes, where an accepted line writes the mark `mark`
+abbrev pub markInC : (mark : ℕ) → ℕ → List ℕ → List ℕ → List ℕ → Result (List ℕ)
+markInC mark n table set s = markPackedBy mark n (whole32 table) set (whole16 s)
 
 -- what `revosti_mark_sheet` (with struck) and `revosti_ask_sheet` (with pending) ensure: the answer, and the packed set that is left
-pub record MarkedInC (by n : ℕ) (table set s : List ℕ) (r : ℕ) (left : List ℕ) : Type 0 where
-  pub answered : r ≡ resultNumber (markInC by n table set s)
-  pub set-left : left ≡ markInC by n table set s .marks
+pub record MarkedInC (mark n : ℕ) (table set s : List ℕ) (r : ℕ) (left : List ℕ) : Type 0 where
+  pub answered : r ≡ resultNumber (markInC mark n table set s)
+  pub set-left : left ≡ markInC mark n table set s .marks

@@ -1,3 +1,3 @@
 pub mod Desk
 pub mod Mark
-pub mod Slip
+pub mod Receipt

@@ -11,7 +11,7 @@ pub mod outcome;
 pub mod page;
 pub mod pending;
 pub mod reading;
+pub mod receipt;
 pub mod saved;
-pub mod slip;
 pub mod tell;
 pub mod tour;

@@ -1,12 +1,12 @@
 // "How much is saved" for C: the answer as one signed 64-bit number.
 use savings::saved::Saved;
-use savings::saved::saved_by_crossing;
 use savings::saved::saved_by_exchange;
 use savings::saved::saved_by_move;
+use savings::saved::saved_by_three_opt;
 ghost use lib.IntN.{pos};
 ghost use mathlib.Core.Path.{_≡_};
 ghost use Rattle.endian.specs.Bytes.{whole32};
-ghost use Rattle.savings.specs.Saved.{exchangeSaved, moveSaved, crossingSaved, Holdable};
+ghost use Rattle.savings.specs.Saved.{exchangeSaved, moveSaved, threeOptSaved, Holdable};
 ghost use Rattle.revosti.specs.Saved.{savedNumber};
 
 // A refusal number as a signed one.
@@ -72,7 +72,7 @@ pub extern "C" fn revosti_crossing_saving(
     z: u16,
     w: u16,
 ) -> i64
-    ensures { λ a. ⌜ a ≡ savedNumber (crossingSaved n (whole32 (now (table .entry))) p q r s x y z w) ⌝ }
+    ensures { λ a. ⌜ a ≡ savedNumber (threeOptSaved n (whole32 (now (table .entry))) p q r s x y z w) ⌝ }
 {
-    saved_number(saved_by_crossing(n, table, p, q, r, s, x, y, z, w))
+    saved_number(saved_by_three_opt(n, table, p, q, r, s, x, y, z, w))
 }

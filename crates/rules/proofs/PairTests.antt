@@ -15,9 +15,9 @@ use Rattle.lists.proofs.Bools.{and-both, and-true, and-yes, never-true, never-f
 use Rattle.sets.specs.EdgeSet.{Has, AtMostTwo, NoShortCycle, withPair}
 use Rattle.rules.proofs.Every.{every-has, has-every}
 use Rattle.rules.proofs.Savings.{compatible-sum}
-use Rattle.rules.proofs.Unmoving.{stays-iff, adding-pair, adding-turned, tests-unmovable, unmovable-centre, unmovable-leg, unmovable-end, single-settled, single-end}
+use Rattle.rules.proofs.Unmoving.{stays-iff, adding-pair, adding-turned, tests-unmovable, unmovable-centre, unmovable-leg, unmovable-end, single-degree-two, single-end}
 use Rattle.rules.specs.Pair.{exchangeSaving, moveSaving, Compatible, Unmovable, FeasiblePair}
-use Rattle.rules.specs.PairTest.{every, compatible?, leg?, stays?, unmoved?, settled?, endStays?, candidateLeg?, feasible?, feasibleBy01?}
+use Rattle.rules.specs.PairTest.{every, compatible?, leg?, stays?, unmoved?, degreeTwoStays?, endStays?, candidateLeg?, feasible?, feasibleBy01?}
 use Rattle.rules.specs.Pairs.{keep, feasiblePairs}
 use Rattle.sets.specs.Rising.{Among}
 use Rattle.sets.specs.Shape.{shape?}
@@ -80,16 +80,16 @@ module _ (out put : ℕ → ℕ → ℕ) (out-turns : (a b : ℕ) → out a b �
   unfolding feasible? candidateLeg?
   feasible-iff n open? K c x y e shape free = (to, from)
     where
-      to : leg? out put open? K c x && (settled? out put K c x && endStays? out put K c x) && (leg? out put open? K c y && (settled? out put K c y && endStays? out put K c y) && (unmoved? out put K c x y && shape? n K c x y)) ≡ true
+      to : leg? out put open? K c x && (degreeTwoStays? out put K c x && endStays? out put K c x) && (leg? out put open? K c y && (degreeTwoStays? out put K c y && endStays? out put K c y) && (unmoved? out put K c x y && shape? n K c x y)) ≡ true
           → FeasiblePair n out put open? K c x y
       to h =
-          let a = and-true (leg? out put open? K c x && (settled? out put K c x && endStays? out put K c x)) _ h in
-          let b = and-true (leg? out put open? K c y && (settled? out put K c y && endStays? out put K c y)) _ (a .1) in
+          let a = and-true (leg? out put open? K c x && (degreeTwoStays? out put K c x && endStays? out put K c x)) _ h in
+          let b = and-true (leg? out put open? K c y && (degreeTwoStays? out put K c y && endStays? out put K c y)) _ (a .1) in
           let d = and-true (unmoved? out put K c x y) _ (b .1) in
           let ax = and-true (leg? out put open? K c x) _ (a .0) in
           let ay = and-true (leg? out put open? K c y) _ (b .0) in
-          let sx = and-true (settled? out put K c x) _ (ax .1) in
-          let sy = and-true (settled? out put K c y) _ (ay .1) in
+          let sx = and-true (degreeTwoStays? out put K c x) _ (ax .1) in
+          let sy = and-true (degreeTwoStays? out put K c y) _ (ay .1) in
           let legx = leg-iff open? K c x .0 (ax .0) in
           let legy = leg-iff open? K c y .0 (ay .0) in
           let two-three = shape (legx .0) (legy .0) .0 (d .1) in
@@ -108,7 +108,7 @@ module _ (out put : ℕ → ℕ → ℕ) (out-turns : (a b : ℕ) → out a b �
           }
 
       from : FeasiblePair n out put open? K c x y
-          → leg? out put open? K c x && (settled? out put K c x && endStays? out put K c x) && (leg? out put open? K c y && (settled? out put K c y && endStays? out put K c y) && (unmoved? out put K c x y && shape? n K c x y)) ≡ true
+          → leg? out put open? K c x && (degreeTwoStays? out put K c x && endStays? out put K c x) && (leg? out put open? K c y && (degreeTwoStays? out put K c y && endStays? out put K c y) && (unmoved? out put K c x y && shape? n K c x y)) ≡ true
       from f =
           let s = adding-pair K c x y (λ q. omega (arith, e .up)) (f .apart-x) (f .apart-y) (f .two) in
           let t = adding-turned s in
@@ -144,7 +144,7 @@ single-as-01 n out put open? a b c = ap (λ (t : ℕ → ℕ → Bool). keep t (
   where
     leg : (x : ℕ) → candidateLeg? out put open? (edge a b ∷ []) c x ≡ leg? out put open? (edge a b ∷ []) c x
     leg x =
-        ap₂ (λ (s t : Bool). leg? out put open? (edge a b ∷ []) c x && (s && t)) (single-settled out put a b c x) (single-end out put a b c x)
+        ap₂ (λ (s t : Bool). leg? out put open? (edge a b ∷ []) c x && (s && t)) (single-degree-two out put a b c x) (single-end out put a b c x)
         ∙ and-yes (leg? out put open? (edge a b ∷ []) c x)
 
     same : (x y : ℕ) → feasible? n out put open? (edge a b ∷ []) c x y ≡ feasibleBy01? n out put open? (edge a b ∷ []) c x y

@@ -3,7 +3,7 @@
 -- edges of S without c are those of K (`unmoved?`). x lies between c and the point t that K leads it on to, and the
 -- edges without x are those of K (`endStays?`) and cy; moving it there takes out cy, xc and xt and puts in ct, cx and
 -- yx, as moving c onto xt does; y likewise. Every other w has its two edges in K, where it cannot be moved to an edge
--- of K; what is left is cx and cy, each a matter of one leg (`settled?`, which also keeps a leg from a point that has
+-- of K; what is left is cx and cy, each a matter of one leg (`degreeTwoStays?`, which also keeps a leg from a point that has
 -- two edges in K already). Conversely each test is about a point of degree two in S. Assumes nothing.
 use Prim.Native.Nat.{ℕ, _+_}
 use mathlib.Core.Path.{_≡_, refl, sym, _∙_, ap, ap₂, subst}
@@ -20,7 +20,7 @@ use Rattle.sets.specs.EdgeSet.{Joins, Has, AtMostTwo, DegreeTwo, withPair}
 use Rattle.sets.proofs.Laws.Joined.{has-sym}
 use Rattle.sets.proofs.Laws.Neighbours.{ends-turned}
 use Rattle.rules.specs.Pair.{MoveSaves, Unmovable}
-use Rattle.rules.specs.PairTest.{every, stays?, unmoved?, joint?, meeting?, apart?, settled?, endAt?, endStays?}
+use Rattle.rules.specs.PairTest.{every, stays?, unmoved?, joint?, meeting?, apart?, degreeTwoStays?, endAt?, endStays?}
 use Rattle.rules.proofs.Every.{every-has, has-every}
 use Rattle.rules.proofs.Savings.{move-sum}
 
@@ -102,16 +102,16 @@ module _ (out put : ℕ → ℕ → ℕ) (out-turns : (a b : ℕ) → out a b �
         (ap₂ (λ (a b : ℕ). meeting? out put c x a w b t) (sym (e .1)) (sym (e .0)) ∙ and-left _ _ (and-right (meeting? out put c x p t q w) _ (and-right (meeting? out put c x p w q t) _ h)))
 
     -- two edges of K that meet in a point that is not c
-    settled-joint : (K : List Edge) → settled? out put K c x ≡ true → (w s t : ℕ) → (s ≡ t → ⊥) → (w ≡ c → ⊥) → Has K w s → Has K w t
+    degree-two-joint : (K : List Edge) → degreeTwoStays? out put K c x ≡ true → (w s t : ℕ) → (s ≡ t → ⊥) → (w ≡ c → ⊥) → Has K w s → Has K w t
         → (joint? out put c x w s t ≡ true) ⊎ (joint? out put c x w t s ≡ true)
-    unfolding settled?
-    settled-joint [] h w s t st wc hs ht = absurd hs
-    settled-joint (edge p q ∷ es) h w s t st wc (inl i) (inl j) = absurd (st (joins-one p q w s t i j))
-    settled-joint (edge p q ∷ es) h w s t st wc (inl i) (inr j) =
+    unfolding degreeTwoStays?
+    degree-two-joint [] h w s t st wc hs ht = absurd hs
+    degree-two-joint (edge p q ∷ es) h w s t st wc (inl i) (inl j) = absurd (st (joins-one p q w s t i j))
+    degree-two-joint (edge p q ∷ es) h w s t st wc (inl i) (inr j) =
         inl (first-meets p q w s t st wc i (every-has (apart? out put c x p q) (apart-turn p q) es (and-left (every (apart? out put c x p q) es) _ h) w t j))
-    settled-joint (edge p q ∷ es) h w s t st wc (inr i) (inl j) =
+    degree-two-joint (edge p q ∷ es) h w s t st wc (inr i) (inl j) =
         inr (first-meets p q w t s (λ e. st (sym e)) wc j (every-has (apart? out put c x p q) (apart-turn p q) es (and-left (every (apart? out put c x p q) es) _ h) w s i))
-    settled-joint (edge p q ∷ es) h w s t st wc (inr i) (inr j) = settled-joint es (and-right (every (apart? out put c x p q) es) _ h) w s t st wc i j
+    degree-two-joint (edge p q ∷ es) h w s t st wc (inr i) (inr j) = degree-two-joint es (and-right (every (apart? out put c x p q) es) _ h) w s t st wc i j
 
     joint-turn : (w s t : ℕ) → joint? out put c x w s t ≡ true → joint? out put c x w t s ≡ true
     unfolding joint?
@@ -120,23 +120,23 @@ module _ (out put : ℕ → ℕ → ℕ) (out-turns : (a b : ℕ) → out a b �
         and-both _ _ (stays-iff out put w t s c x .1 (λ nc nx m. stays-iff out put w s t c x .0 (b .0) nc nx (moves-ends w t s c x m))) (ap (λ (d : Bool). not (eqb x w) || d) (or-swap (eqb t c) (eqb s c)) ∙ b .1)
 
     -- an edge that stands in the list already brings nothing new
-    pub settled-again : (es : List Edge) → settled? out put es c x ≡ true → (p q : ℕ) → Has es p q → every (apart? out put c x p q) es ≡ true
+    pub degree-two-again : (es : List Edge) → degreeTwoStays? out put es c x ≡ true → (p q : ℕ) → Has es p q → every (apart? out put c x p q) es ≡ true
     unfolding apart?
-    settled-again es h p q i =
+    degree-two-again es h p q i =
         has-every (apart? out put c x p q) es
         (λ u v j. and-both _ _ (at p u q v i j) (and-both _ _ (at p v q u i (has-sym es u v j)) (and-both _ _ (at q u p v (has-sym es p q i) j) (at q v p u (has-sym es p q i) (has-sym es u v j)))))
       where
         at : (w z s t : ℕ) → Has es w s → Has es z t → meeting? out put c x w z s t ≡ true
-        at w z s t hs ht = meets w z s t (λ e st wc. ⊎-elim (λ j. j) (λ j. joint-turn w t s j) (settled-joint es h w s t st wc hs (subst (λ (r : ℕ). Has es r t) (sym e) ht)))
+        at w z s t hs ht = meets w z s t (λ e st wc. ⊎-elim (λ j. j) (λ j. joint-turn w t s j) (degree-two-joint es h w s t st wc hs (subst (λ (r : ℕ). Has es r t) (sym e) ht)))
 
     -- a point of degree two of K does not move between c and x
-    settled-stays : (K : List Edge) → settled? out put K c x ≡ true → (w s t : ℕ) → DegreeTwo K w s t → (c ≡ w → ⊥) → (x ≡ w → ⊥) → MoveSaves out put w s t c x → ⊥
+    degree-two-stays : (K : List Edge) → degreeTwoStays? out put K c x ≡ true → (w s t : ℕ) → DegreeTwo K w s t → (c ≡ w → ⊥) → (x ≡ w → ⊥) → MoveSaves out put w s t c x → ⊥
     unfolding joint?
-    settled-stays K h w s t d nc nx m =
+    degree-two-stays K h w s t d nc nx m =
         ⊎-elim
         (λ j. stays-iff out put w s t c x .0 (and-left _ _ j) nc nx m)
         (λ j. stays-iff out put w t s c x .0 (and-left _ _ j) nc nx (moves-ends w s t c x m))
-        (settled-joint K h w s t (d .apart) (λ e. nc (sym e)) (d .has-x) (d .has-y))
+        (degree-two-joint K h w s t (d .apart) (λ e. nc (sym e)) (d .has-x) (d .has-y))
 
     -- x between c and the other end of an edge of K stays where the edges of K are
     end-stays-at : (K : List Edge) → endStays? out put K c x ≡ true → (t : ℕ) → Has K x t → (t ≡ c → ⊥) → every (stays? out put x c t) K ≡ true
@@ -263,7 +263,7 @@ module _ (out put : ℕ → ℕ → ℕ) (out-turns : (a b : ℕ) → out a b �
           (centre-two a .only s (d .has-x))
 
   -- a point that is none of the three
-  other-unmoved : {K S : List Edge} {c x y : ℕ} → Adding K c x y S → Unmovable out put K → settled? out put K c x ≡ true → settled? out put K c y ≡ true
+  other-unmoved : {K S : List Edge} {c x y : ℕ} → Adding K c x y S → Unmovable out put K → degreeTwoStays? out put K c x ≡ true → degreeTwoStays? out put K c y ≡ true
       → (w s t u v : ℕ) → (c ≡ w → ⊥) → (x ≡ w → ⊥) → (y ≡ w → ⊥) → DegreeTwo S w s t → Has S u v → (u ≡ w → ⊥) → (v ≡ w → ⊥) → MoveSaves out put w s t u v → ⊥
   other-unmoved {K} {S} {c} {x} {y} a free hx hy w s t u v nc nx ny d g nu nv m =
       ⊎-elim (λ j. onto x hx nx j) (λ k. ⊎-elim (λ j. onto y hy ny j) (λ i. free w s t u v in-K i nu nv m) k) (a .parts u v g)
@@ -271,15 +271,15 @@ module _ (out put : ℕ → ℕ → ℕ) (out-turns : (a b : ℕ) → out a b �
       in-K : DegreeTwo K w s t
       in-K = other-in-K a nc nx ny d
 
-      onto : (z : ℕ) → settled? out put K c z ≡ true → (z ≡ w → ⊥) → Joins (edge c z) u v → ⊥
-      onto z h nz (inl e) = settled-stays out put out-turns put-turns c z K h w s t in-K nc nz (subst (λ (r : ℕ). MoveSaves out put w s t c r) (sym (e .1)) (subst (λ (r : ℕ). MoveSaves out put w s t r v) (sym (e .0)) m))
+      onto : (z : ℕ) → degreeTwoStays? out put K c z ≡ true → (z ≡ w → ⊥) → Joins (edge c z) u v → ⊥
+      onto z h nz (inl e) = degree-two-stays out put out-turns put-turns c z K h w s t in-K nc nz (subst (λ (r : ℕ). MoveSaves out put w s t c r) (sym (e .1)) (subst (λ (r : ℕ). MoveSaves out put w s t r v) (sym (e .0)) m))
       onto z h nz (inr e) =
-          settled-stays out put out-turns put-turns c z K h w s t in-K nc nz
+          degree-two-stays out put out-turns put-turns c z K h w s t in-K nc nz
           (moves-edge out put out-turns put-turns w s t z c (subst (λ (r : ℕ). MoveSaves out put w s t z r) (sym (e .0)) (subst (λ (r : ℕ). MoveSaves out put w s t r v) (sym (e .1)) m)))
 
   -- the tests pass: S is unmovable
   pub tests-unmovable : {K S : List Edge} {c x y : ℕ} → Adding K c x y S → Unmovable out put K → unmoved? out put K c x y ≡ true
-      → settled? out put K c x ≡ true → settled? out put K c y ≡ true → endStays? out put K c x ≡ true → endStays? out put K c y ≡ true → Unmovable out put S
+      → degreeTwoStays? out put K c x ≡ true → degreeTwoStays? out put K c y ≡ true → endStays? out put K c x ≡ true → endStays? out put K c y ≡ true → Unmovable out put S
   tests-unmovable {K} {S} {c} {x} {y} a free hc hx hy ex ey w s t u v d g nu nv m = elim (ℕ-discrete w c) [
     | yes e ↦ centre-unmoved a hc s t u v (subst (λ (r : ℕ). DegreeTwo S r s t) e d) g (λ q. nu (q ∙ sym e)) (λ q. nv (q ∙ sym e)) (subst (λ (r : ℕ). MoveSaves out put r s t u v) e m)
     | no nc ↦ elim (ℕ-discrete w x) [
@@ -314,10 +314,10 @@ module _ (out put : ℕ → ℕ → ℕ) (out-turns : (a b : ℕ) → out a b �
         joint-at w s t hs ht st =
             and-both _ _ (stays-iff out put w s t c x .1 (λ nc nx m. free w s t c x (degree-two a st (a .old w s hs) (a .old w t ht)) (a .new-x) nc nx m)) (third w s t hs ht st)
 
-    settled-in : (es : List Edge) → ((u v : ℕ) → Has es u v → Has K u v) → settled? out put es c x ≡ true
-    unfolding settled? apart?
-    settled-in [] i = refl
-    settled-in (edge p q ∷ es) i =
+    degree-two-in : (es : List Edge) → ((u v : ℕ) → Has es u v → Has K u v) → degreeTwoStays? out put es c x ≡ true
+    unfolding degreeTwoStays? apart?
+    degree-two-in [] i = refl
+    degree-two-in (edge p q ∷ es) i =
         let pq : Has K p q = i p q (inl (inl (refl, refl))) in
         let qp : Has K q p = has-sym K p q pq in
         and-both _ _
@@ -326,10 +326,10 @@ module _ (out put : ℕ → ℕ → ℕ) (out-turns : (a b : ℕ) → out a b �
         let uv : Has K u v = i u v (inr h) in
         let vu : Has K v u = has-sym K u v uv in
         and-both _ _ (meeting-at p u q v pq uv) (and-both _ _ (meeting-at p v q u pq vu) (and-both _ _ (meeting-at q u p v qp uv) (meeting-at q v p u qp vu)))))
-        (settled-in es (λ u v h. i u v (inr h)))
+        (degree-two-in es (λ u v h. i u v (inr h)))
 
-    pub unmovable-leg : settled? out put K c x ≡ true
-    unmovable-leg = settled-in K (λ u v h. h)
+    pub unmovable-leg : degreeTwoStays? out put K c x ≡ true
+    unmovable-leg = degree-two-in K (λ u v h. h)
 
     pub unmovable-end : endStays? out put K c x ≡ true
     unfolding endStays? endAt?
@@ -356,9 +356,9 @@ single-one a b w s t (inl i) (inr j) = absurd j
 pub single-unmovable : (out put : ℕ → ℕ → ℕ) (a b : ℕ) → Unmovable out put (edge a b ∷ [])
 single-unmovable out put a b w s t u v d h nu nv m = d .apart (single-one a b w s t (d .has-x) (d .has-y))
 
-pub single-settled : (out put : ℕ → ℕ → ℕ) (a b c x : ℕ) → settled? out put (edge a b ∷ []) c x ≡ true
-unfolding settled? every
-single-settled out put a b c x = refl
+pub single-degree-two : (out put : ℕ → ℕ → ℕ) (a b c x : ℕ) → degreeTwoStays? out put (edge a b ∷ []) c x ≡ true
+unfolding degreeTwoStays? every
+single-degree-two out put a b c x = refl
 
 -- and its one edge is at every point that could be moved: the pair list of {ab} goes by the split point alone
 pub single-end : (out put : ℕ → ℕ → ℕ) (a b c x : ℕ) → endStays? out put (edge a b ∷ []) c x ≡ true

@@ -42,9 +42,9 @@ apart? out put c x p q u v =
     meeting? out put c x p u q v && (meeting? out put c x p v q u && (meeting? out put c x q u p v && meeting? out put c x q v p u))
 
 -- every two edges of K: no point of degree two of K moves between c and x, and none gets a third edge
-unfoldable pub settled? : (out put : ℕ → ℕ → ℕ) → List Edge → (c x : ℕ) → Bool
-settled? out put [] c x = true
-settled? out put (edge p q ∷ es) c x = every (apart? out put c x p q) es && settled? out put es c x
+unfoldable pub degreeTwoStays? : (out put : ℕ → ℕ → ℕ) → List Edge → (c x : ℕ) → Bool
+degreeTwoStays? out put [] c x = true
+degreeTwoStays? out put (edge p q ∷ es) c x = every (apart? out put c x p q) es && degreeTwoStays? out put es c x
 
 -- x, where it is p: between c and q, it stays where the edges of K are
 unfoldable pub endAt? : (out put : ℕ → ℕ → ℕ) → List Edge → (c x p q : ℕ) → Bool
@@ -59,7 +59,7 @@ endStays? out put K c x = every (λ (p q : ℕ). endAt? out put K c x p q && end
 -- the edge cx of a pair meets conditions 1 and 4, what condition 5 asks of it alone, and of condition 2
 -- that x is no point where two edges of K meet off c
 unfoldable pub candidateLeg? : (out put : ℕ → ℕ → ℕ) → (ℕ → ℕ → Bool) → List Edge → (c x : ℕ) → Bool
-candidateLeg? out put open? K c x = leg? out put open? K c x && (settled? out put K c x && endStays? out put K c x)
+candidateLeg? out put open? K c x = leg? out put open? K c x && (degreeTwoStays? out put K c x && endStays? out put K c x)
 
 -- the pair x < y is feasible, where K is {ab} or a set that a pair was added to; 2 and 3 are last, since
 -- they are the dearest

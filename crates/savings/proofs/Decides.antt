@@ -15,13 +15,13 @@ use Rattle.rules.specs.PairTest.{every, compatible?, stays?}
 use Rattle.rules.proofs.PairTests.{exchange-shuts, move-shuts}
 use Rattle.closings.specs.Closing.{ThreeOptMoves}
 use Rattle.closings.specs.ClosingTest.{threeOptOutcome}
-use Rattle.closings.specs.declared.closing.ThreeOptOutcome.the-variants.{Settled}
-use Rattle.closings.proofs.ClosingExact.{crossing-shuts}
+use Rattle.closings.specs.declared.closing.ThreeOptOutcome.the-variants.{Closed}
+use Rattle.closings.proofs.ClosingExact.{three-opt-shuts}
 use Rattle.admission.specs.Tests.{testedTable}
 use Rattle.admission.specs.declared.tested.Tested.{Tested}
 use Rattle.admission.specs.declared.tested.Tested.the-variants as tests
 use Rattle.savings.specs.Edges.{isEdge}
-use Rattle.savings.specs.Saved.{savedTested, exchangeSaved, moveSaved, crossingSaved}
+use Rattle.savings.specs.Saved.{savedTested, exchangeSaved, moveSaved, threeOptSaved}
 use Rattle.savings.specs.declared.saved.Saved.the-variants.{Saving, Refused}
 
 refused-none : {k r : ℕ} {s : ℤ} → Refused k r ≡ Saving s → ⊥
@@ -48,9 +48,9 @@ module _ (n : ℕ) (table : List ℕ) (s : ℤ) where
   move-decides c x y u v h nu nv =
       subst (λ (z : ℤ). (stays? (lengthOf n table) (lengthOf n table) c x y u v ≡ false) ↔ (gains? z ≡ true)) (told-is (testedTable n table) _ _ s h) (move-shuts (lengthOf n table) (lengthOf n table) c x y u v nu nv)
 
-  pub crossing-decides : (K : List Edge) (p q r t x y z w : ℕ) → crossingSaved n table p q r t x y z w ≡ Saving s → ThreeOptMoves K p q r t x y z w
-      → (threeOptOutcome (lengthOf n table) (lengthOf n table) K p q r t ≡ Settled) ↔ (gains? s ≡ true)
-  unfolding crossingSaved
-  crossing-decides K p q r t x y z w h m =
-      subst (λ (a : ℤ). (threeOptOutcome (lengthOf n table) (lengthOf n table) K p q r t ≡ Settled) ↔ (gains? a ≡ true)) (told-is (testedTable n table) _ _ s h)
-      (crossing-shuts (lengthOf n table) (lengthOf n table) K p q r t x y z w m)
+  pub three-opt-decides : (K : List Edge) (p q r t x y z w : ℕ) → threeOptSaved n table p q r t x y z w ≡ Saving s → ThreeOptMoves K p q r t x y z w
+      → (threeOptOutcome (lengthOf n table) (lengthOf n table) K p q r t ≡ Closed) ↔ (gains? s ≡ true)
+  unfolding threeOptSaved
+  three-opt-decides K p q r t x y z w h m =
+      subst (λ (a : ℤ). (threeOptOutcome (lengthOf n table) (lengthOf n table) K p q r t ≡ Closed) ↔ (gains? a ≡ true)) (told-is (testedTable n table) _ _ s h)
+      (three-opt-shuts (lengthOf n table) (lengthOf n table) K p q r t x y z w m)

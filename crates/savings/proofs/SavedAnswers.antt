@@ -12,7 +12,7 @@ use Rattle.lengths.specs.Instance.{mostLength}
 use Rattle.lengths.proofs.SignedSavings.{saving-small, smaller-small, larger-small}
 use Rattle.rules.specs.Pair.{exchangeSaving, moveSaving}
 use Rattle.rules.specs.PairTest.{every}
-use Rattle.closings.specs.Closing.{firstSaving, secondSaving, labelSaving, crossingSaving}
+use Rattle.closings.specs.Closing.{firstSaving, secondSaving, labelSaving, threeOptSaving}
 use Rattle.admission.specs.Tests.{testedTable}
 use Rattle.admission.proofs.Passed.{table-passed}
 use Rattle.admission.specs.declared.tested.Tested.{Tested}
@@ -62,8 +62,8 @@ module _ (l : ℕ → ℕ → ℕ) (h : (a b : ℕ) → l a b ≤ mostLength) wh
       (saving-small (l p q + l r x + l s w) (l r s + l p x + l q w) (omega (arith, h p q, h r x, h s w)) (omega (arith, h r s, h p x, h q w)))
       (saving-small (l p q + l r y + l s z) (l r s + l p z + l q y) (omega (arith, h p q, h r y, h s z)) (omega (arith, h r s, h p z, h q y)))
 
-  pub crossing-small : (p q r s x y z w : ℕ) → mag (crossingSaving l l p q r s x y z w) < 2 ^ 40
-  unfolding crossingSaving
-  crossing-small p q r s x y z w =
+  pub three-opt-small : (p q r s x y z w : ℕ) → mag (threeOptSaving l l p q r s x y z w) < 2 ^ 40
+  unfolding threeOptSaving
+  three-opt-small p q r s x y z w =
       larger-small _ _ (label-small p q r s x y z w)
       (larger-small _ _ (label-small p q r s x y w z) (larger-small _ _ (label-small p q r s y x z w) (label-small p q r s y x w z)))

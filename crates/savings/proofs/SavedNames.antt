@@ -1,5 +1,5 @@
 -- The three operations answer the same whatever names points and edges have: p and q, x and y, the two edges of an
--- exchange; x and y, u and v of a move; p and q, x and y, z and w, and the centres with their ends, of a crossing. So
+-- exchange; x and y, u and v of a move; p and q, x and y, z and w, and the centres with their ends, of a 3-opt closing. So
 -- do the functions for C, whose numbers are of these answers. Assumes nothing.
 use Prim.Native.Nat.{ℕ}
 use mathlib.Core.Path.{_≡_, refl, sym, _∙_, ap, ap₂}
@@ -16,12 +16,12 @@ use Rattle.lengths.specs.Table.{lengthOf}
 use Rattle.lengths.proofs.Tables.{length-symmetric}
 use Rattle.rules.specs.PairTest.{every}
 use Rattle.rules.proofs.SavingNames.{exchange-first, exchange-second, exchange-edges, move-from, move-to}
-use Rattle.closings.proofs.SavingNames.{crossing-edge, crossing-ends-r, crossing-ends-s, crossing-centres}
+use Rattle.closings.proofs.SavingNames.{three-opt-edge, three-opt-ends-r, three-opt-ends-s, three-opt-centres}
 use Rattle.admission.specs.Tests.{testedTable}
 use Rattle.admission.specs.declared.tested.Tested.{Tested}
 use Rattle.admission.specs.declared.tested.Tested.the-variants as tests
 use Rattle.savings.specs.Edges.{isEdge}
-use Rattle.savings.specs.Saved.{savedTested, exchangeSaved, moveSaved, crossingSaved}
+use Rattle.savings.specs.Saved.{savedTested, exchangeSaved, moveSaved, threeOptSaved}
 use Rattle.savings.specs.declared.saved.Saved.the-variants.{Saving, Refused}
 
 -- tests in another order
@@ -94,34 +94,34 @@ module _ (n : ℕ) (table : List ℕ) where
         (move-to (lengthOf n table) (lengthOf n table) (length-symmetric n table) (length-symmetric n table) c x y u v)
 
   module _ (p q r s x y z w : ℕ) where
-    pub crossed-edge : crossingSaved n table q p r s x y z w ≡ crossingSaved n table p q r s x y z w
-    unfolding crossingSaved every
+    pub crossed-edge : threeOptSaved n table q p r s x y z w ≡ threeOptSaved n table p q r s x y z w
+    unfolding threeOptSaved every
     crossed-edge =
         saved-same (testedTable n table) (edge q p ∷ edge r x ∷ edge s w ∷ edge r y ∷ edge s z ∷ [])
         (edge p q ∷ edge r x ∷ edge s w ∷ edge r y ∷ edge s z ∷ [])
         (λ m. ap (λ (t : Bool). t && (isEdge m r x && (isEdge m s w && (isEdge m r y && (isEdge m s z && true))))) (edge-turned m q p))
-        (crossing-edge (lengthOf n table) (lengthOf n table) p q r s (length-symmetric n table) (length-symmetric n table) x y z w)
+        (three-opt-edge (lengthOf n table) (lengthOf n table) p q r s (length-symmetric n table) (length-symmetric n table) x y z w)
 
-    pub crossed-ends-r : crossingSaved n table p q r s y x z w ≡ crossingSaved n table p q r s x y z w
-    unfolding crossingSaved every
+    pub crossed-ends-r : threeOptSaved n table p q r s y x z w ≡ threeOptSaved n table p q r s x y z w
+    unfolding threeOptSaved every
     crossed-ends-r =
         saved-same (testedTable n table) (edge p q ∷ edge r y ∷ edge s w ∷ edge r x ∷ edge s z ∷ [])
         (edge p q ∷ edge r x ∷ edge s w ∷ edge r y ∷ edge s z ∷ [])
         (λ m. ap (λ (t : Bool). isEdge m p q && t) (and-three (isEdge m r y) (isEdge m s w) (isEdge m r x) (isEdge m s z && true)))
-        (crossing-ends-r (lengthOf n table) (lengthOf n table) p q r s x y z w)
+        (three-opt-ends-r (lengthOf n table) (lengthOf n table) p q r s x y z w)
 
-    pub crossed-ends-s : crossingSaved n table p q r s x y w z ≡ crossingSaved n table p q r s x y z w
-    unfolding crossingSaved every
+    pub crossed-ends-s : threeOptSaved n table p q r s x y w z ≡ threeOptSaved n table p q r s x y z w
+    unfolding threeOptSaved every
     crossed-ends-s =
         saved-same (testedTable n table) (edge p q ∷ edge r x ∷ edge s z ∷ edge r y ∷ edge s w ∷ [])
         (edge p q ∷ edge r x ∷ edge s w ∷ edge r y ∷ edge s z ∷ [])
         (λ m. ap (λ (t : Bool). isEdge m p q && (isEdge m r x && t)) (and-three (isEdge m s z) (isEdge m r y) (isEdge m s w) true))
-        (crossing-ends-s (lengthOf n table) (lengthOf n table) p q r s x y z w)
+        (three-opt-ends-s (lengthOf n table) (lengthOf n table) p q r s x y z w)
 
-    pub crossed-centres : crossingSaved n table p q s r z w x y ≡ crossingSaved n table p q r s x y z w
-    unfolding crossingSaved every
+    pub crossed-centres : threeOptSaved n table p q s r z w x y ≡ threeOptSaved n table p q r s x y z w
+    unfolding threeOptSaved every
     crossed-centres =
         saved-same (testedTable n table) (edge p q ∷ edge s z ∷ edge r y ∷ edge s w ∷ edge r x ∷ [])
         (edge p q ∷ edge r x ∷ edge s w ∷ edge r y ∷ edge s z ∷ [])
         (λ m. ap (λ (t : Bool). isEdge m p q && t) (and-four (isEdge m s z) (isEdge m r y) (isEdge m s w) (isEdge m r x)))
-        (crossing-centres (lengthOf n table) (lengthOf n table) p q r s (length-symmetric n table) (length-symmetric n table) x y z w)
+        (three-opt-centres (lengthOf n table) (lengthOf n table) p q r s (length-symmetric n table) (length-symmetric n table) x y z w)

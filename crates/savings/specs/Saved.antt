@@ -9,7 +9,7 @@ use Rattle.lengths.specs.Edge.{Edge, edge}
 use Rattle.lengths.specs.Table.{lengthOf}
 use Rattle.rules.specs.Pair.{exchangeSaving, moveSaving}
 use Rattle.rules.specs.PairTest.{every}
-use Rattle.closings.specs.Closing.{crossingSaving}
+use Rattle.closings.specs.Closing.{threeOptSaving}
 use Rattle.admission.specs.Tests.{testedTable}
 use Rattle.admission.specs.declared.tested.Tested.{Tested}
 use Rattle.admission.specs.declared.tested.Tested.the-variants as tests
@@ -32,10 +32,10 @@ unfoldable pub moveSaved : ℕ → List ℕ → (c x y u v : ℕ) → Saved
 moveSaved n table c x y u v =
     savedTested (testedTable n table) (edge u v ∷ edge x c ∷ edge y c ∷ []) (moveSaving (lengthOf n table) (lengthOf n table) c x y u v)
 
--- a crossing of pq with the centres r and s, x and y the other ends of r, z and w those of s
-unfoldable pub crossingSaved : ℕ → List ℕ → (p q r s x y z w : ℕ) → Saved
-crossingSaved n table p q r s x y z w =
-    savedTested (testedTable n table) (edge p q ∷ edge r x ∷ edge s w ∷ edge r y ∷ edge s z ∷ []) (crossingSaving (lengthOf n table) (lengthOf n table) p q r s x y z w)
+-- a 3-opt closing by pq with the centres r and s, x and y the other ends of r, z and w those of s
+unfoldable pub threeOptSaved : ℕ → List ℕ → (p q r s x y z w : ℕ) → Saved
+threeOptSaved n table p q r s x y z w =
+    savedTested (testedTable n table) (edge p q ∷ edge r x ∷ edge s w ∷ edge r y ∷ edge s z ∷ []) (threeOptSaving (lengthOf n table) (lengthOf n table) p q r s x y z w)
 
 -- the answer's saving has few enough bits that C's number holds it
 abbrev pub Holdable : Saved → Type 0

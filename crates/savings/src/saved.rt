@@ -1,10 +1,10 @@
-// The operations "how much is saved": the savings of exchanging two edges, of moving a point and of a crossing, over
+// The operations "how much is saved": the savings of exchanging two edges, of moving a point and of a 3-opt closing, over
 // one table.
 use crate::edges::three_edges;
 use crate::edges::two_edges;
 use admission::tested::Tested;
 use admission::tests::test_table;
-use closings::saving::crossing_saving;
+use closings::saving::three_opt_saving;
 use lengths::refusal;
 use rules::saving::exchange_saving;
 use rules::saving::move_saving;
@@ -14,7 +14,7 @@ ghost use Rattle.endian.specs.Bytes.{whole32};
 ghost use Rattle.lengths.specs.Edge.{edge};
 ghost use Rattle.rules.specs.PairTest.{every};
 ghost use Rattle.savings.specs.Edges.{isEdge};
-ghost use Rattle.savings.specs.Saved.{exchangeSaved, moveSaved, crossingSaved, SavedAs};
+ghost use Rattle.savings.specs.Saved.{exchangeSaved, moveSaved, threeOptSaved, SavedAs};
 
 // The answer of these operations: the saving, or the number of the refusal and its record, always 0.
 pub enum Saved {
@@ -64,8 +64,8 @@ pub fn saved_by_move(n: u32, table: &[u8], c: u16, x: u16, y: u16, u: u16, v: u1
     Saved::Saving(move_saving(points, table, table, c, x, y, u, v))
 }
 
-// Are the edges that a crossing takes out, by either move, edges of n points?
-fn crossing_edges(n: u16, p: u16, q: u16, r: u16, s: u16, x: u16, y: u16, z: u16, w: u16) -> bool
+// Are the edges that a 3-opt closing takes out, by either move, edges of n points?
+fn three_opt_edges(n: u16, p: u16, q: u16, r: u16, s: u16, x: u16, y: u16, z: u16, w: u16) -> bool
     ensures { λ b. ⌜ b ≡ every (isEdge n) (edge p q ∷ edge r x ∷ edge s w ∷ edge r y ∷ edge s z ∷ []) ⌝ }
 {
     if !two_edges(n, p, q, r, x) {
@@ -74,9 +74,9 @@ fn crossing_edges(n: u16, p: u16, q: u16, r: u16, s: u16, x: u16, y: u16, z: u16
     three_edges(n, s, w, r, y, s, z)
 }
 
-// A crossing of the edge pq with the centres r and s, x and y the other ends of r, z and w those of s: the best of its
+// A 3-opt closing by the edge pq with the centres r and s, x and y the other ends of r, z and w those of s: the best of its
 // four labellings.
-pub fn saved_by_crossing(
+pub fn saved_by_three_opt(
     n: u32,
     table: &[u8],
     p: u16,
@@ -88,7 +88,7 @@ pub fn saved_by_crossing(
     z: u16,
     w: u16,
 ) -> Saved
-    ensures { λ a. ⌜ SavedAs (crossingSaved n (whole32 (now (table .entry))) p q r s x y z w) a ⌝ }
+    ensures { λ a. ⌜ SavedAs (threeOptSaved n (whole32 (now (table .entry))) p q r s x y z w) a ⌝ }
 {
     let tested = test_table(n, table);
     let points = match tested {
@@ -98,11 +98,11 @@ pub fn saved_by_crossing(
             record: refusal::NO_RECORD,
         },
     };
-    if !crossing_edges(points, p, q, r, s, x, y, z, w) {
+    if !three_opt_edges(points, p, q, r, s, x, y, z, w) {
         return Saved::Refused {
             refusal: refusal::POINT,
             record: refusal::NO_RECORD,
         };
     }
-    Saved::Saving(crossing_saving(points, table, table, p, q, r, s, x, y, z, w))
+    Saved::Saving(three_opt_saving(points, table, table, p, q, r, s, x, y, z, w))
 }

@@ -12,7 +12,7 @@ use lib.ListN.{getD}
 use borrow.Author.Tests.{eq-eqb, le-leb}
 use Rattle.lists.proofs.Bools.{cond-same, and-both, and-yes}
 use Rattle.lengths.specs.Edge.{Edge, edge, Point}
-use Rattle.lengths.specs.Table.{lengthOf, Lengths, Limits}
+use Rattle.lengths.specs.Table.{lengthOf, Lengths, Intervals}
 use Rattle.lengths.specs.asks.Rows.{RowAt, Rows, RowFilled}
 use Rattle.lengths.proofs.Tables.{length-symmetric, length-small}
 use Rattle.lengths.specs.Instance.{mostLength, pointPlaces}
@@ -20,10 +20,10 @@ use Rattle.rules.specs.asks.Legs.{legOf, narrowed, LegList, LegsOf, LegsBy, Row
 use Rattle.rules.specs.asks.Bound.{tightened, tightenedBy, boundOf, Short, loose}
 use Rattle.search.specs.asks.Split.{TakenOf, Prepared, Bounded, AllTaken, TriangleAsked, TriangleIn, SplitAsked, SplitOf, TakeAsked, TakenIn, EdgeAsked, EdgeRowsAsked, EdgeRows, EdgeTriangle, EdgeLegsAsked, EdgeLegs, SingleAsked}
 use Rattle.marks.specs.Mark.{openMark, pendingMark, openUpTo, openIn, unstruckIn}
-use Rattle.rules.specs.PairTest.{leg?, settled?, endStays?, candidateLeg?}
-use Rattle.rules.proofs.Unmoving.{single-settled, single-end}
+use Rattle.rules.specs.PairTest.{leg?, degreeTwoStays?, endStays?, candidateLeg?}
+use Rattle.rules.proofs.Unmoving.{single-degree-two, single-end}
 use Rattle.or_opt.specs.asks.Ends.{EndsAsked, EndsTold}
-use Rattle.or_opt.specs.asks.Settled.{AllAsked, Settled}
+use Rattle.or_opt.specs.asks.DegreeTwo.{PointsAsked, PointsTold}
 use Rattle.sets.specs.asks.Stored.{edgesOf, edgeList}
 use Rattle.sets.specs.declared.edge_set.EdgeSet.{EdgeSet}
 use Rattle.search.specs.declared.split.Triangle.{Triangle}
@@ -39,7 +39,7 @@ row-opens : {most n : ℕ} {out marks rows : List ℕ} (put : ℕ → ℕ → �
 unfolding rowOf
 row-opens {most} {n} {out} {marks} {rows} put {c} {at} r o x p = o .each x p ∙ legOf-by (rowOf rows at) (rowOf rows at) (lengthOf n out) put (openUpTo most n marks) c x (r .each x p)
 
-short-of : {n : ℕ} {out put : List ℕ} → Limits n out put → (p q c : ℕ) {pq cp cq : ℕ} → pq ≡ lengthOf n out p q → cp ≡ lengthOf n put c p → cq ≡ lengthOf n put c q → Short pq cp cq
+short-of : {n : ℕ} {out put : List ℕ} → Intervals n out put → (p q c : ℕ) {pq cp cq : ℕ} → pq ≡ lengthOf n out p q → cp ≡ lengthOf n put c p → cq ≡ lengthOf n put c q → Short pq cp cq
 short-of l p q c e1 e2 e3 =
     let small = length-small (l .put-lengths) in
     record { first = omega (arith, e1, length-small (l .out-lengths) p q); second = omega (arith, e2, small c p); third = omega (arith, e3, small c q) }
@@ -51,7 +51,7 @@ tightened-sides n out put c p q b e1 e2 e3 =
 
 -- the rows of p and q of what is put in and the lengths pq, cp and cq are at hand
 record AtHand (n : ℕ) (out put rows : List ℕ) (c p q ps qs pq cp cq : ℕ) : Type 0 where
-  limits : Limits n out put
+  intervals : Intervals n out put
   row-p : RowAt n put rows ps p
   row-q : RowAt n put rows qs q
   is-pq : pq ≡ lengthOf n out p q
@@ -60,14 +60,14 @@ record AtHand (n : ℕ) (out put rows : List ℕ) (c p q ps qs pq cp cq : ℕ) :
 
 module _ {n : ℕ} {out put rows : List ℕ} {c p q ps qs pq cp cq : ℕ} (h : AtHand n out put rows c p q ps qs pq cp cq) where
   hand-short : Short pq cp cq
-  hand-short = short-of (h .limits) p q c (h .is-pq) (h .is-cp) (h .is-cq)
+  hand-short = short-of (h .intervals) p q c (h .is-pq) (h .is-cp) (h .is-cq)
 
   hand-asks : {legs : List ℕ} → LegList legs → NarrowAsked n rows legs ps qs pq cp cq
   hand-asks l = record {
-    few = h .limits .put-lengths .few;
+    few = h .intervals .put-lengths .few;
     list = l;
-    row-p = row-lent (h .limits .put-lengths) (h .row-p);
-    row-q = row-lent (h .limits .put-lengths) (h .row-q);
+    row-p = row-lent (h .intervals .put-lengths) (h .row-p);
+    row-q = row-lent (h .intervals .put-lengths) (h .row-q);
     sums = record { first = omega (arith, hand-short .first); second = omega (arith, hand-short .second); third = omega (arith, hand-short .third) };
   }
 
@@ -88,22 +88,22 @@ module _ {n : ℕ} {out put rows : List ℕ} {c p q ps qs pq cp cq : ℕ} (h : A
   hand-legs open? K s w x i =
       hand-narrowed w x i ∙ ap (narrowed (lengthOf n out) (lengthOf n put) c p q x) (s x i) ∙ sym (legOf-narrowed (lengthOf n out) (lengthOf n put) open? K c x p q)
 
-row-own : {n : ℕ} {out put outs puts marks : List ℕ} {k : EdgeSet} {c at : ℕ} → SplitAsked n out put outs puts marks k c → at ≡ (n + 1) * c → RowAt n out outs at c
+row-own : {n : ℕ} {out put outrows putrows marks : List ℕ} {k : EdgeSet} {c at : ℕ} → SplitAsked n out put outrows putrows marks k c → at ≡ (n + 1) * c → RowAt n out outrows at c
 row-own {c = c} a e = rw e (a .in-out .row c (a .legs .centre))
 
-pub take-open : {n : ℕ} {out put outs puts marks : List ℕ} {k : EdgeSet} {c at : ℕ} → SplitAsked n out put outs puts marks k c → at ≡ (n + 1) * c → OpenAsked n marks outs c at
-take-open a e = record { few = a .legs .limits .out-lengths .few; marked = a .legs .marked; centre = a .legs .centre; row = row-lent (a .legs .limits .out-lengths) (row-own a e) }
+pub take-open : {n : ℕ} {out put outrows putrows marks : List ℕ} {k : EdgeSet} {c at : ℕ} → SplitAsked n out put outrows putrows marks k c → at ≡ (n + 1) * c → OpenAsked n marks outrows c at
+take-open a e = record { few = a .legs .intervals .out-lengths .few; marked = a .legs .marked; centre = a .legs .centre; row = row-lent (a .legs .intervals .out-lengths) (row-own a e) }
 
 -- taking in the edges of K one by one: the legs and the bound are those of the first i
 
-pub record Taking (n : ℕ) (out put outs puts marks : List ℕ) (k : EdgeSet) (c : ℕ) (legs : List ℕ) (bound i : ℕ) : Type 0 where
-  pub asked : SplitAsked n out put outs puts marks k c
+pub record Taking (n : ℕ) (out put outrows putrows marks : List ℕ) (k : EdgeSet) (c : ℕ) (legs : List ℕ) (bound i : ℕ) : Type 0 where
+  pub asked : SplitAsked n out put outrows putrows marks k c
   pub within : i ≤ k .count
   pub bounded : Bounded legs bound
   pub prepared : TakenOf n (lengthOf n out) (lengthOf n put) (openIn n marks) (edgesOf (k .from) (k .to) i) c legs bound
 
-pub take-start : {n : ℕ} {out put outs puts marks : List ℕ} {k : EdgeSet} {c at : ℕ} {legs : List ℕ} → SplitAsked n out put outs puts marks k c → at ≡ (n + 1) * c
-    → OpenLegs openMark n marks outs c at legs → Taking n out put outs puts marks k c legs loose 0
+pub take-start : {n : ℕ} {out put outrows putrows marks : List ℕ} {k : EdgeSet} {c at : ℕ} {legs : List ℕ} → SplitAsked n out put outrows putrows marks k c → at ≡ (n + 1) * c
+    → OpenLegs openMark n marks outrows c at legs → Taking n out put outrows putrows marks k c legs loose 0
 unfolding edgesOf boundOf
 take-start {n} {out} {put} a e o = record {
   asked = a;
@@ -134,25 +134,25 @@ untightened out put c u v b (inr e) = go (eqb u c)
     go true = refl
     go false = rw (eq-eqb v c e)
 
-module _ {n : ℕ} {out put outs puts : List ℕ} {c u v : ℕ} {legs : List ℕ} {bound : ℕ} (a : TakeAsked n out put outs puts c u v legs bound) where
+module _ {n : ℕ} {out put outrows putrows : List ℕ} {c u v : ℕ} {legs : List ℕ} {bound : ℕ} (a : TakeAsked n out put outrows putrows c u v legs bound) where
   pub taken-touching : (u ≡ c) ⊎ (v ≡ c) → TakenIn n out put c u v legs bound legs bound
   taken-touching t = record {
     list = a .bounded .list;
     each = λ open? K s x p.
         s x p
-        ∙ sym (touched (lengthOf n out) (lengthOf n put) (length-symmetric n put) (a .asked .limits .order) open? K c u v t x)
+        ∙ sym (touched (lengthOf n out) (lengthOf n put) (length-symmetric n put) (a .asked .intervals .order) open? K c u v t x)
         ∙ sym (legOf-narrowed (lengthOf n out) (lengthOf n put) open? K c x u v);
     least = sym (untightened (lengthOf n out) (lengthOf n put) c u v bound t);
   }
 
-  pub take-asks : TriangleAsked n outs puts c u v
+  pub take-asks : TriangleAsked n outrows putrows c u v
   take-asks = record { room-c = a .in-put .row c (a .asked .centre) .room; room-p = a .in-out .row u (a .asked .from) .room; from = a .asked .from; to = a .asked .to }
 
-  module _ {t : Triangle} (r : TriangleIn n outs puts c u v t) where
+  module _ {t : Triangle} (r : TriangleIn n outrows putrows c u v t) where
     -- what narrowing and tightening read stands in the rows
-    take-hand : AtHand n out put puts c u v (t .ps) (t .qs) (t .pq) (t .cp) (t .cq)
+    take-hand : AtHand n out put putrows c u v (t .ps) (t .qs) (t .pq) (t .cp) (t .cq)
     take-hand = record {
-      limits = a .asked .limits;
+      intervals = a .asked .intervals;
       row-p = rw (r .start-p) (a .in-put .row u (a .asked .from));
       row-q = rw (r .start-q) (a .in-put .row v (a .asked .to));
       is-pq = r .is-pq ∙ a .in-out .row u (a .asked .from) .each v (a .asked .to);
@@ -163,18 +163,18 @@ module _ {n : ℕ} {out put outs puts : List ℕ} {c u v : ℕ} {legs : List ℕ
     pub take-short : Short (t .pq) (t .cp) (t .cq)
     take-short = hand-short take-hand
 
-    pub take-narrow : NarrowAsked n puts legs (t .ps) (t .qs) (t .pq) (t .cp) (t .cq)
+    pub take-narrow : NarrowAsked n putrows legs (t .ps) (t .qs) (t .pq) (t .cp) (t .cq)
     take-narrow = hand-asks take-hand (a .bounded .list)
 
-    pub taken-in : {legs′ : List ℕ} {bound′ : ℕ} → Narrowed n puts legs (t .ps) (t .qs) (t .pq) (t .cp) (t .cq) legs′
+    pub taken-in : {legs′ : List ℕ} {bound′ : ℕ} → Narrowed n putrows legs (t .ps) (t .qs) (t .pq) (t .cp) (t .cq) legs′
         → bound′ ≡ tightenedBy c u v (t .pq) (t .cp) (t .cq) bound → TakenIn n out put c u v legs bound legs′ bound′
     taken-in w e = record { list = w .list; each = λ open? K s. hand-legs take-hand open? K s w; least = hand-tightened take-hand bound e }
 
-module _ {n : ℕ} {out put outs puts marks : List ℕ} {k : EdgeSet} {c : ℕ} {legs : List ℕ} {bound i : ℕ} (s : Taking n out put outs puts marks k c legs bound i) (h : i < k .count) where
-  pub take-edge : TakeAsked n out put outs puts c (getD (k .from) i 0) (getD (k .to) i 0) legs bound
+module _ {n : ℕ} {out put outrows putrows marks : List ℕ} {k : EdgeSet} {c : ℕ} {legs : List ℕ} {bound i : ℕ} (s : Taking n out put outrows putrows marks k c legs bound i) (h : i < k .count) where
+  pub take-edge : TakeAsked n out put outrows putrows c (getD (k .from) i 0) (getD (k .to) i 0) legs bound
   take-edge = record {
     asked = record {
-      limits = s .asked .legs .limits;
+      intervals = s .asked .legs .intervals;
       centre = s .asked .legs .centre;
       from = s .asked .held .points .from-point i h;
       to = s .asked .held .points .to-point i h;
@@ -184,7 +184,7 @@ module _ {n : ℕ} {out put outs puts marks : List ℕ} {k : EdgeSet} {c : ℕ} 
     bounded = s .bounded;
   }
 
-  pub take-on : {legs′ : List ℕ} {bound′ : ℕ} → TakenIn n out put c (getD (k .from) i 0) (getD (k .to) i 0) legs bound legs′ bound′ → Taking n out put outs puts marks k c legs′ bound′ (i + 1)
+  pub take-on : {legs′ : List ℕ} {bound′ : ℕ} → TakenIn n out put c (getD (k .from) i 0) (getD (k .to) i 0) legs bound legs′ bound′ → Taking n out put outrows putrows marks k c legs′ bound′ (i + 1)
   unfolding edgesOf boundOf
   take-on {legs′} {bound′} w =
       let u = getD (k .from) i 0 in
@@ -203,10 +203,10 @@ module _ {n : ℕ} {out put outs puts marks : List ℕ} {k : EdgeSet} {c : ℕ} 
             });
       }
 
-pub take-end : {n : ℕ} {out put outs puts marks : List ℕ} {k : EdgeSet} {c : ℕ} {legs : List ℕ} {bound i : ℕ}
-    → Taking n out put outs puts marks k c legs bound i → k .count ≤ i → AllTaken n out put marks k c legs bound
+pub take-end : {n : ℕ} {out put outrows putrows marks : List ℕ} {k : EdgeSet} {c : ℕ} {legs : List ℕ} {bound i : ℕ}
+    → Taking n out put outrows putrows marks k c legs bound i → k .count ≤ i → AllTaken n out put marks k c legs bound
 unfolding edgeList
-take-end {n} {out} {put} {outs} {puts} {marks} {k} {c} {legs} {bound} {i} s h =
+take-end {n} {out} {put} {outrows} {putrows} {marks} {k} {c} {legs} {bound} {i} s h =
     let e : i ≡ k .count = omega (arith, s .within) in
     record {
       bounded = s .bounded;
@@ -216,9 +216,9 @@ take-end {n} {out} {put} {outs} {puts} {marks} {k} {c} {legs} {bound} {i} s h =
 -- and then its points of degree two
 
 leg-both : (out put : ℕ → ℕ → ℕ) (open? : ℕ → ℕ → Bool) (K : List Edge) (c x : ℕ)
-    → endStays? out put K c x && (settled? out put K c x && leg? out put open? K c x) ≡ candidateLeg? out put open? K c x
+    → endStays? out put K c x && (degreeTwoStays? out put K c x && leg? out put open? K c x) ≡ candidateLeg? out put open? K c x
 unfolding candidateLeg?
-leg-both out put open? K c x = go (endStays? out put K c x) (settled? out put K c x) (leg? out put open? K c x)
+leg-both out put open? K c x = go (endStays? out put K c x) (degreeTwoStays? out put K c x) (leg? out put open? K c x)
   where
     go : (e s t : Bool) → e && (s && t) ≡ t && (s && e)
     go true true true = refl
@@ -233,32 +233,32 @@ leg-both out put open? K c x = go (endStays? out put K c x) (settled? out put K 
 pub rows-lent : {n : ℕ} {table rows : List ℕ} → Lengths n table → Rows n table rows → RowsLent n rows
 rows-lent l r = record { row = λ v p. row-lent l (r .row v p) }
 
-module _ {n : ℕ} {out put outs puts marks : List ℕ} {k : EdgeSet} {c : ℕ} (a : SplitAsked n out put outs puts marks k c) {legs : List ℕ} {bound : ℕ}
+module _ {n : ℕ} {out put outrows putrows marks : List ℕ} {k : EdgeSet} {c : ℕ} (a : SplitAsked n out put outrows putrows marks k c) {legs : List ℕ} {bound : ℕ}
     (t : AllTaken n out put marks k c legs bound) where
-  out-lent : RowsLent n outs
-  out-lent = rows-lent (a .legs .limits .out-lengths) (a .in-out)
+  out-lent : RowsLent n outrows
+  out-lent = rows-lent (a .legs .intervals .out-lengths) (a .in-out)
 
-  put-lent : RowsLent n puts
-  put-lent = rows-lent (a .legs .limits .put-lengths) (a .in-put)
+  put-lent : RowsLent n putrows
+  put-lent = rows-lent (a .legs .intervals .put-lengths) (a .in-put)
 
-  pub settle-asks : AllAsked n outs puts k c legs
-  settle-asks = record {
-    lent = record { few = a .legs .limits .out-lengths .few; centre = a .legs .centre; out-rows = out-lent; put-rows = put-lent; list = t .bounded .list };
+  pub points-asks : PointsAsked n outrows putrows k c legs
+  points-asks = record {
+    lent = record { few = a .legs .intervals .out-lengths .few; centre = a .legs .centre; out-rows = out-lent; put-rows = put-lent; list = t .bounded .list };
     held = a .held;
   }
 
-  module _ {mid : List ℕ} (m : Settled n outs puts k c legs mid) where
-    pub ends-asks : EndsAsked n outs puts k c mid
-    ends-asks = record { lent = record { few = a .legs .limits .out-lengths .few; out-rows = out-lent; put-rows = put-lent }; held = a .held; centre = a .legs .centre; list = m .list }
+  module _ {mid : List ℕ} (m : PointsTold n outrows putrows k c legs mid) where
+    pub ends-asks : EndsAsked n outrows putrows k c mid
+    ends-asks = record { lent = record { few = a .legs .intervals .out-lengths .few; out-rows = out-lent; put-rows = put-lent }; held = a .held; centre = a .legs .centre; list = m .list }
 
-    pub settled-split : {left : List ℕ} → EndsTold n outs puts k c mid left → SplitOf openMark n out put marks k c left bound
+    pub points-split : {left : List ℕ} → EndsTold n outrows putrows k c mid left → SplitOf openMark n out put marks k c left bound
     unfolding legOf
-    settled-split s = record {
+    points-split s = record {
       bounded = record { list = s .list; tight = t .bounded .tight };
       prepared = record {
         each = λ x p.
             s .each out put (a .in-out) (a .in-put)
-            (λ (z : ℕ). settled? (lengthOf n out) (lengthOf n put) (edgeList k) c z && leg? (lengthOf n out) (lengthOf n put) (openIn n marks) (edgeList k) c z)
+            (λ (z : ℕ). degreeTwoStays? (lengthOf n out) (lengthOf n put) (edgeList k) c z && leg? (lengthOf n out) (lengthOf n put) (openIn n marks) (edgeList k) c z)
             (m .each out put (a .in-out) (a .in-put) (leg? (lengthOf n out) (lengthOf n put) (openIn n marks) (edgeList k) c) (t .taken .each))
             x p
             ∙ ap (λ (b : Bool). cond b (lengthOf n out c x) far) (leg-both (lengthOf n out) (lengthOf n put) (openIn n marks) (edgeList k) c x);
@@ -275,7 +275,7 @@ row-kept {at = at} o f h = record { room = omega (arith, o .room, f .size); each
 pub edge-rows : {n : ℕ} {out put : List ℕ} {a b c : ℕ} {rows r s t : List ℕ} → EdgeRowsAsked n out put a b c rows
     → RowFilled n out rows 0 c r → RowFilled n put r pointPlaces a s → RowFilled n put s (2 * pointPlaces) b t → EdgeRows n out put a b c t
 edge-rows {n} q f g h =
-    let few = q .asked .limits .out-lengths .few in
+    let few = q .asked .intervals .out-lengths .few in
     record {
       row-c = row-kept (row-kept (f .row) g (omega arith)) h (omega arith);
       row-a = row-kept (g .row) h (omega arith);
@@ -285,7 +285,7 @@ edge-rows {n} q f g h =
 
 module _ {n : ℕ} {out put : List ℕ} {a b c : ℕ} {t : Triangle} (q : EdgeAsked n out put a b c) (i : EdgeTriangle n out put a b c t) where
   pub edge-short : Short (t .pq) (t .cp) (t .cq)
-  edge-short = short-of (q .limits) a b c (i .is-ab) (i .is-ca) (i .is-cb)
+  edge-short = short-of (q .intervals) a b c (i .is-ab) (i .is-ca) (i .is-cb)
 
   pub edge-bound : {r : ℕ} → r ≡ tightenedBy c a b (t .pq) (t .cp) (t .cq) loose → r ≡ boundOf (lengthOf n out) (lengthOf n put) (edge a b ∷ []) c
   unfolding boundOf
@@ -293,12 +293,12 @@ module _ {n : ℕ} {out put : List ℕ} {a b c : ℕ} {t : Triangle} (q : EdgeAs
 
 module _ {n : ℕ} {out put marks rows : List ℕ} {a b c : ℕ} (q : EdgeLegsAsked n out put marks a b c) (s : EdgeRows n out put a b c rows) where
   pub edge-open : OpenAsked n marks rows c 0
-  edge-open = record { few = q .asked .limits .out-lengths .few; marked = q .marked; centre = q .asked .centre; row = row-lent (q .asked .limits .out-lengths) (s .row-c) }
+  edge-open = record { few = q .asked .intervals .out-lengths .few; marked = q .marked; centre = q .asked .centre; row = row-lent (q .asked .intervals .out-lengths) (s .row-c) }
 
   module _ {t : Triangle} (i : EdgeTriangle n out put a b c t) {legs : List ℕ} (o : OpenLegs pendingMark n marks rows c 0 legs) where
     edge-hand : AtHand n out put rows c a b (t .ps) (t .qs) (t .pq) (t .cp) (t .cq)
     edge-hand = record {
-      limits = q .asked .limits;
+      intervals = q .asked .intervals;
       row-p = rw (i .start-a) (s .row-a);
       row-q = rw (i .start-b) (s .row-b);
       is-pq = i .is-ab;
@@ -320,7 +320,7 @@ module _ {n : ℕ} {out put marks : List ℕ} {k : EdgeSet} {c : ℕ} (g : Singl
   pub single-asked : EdgeLegsAsked n out put marks (getD (k .from) 0 0) (getD (k .to) 0 0) c
   single-asked = record {
     asked = record {
-      limits = g .legs .limits;
+      intervals = g .legs .intervals;
       centre = g .legs .centre;
       from = g .held .points .from-point 0 single-first;
       to = g .held .points .to-point 0 single-first;
@@ -341,7 +341,7 @@ module _ {n : ℕ} {out put marks : List ℕ} {k : EdgeSet} {c : ℕ} (g : Singl
   unfolding candidateLeg?
   single-leg l m open? a b x =
       ap (λ (t : Bool). leg? l m open? (edge a b ∷ []) c x && t)
-      (and-both (settled? l m (edge a b ∷ []) c x) (endStays? l m (edge a b ∷ []) c x) (single-settled l m a b c x) (single-end l m a b c x))
+      (and-both (degreeTwoStays? l m (edge a b ∷ []) c x) (endStays? l m (edge a b ∷ []) c x) (single-degree-two l m a b c x) (single-end l m a b c x))
       ∙ and-yes (leg? l m open? (edge a b ∷ []) c x)
 
   pub single-split : {legs : List ℕ} {bound : ℕ} → EdgeLegs n out put marks (getD (k .from) 0 0) (getD (k .to) 0 0) c legs

@@ -7,8 +7,8 @@ use lengths::rows::length_in;
 use lengths::rows::row_start;
 use lengths::table::length_between;
 use marks::mark;
-use or_opt::ends::settle_ends;
-use or_opt::settled::settle_all;
+use or_opt::degree_two::take_in_points;
+use or_opt::ends::take_in_ends;
 use rules::bound;
 use rules::bound::tighten;
 use rules::legs;
@@ -64,15 +64,15 @@ fn take_in(
     n: u16,
     out: &[u8],
     put: &[u8],
-    outs: &[u32],
-    puts: &[u32],
+    outrows: &[u32],
+    putrows: &[u32],
     c: u16,
     u: u16,
     v: u16,
     legs: &mut [u32; Instance::PLACES],
     bound: u32,
 ) -> u32
-    requires { ⌜ TakeAsked n (whole32 (now out)) (whole32 (now put)) (now outs) (now puts) c u v (now legs) bound ⌝ }
+    requires { ⌜ TakeAsked n (whole32 (now out)) (whole32 (now put)) (now outrows) (now putrows) c u v (now legs) bound ⌝ }
     ensures { λ r.
         ⌜ TakenIn n (whole32 (now (out .entry))) (whole32 (now (put .entry))) c u v (now (legs .entry)) bound (now (legs .exit)) r ⌝ }
 {
@@ -82,8 +82,8 @@ fn take_in(
     if v == c {
         return bound;
     }
-    let t = triangle_of(n, outs, puts, c, u, v);
-    narrow(n, puts, legs, t.ps, t.qs, t.pq, t.cp, t.cq);
+    let t = triangle_of(n, outrows, putrows, c, u, v);
+    narrow(n, putrows, legs, t.ps, t.qs, t.pq, t.cp, t.cq);
     tighten(c, u, v, t.pq, t.cp, t.cq, bound)
 }
 
@@ -93,14 +93,14 @@ fn take_in_all(
     n: u16,
     out: &[u8],
     put: &[u8],
-    outs: &[u32],
-    puts: &[u32],
+    outrows: &[u32],
+    putrows: &[u32],
     marks: &[u8],
     k: EdgeSet,
     c: u16,
     legs: &mut [u32; Instance::PLACES],
 ) -> u32
-    requires { ⌜ SplitAsked n (whole32 (now out)) (whole32 (now put)) (now outs) (now puts) (marksOf n (now marks)) k c ⌝ }
+    requires { ⌜ SplitAsked n (whole32 (now out)) (whole32 (now put)) (now outrows) (now putrows) (marksOf n (now marks)) k c ⌝ }
     requires { ⌜ now legs ≡ replicate pointPlaces far ⌝ }
     ensures { λ r.
         ⌜ AllTaken n (whole32 (now (out .entry))) (whole32 (now (put .entry))) (marksOf n (now (marks .entry))) k c (now (legs .exit)) r ⌝ }
@@ -109,11 +109,22 @@ fn take_in_all(
     let to = k.to;
     let count = k.count;
     let at = row_start(n, c);
-    open_legs(n, marks, mark::OPEN, c, outs, at, legs);
+    open_legs(n, marks, mark::OPEN, c, outrows, at, legs);
     let mut bound = bound::LOOSE;
     let mut i = 0;
     while i < count {
-        bound = take_in(n, out, put, outs, puts, c, from[i], to[i], legs, bound);
+        bound = take_in(
+            n,
+            out,
+            put,
+            outrows,
+            putrows,
+            c,
+            from[i],
+            to[i],
+            legs,
+            bound,
+        );
         i += 1;
     }
     bound
@@ -128,21 +139,21 @@ pub fn prepare(
     n: u16,
     out: &[u8],
     put: &[u8],
-    outs: &[u32],
-    puts: &[u32],
+    outrows: &[u32],
+    putrows: &[u32],
     marks: &[u8],
     k: EdgeSet,
     c: u16,
     legs: &mut [u32; Instance::PLACES],
 ) -> u32
-    requires { ⌜ SplitAsked n (whole32 (now out)) (whole32 (now put)) (now outs) (now puts) (marksOf n (now marks)) k c ⌝ }
+    requires { ⌜ SplitAsked n (whole32 (now out)) (whole32 (now put)) (now outrows) (now putrows) (marksOf n (now marks)) k c ⌝ }
     requires { ⌜ now legs ≡ replicate pointPlaces far ⌝ }
     ensures { λ r. ⌜ SplitOf openMark n (whole32 (now (out .entry))) (whole32 (now (put .entry)))
         (marksOf n (now (marks .entry))) k c (now (legs .exit)) r ⌝ }
 {
-    let bound = take_in_all(n, out, put, outs, puts, marks, k, c, legs);
-    settle_all(n, outs, puts, k, c, legs);
-    settle_ends(n, outs, puts, k, c, legs);
+    let bound = take_in_all(n, out, put, outrows, putrows, marks, k, c, legs);
+    take_in_points(n, outrows, putrows, k, c, legs);
+    take_in_ends(n, outrows, putrows, k, c, legs);
     bound
 }
 

@@ -19,7 +19,7 @@ use Rattle.segments.specs.SegmentTest.{allNamed?, samePoints?, reordered
 use Rattle.segments.specs.asks.Segment.{innerPoints, Fits}
 use Rattle.segments.specs.asks.Reorder.{orderList, kept, NamesNone, NamesThen, SameAsked}
 use Rattle.segments.specs.declared.reorder.Order.{Order}
-use Rattle.segments.specs.declared.reorder.Reordered.the-variants.{Settled, OtherPoints, NotShorter}
+use Rattle.segments.specs.declared.reorder.Reordered.the-variants.{Closed, OtherPoints, NotShorter}
 use Rattle.segments.specs.declared.segment.Segment.{Segment}
 use Rattle.segments.proofs.PointLists.{stored, size}
 
@@ -121,10 +121,10 @@ module _ (out put : ℕ → ℕ → ℕ) (ws : List ℕ) (u v : ℕ) (vs : List 
   unfolding reordered
   answers-other e = rw e
 
-  pub answers-settled : samePoints? vs ws ≡ true → total put (pathEdges u vs v) < total out (pathEdges u ws v)
-      → Settled ≡ reordered out put ws u v vs
+  pub answers-closed : samePoints? vs ws ≡ true → total put (pathEdges u vs v) < total out (pathEdges u ws v)
+      → Closed ≡ reordered out put ws u v vs
   unfolding reordered
-  answers-settled e h = rw (e, lt-ltb (total put (pathEdges u vs v)) (total out (pathEdges u ws v)) h)
+  answers-closed e h = rw (e, lt-ltb (total put (pathEdges u vs v)) (total out (pathEdges u ws v)) h)
 
   pub answers-long : samePoints? vs ws ≡ true → total out (pathEdges u ws v) ≤ total put (pathEdges u vs v)
       → NotShorter ≡ reordered out put ws u v vs

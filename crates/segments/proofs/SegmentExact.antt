@@ -28,7 +28,7 @@ use Rattle.tours.proofs.Edges.{inside-nil, inside-cons}
 use Rattle.segments.specs.Segment.{Path, Segment, Reorders}
 use Rattle.segments.specs.SegmentTest.{over, onlyWay, between, segmentOf, segment?, samePoints?, reordered, refusalOf, reordering}
 use Rattle.segments.specs.declared.reorder.Reordered.{Reordered}
-use Rattle.segments.specs.declared.reorder.Reordered.the-variants.{Settled, OtherPoints, NotShorter}
+use Rattle.segments.specs.declared.reorder.Reordered.the-variants.{Closed, OtherPoints, NotShorter}
 use Rattle.segments.proofs.Paths.{snoc-last, snoc-in, path-few, point-edge}
 use Rattle.segments.proofs.SamePoints.{same-sound, same-complete, count-in}
 use Rattle.segments.proofs.WayExact.{over-first, over-path, path-over}
@@ -194,7 +194,7 @@ module _ {n : ℕ} {K : List Edge} (shape : Shape n K) (u v : ℕ) where
     λ S. true-some (segmentOf K u v) (λ e. S .1 .inner (sym (segment-complete (S .0) (S .1)) ∙ e)),
   )
 
-  -- THEOREM: a new order that computes to 0 settles K
+  -- THEOREM: a new order that computes to 0 closes K
   pub reorder-sound : (out put : ℕ → ℕ → ℕ) (vs : List ℕ) → segment? K u v ≡ true → reordering out put K u v vs ≡ 0
       → Reorders out put K u v vs
   unfolding reordering reordered refusalOf
@@ -209,12 +209,12 @@ module _ {n : ℕ} {K : List Edge} (shape : Shape n K) (u v : ℕ) where
         shorter = ltb-true (total put (pathEdges u vs v)) (total out (pathEdges u ws v)) (t .1);
       }
     where
-      both : (s t : Bool) → refusalOf (cond s (cond t Settled NotShorter) OtherPoints) ≡ 0 → (s ≡ true) × (t ≡ true)
+      both : (s t : Bool) → refusalOf (cond s (cond t Closed NotShorter) OtherPoints) ≡ 0 → (s ≡ true) × (t ≡ true)
       both true true e = (refl, refl)
       both true false e = absurd (omega arith)
       both false t e = absurd (omega arith)
 
-  -- THEOREM: and one that settles K computes to 0
+  -- THEOREM: and one that closes K computes to 0
   pub reorder-complete : (out put : ℕ → ℕ → ℕ) (vs : List ℕ) → Reorders out put K u v vs
       → (segment? K u v ≡ true) × (reordering out put K u v vs ≡ 0)
   unfolding reordering reordered refusalOf
@@ -232,17 +232,17 @@ module _ {n : ℕ} {K : List Edge} (shape : Shape n K) (u v : ℕ) where
     shorter? = ltb (total put (pathEdges u vs v)) (total out (pathEdges u ws v))
 
     -- the answer by the two tests
-    answer : reordering out put K u v vs ≡ refusalOf (cond same? (cond shorter? Settled NotShorter) OtherPoints)
+    answer : reordering out put K u v vs ≡ refusalOf (cond same? (cond shorter? Closed NotShorter) OtherPoints)
     unfolding reordering reordered same? shorter?
     answer = rw (segment-complete ws S)
 
-    is-23 : (s t : Bool) → refusalOf (cond s (cond t Settled NotShorter) OtherPoints) ≡ 23 → s ≡ false
+    is-23 : (s t : Bool) → refusalOf (cond s (cond t Closed NotShorter) OtherPoints) ≡ 23 → s ≡ false
     unfolding refusalOf
     is-23 true true e = absurd (omega arith)
     is-23 true false e = absurd (omega arith)
     is-23 false t e = refl
 
-    is-24 : (s t : Bool) → refusalOf (cond s (cond t Settled NotShorter) OtherPoints) ≡ 24 → (s ≡ true) × (t ≡ false)
+    is-24 : (s t : Bool) → refusalOf (cond s (cond t Closed NotShorter) OtherPoints) ≡ 24 → (s ≡ true) × (t ≡ false)
     unfolding refusalOf
     is-24 true true e = absurd (omega arith)
     is-24 true false e = (refl, refl)
@@ -278,11 +278,11 @@ unfolding reordering refusalOf
 reordering-number out put K u v vs = go (reordered out put (segmentOf K u v) u v vs)
   where
     go : (r : Reordered) → 1 ≤ refusalOf r → (23 ≤ refusalOf r) × (refusalOf r ≤ 24)
-    go Settled h = absurd (omega arith)
+    go Closed h = absurd (omega arith)
     go OtherPoints h = (omega arith, omega arith)
     go NotShorter h = (omega arith, omega arith)
 
--- u, v and the points that a new order names where it settles K have edges in K: what holds of every point with an edge
+-- u, v and the points that a new order names where it closes K have edges in K: what holds of every point with an edge
 -- holds of them
 pub reorders-points : {out put : ℕ → ℕ → ℕ} {K : List Edge} {u v : ℕ} {vs : List ℕ} (P : ℕ → Type 0) → ((a b : ℕ) → Has K a b → P a)
     → Reorders out put K u v vs → P u × P v × ((x : ℕ) → 1 ≤ count x vs → P x)

@@ -9,7 +9,7 @@ use Rattle.sets.specs.Neighbours.{withPoint, seen, neighboursOf, beyond}
 use Rattle.tours.specs.Tour.{total}
 use Rattle.segments.specs.SegmentTest.{ledTo, followed, over, onlyWay, between, segmentOf}
 use Rattle.segments.specs.SegmentTest.{named?, allNamed?, samePoints?, reordered}
-use Rattle.segments.specs.declared.reorder.Reordered.the-variants.{Settled, OtherPoints, NotShorter}
+use Rattle.segments.specs.declared.reorder.Reordered.the-variants.{Closed, OtherPoints, NotShorter}
 
 -- the path 1-2-3-4-5, its edges in no order, and 7-8 beside it
 abbrev path : List Edge
@@ -52,7 +52,7 @@ twice a b = 2 * gap a b
 
 -- new orders of the path 1-3-2-4, of length 5
 record Reorderings : Type 0 where
-  shorter : reordered gap gap (3 ∷ 2 ∷ []) 1 4 (2 ∷ 3 ∷ []) ≡ Settled
+  shorter : reordered gap gap (3 ∷ 2 ∷ []) 1 4 (2 ∷ 3 ∷ []) ≡ Closed
   as-short : reordered gap gap (3 ∷ 2 ∷ []) 1 4 (3 ∷ 2 ∷ []) ≡ NotShorter
   shorter-as-taken-out : reordered gap twice (3 ∷ 2 ∷ []) 1 4 (2 ∷ 3 ∷ []) ≡ NotShorter
   missing : reordered gap gap (3 ∷ 2 ∷ []) 1 4 (2 ∷ []) ≡ OtherPoints

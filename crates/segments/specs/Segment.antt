@@ -1,5 +1,5 @@
 -- Segments (02, Paper 10): "The stretch is the path from u to v in K with the pair added; it has at least one inner
--- point, and where K with the pair is a closed tour there is no stretch"; and when a new order of one settles a case.
+-- point, and where K with the pair is a closed tour there is no stretch"; and when a new order of one closes a case.
 use Prim.Native.Nat.{ℕ, _≤_, _<_}
 use mathlib.Core.Path.{_≡_}
 use mathlib.Core.List.{List, [], _∷_, _++_}
@@ -20,7 +20,7 @@ pub record Segment (K : List Edge) (u v : ℕ) (ws : List ℕ) : Type 0 where
   pub inner : ws ≡ [] → ⊥
   pub only : (xs : List ℕ) → Path K u v xs → xs ≡ ws
 
--- the new order vs of a segment's inner points settles K: "The chain must name its inner points, each once, and the new
+-- the new order vs of a segment's inner points closes K: "The chain must name its inner points, each once, and the new
 -- order from u to v must be strictly shorter"; the old path counts by `out`, the new one by `put`
 pub record Reorders (out put : ℕ → ℕ → ℕ) (K : List Edge) (u v : ℕ) (vs : List ℕ) : Type 0 where
   pub ws : List ℕ

@@ -14,7 +14,7 @@ use Rattle.sets.specs.declared.neighbours.PathStep.{PathStep}
 use Rattle.sets.specs.declared.neighbours.PathStep.the-variants.{Stop, On, Fork}
 use Rattle.tours.specs.Tour.{total}
 use Rattle.segments.specs.declared.reorder.Reordered.{Reordered}
-use Rattle.segments.specs.declared.reorder.Reordered.the-variants.{Settled, OtherPoints, NotShorter}
+use Rattle.segments.specs.declared.reorder.Reordered.the-variants.{Closed, OtherPoints, NotShorter}
 
 -- the points found from the point that a path goes on to, where it goes on to just one
 unfoldable pub ledTo : PathStep → (ℕ → List ℕ) → List ℕ
@@ -76,11 +76,11 @@ samePoints? vs ws = eqb (length vs) (length ws) && allNamed? ws vs
 -- what the new order vs of the inner points ws from u to v comes to
 unfoldable pub reordered : (out put : ℕ → ℕ → ℕ) (ws : List ℕ) (u v : ℕ) (vs : List ℕ) → Reordered
 reordered out put ws u v vs =
-    cond (samePoints? vs ws) (cond (ltb (total put (pathEdges u vs v)) (total out (pathEdges u ws v))) Settled NotShorter) OtherPoints
+    cond (samePoints? vs ws) (cond (ltb (total put (pathEdges u vs v)) (total out (pathEdges u ws v))) Closed NotShorter) OtherPoints
 
 -- its refusal by 02, Paper 10, 0 where it refuses nothing
 unfoldable pub refusalOf : Reordered → ℕ
-refusalOf Settled = 0
+refusalOf Closed = 0
 refusalOf OtherPoints = 23
 refusalOf NotShorter = 24
 

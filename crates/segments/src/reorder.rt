@@ -12,9 +12,9 @@ ghost use Rattle.segments.specs.SegmentTest.{named?, samePoints?, reorde
 ghost use Rattle.segments.specs.asks.Segment.{innerPoints, Fits};
 ghost use Rattle.segments.specs.asks.Reorder.{orderList, NamesNone, NamesThen, SameAsked, PathAsked, ReorderAsked};
 
-// What a new order comes to. The refusals of 02, Paper 10: OtherPoints is 23, NotShorter is 24, and Settled is none.
+// What a new order comes to. The refusals of 02, Paper 10: OtherPoints is 23, NotShorter is 24, and Closed is none.
 pub enum Reordered {
-    Settled,
+    Closed,
     OtherPoints,
     NotShorter,
 }
@@ -118,7 +118,7 @@ fn path_length(
     sum + length_between(n, table, at, v)
 }
 
-// Does the order of the segment's points from u to v settle a case: the same points, and strictly shorter?
+// Does the order of the segment's points from u to v close a case: the same points, and strictly shorter?
 // The old path is measured by the table `out`, the new one by the table `put`.
 pub fn reorder(
     n: u16,
@@ -140,7 +140,7 @@ pub fn reorder(
     let new_points = order.points;
     let old = path_length(n, out, u, old_points, segment.count, v);
     if path_length(n, put, u, new_points, order.count, v) < old {
-        return Reordered::Settled;
+        return Reordered::Closed;
     }
     Reordered::NotShorter
 }

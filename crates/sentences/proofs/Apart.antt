@@ -6,7 +6,7 @@ use native.Mathlib.Omega.{arith}
 use lib.ListN.{getD, drop}
 use Rattle.text.specs.Decimal.{fieldText}
 use Rattle.text.proofs.DecimalsApart.{first, joined, Rows, none, more, field-apart, fields-apart}
-use Rattle.sentences.specs.Reason.{Reason, struck, third, loop, exchange, move, threeOpt, split, reorder, Told, pointsOf, savedOf}
+use Rattle.sentences.specs.Reason.{Reason, struck, third, loop, exchange, move, threeOpt, split, reorder, ReasonedPair, pointsOf, savedOf}
 use Rattle.sentences.specs.Sentence as words
 use Rattle.sentences.specs.Sentence.{dash, stop, pairText, dashed, sentence, textOf}
 use Rattle.sentences.proofs.Letters.{letter, letter-some, letter-first, rebuild, same-kind}
@@ -192,11 +192,11 @@ pub sentences-apart : (c x y : ℕ) (r : Reason) (us : List ℕ) (c′ x′ y′
     → sentence c x y r ++ us ≡ sentence c′ x′ y′ t ++ vs → (c ≡ c′) × (x ≡ x′) × (y ≡ y′) × (r ≡ t) × (us ≡ vs)
 sentences-apart c x y r us c′ x′ y′ t vs e = reasons-apart c x y us c′ x′ y′ vs r t e
 
-told-same : (t u : Told) → t .x ≡ u .x → t .y ≡ u .y → t .reason ≡ u .reason → t ≡ u
+told-same : (t u : ReasonedPair) → t .x ≡ u .x → t .y ≡ u .y → t .reason ≡ u .reason → t ≡ u
 told-same t u e f g = λ i. record { x = e i; y = f i; reason = g i }
 
 -- sentence by sentence: a text that is not empty begins with a letter
-pub texts-apart : (c d : ℕ) (ts us : List Told) → textOf c ts ≡ textOf d us → ts ≡ us
+pub texts-apart : (c d : ℕ) (ts us : List ReasonedPair) → textOf c ts ≡ textOf d us → ts ≡ us
 unfolding textOf
 texts-apart c d [] [] e = refl
 texts-apart c d [] (u ∷ us) e = absurd (omega (arith, ap first e, letter-first d (u .x) (u .y) (u .reason) (textOf d us), letter-some (u .reason)))

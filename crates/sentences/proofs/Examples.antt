@@ -3,14 +3,14 @@ use Prim.Native.Nat.{ℕ}
 use mathlib.Core.Path.{_≡_, refl}
 use mathlib.Core.List.{List, [], _∷_}
 use Rattle.text.specs.Decimal.{fieldText, decimal, digits}
-use Rattle.sentences.specs.Reason.{Reason, struck, third, loop, exchange, move, threeOpt, split, reorder, Told}
+use Rattle.sentences.specs.Reason.{Reason, struck, third, loop, exchange, move, threeOpt, split, reorder, ReasonedPair}
 use Rattle.sentences.specs.Sentence.{pairText, dashed, sentence, textOf}
 
-abbrev pub told : (x y : ℕ) → Reason → Told
+abbrev pub told : (x y : ℕ) → Reason → ReasonedPair
 told x y r = record { x = x; y = y; reason = r }
 
 -- a reason of each kind for neighbours of 5
-abbrev pub examples : List Told
+abbrev pub examples : List ReasonedPair
 examples =
     told 3 8 (struck 3 5)
     ∷ told 3 8 (third 5)

@@ -6,7 +6,7 @@ use native.Mathlib.Omega.{arith}
 use lib.ListN.{length, getD, length-append}
 use Rattle.text.specs.Decimal.{fieldText}
 use Rattle.text.proofs.Decimals.{decimal-length, field-size}
-use Rattle.sentences.specs.Reason.{Reason, struck, third, loop, exchange, move, threeOpt, split, reorder, Told, pointsOf, savedOf}
+use Rattle.sentences.specs.Reason.{Reason, struck, third, loop, exchange, move, threeOpt, split, reorder, ReasonedPair, pointsOf, savedOf}
 use Rattle.sentences.specs.Sentence.{dash, dashed, sentence, textOf, sentenceBytes}
 use Rattle.sentences.specs.Small.{Small}
 use Rattle.sentences.proofs.Sizes.{size, struck-size, third-size, loop-size, exchange-size, move-size, three-opt-size, split-size, reorder-size}
@@ -32,11 +32,11 @@ reason-fits c x y (split w) d o g = omega (arith, split-size c x y w, d 0 (omega
 reason-fits c x y (reorder u vs v saved) d o g =
     omega (arith, reorder-size c x y u vs v saved, d 0 (omega arith), d 1 (omega arith), d 2 (omega arith), d 3 (omega arith), d 4 (omega arith), dashed-few vs (λ i h. d (suc (suc (suc (suc (suc i))))) (omega arith)))
 
-pub sentence-fits : (c : ℕ) (t : Told) → Small c t → length (sentence c (t .x) (t .y) (t .reason)) ≤ sentenceBytes
+pub sentence-fits : (c : ℕ) (t : ReasonedPair) → Small c t → length (sentence c (t .x) (t .y) (t .reason)) ≤ sentenceBytes
 sentence-fits c t s =
     reason-fits c (t .x) (t .y) (t .reason) (λ i h. decimal-length 2 _ (s .points i h)) (s .order) (decimal-length 7 _ (s .saving))
 
-pub text-fits : (c : ℕ) (ts : List Told) → ((t : Told) → List·Memᴰ t ts → Small c t) → length (textOf c ts) ≤ sentenceBytes * length ts
+pub text-fits : (c : ℕ) (ts : List ReasonedPair) → ((t : ReasonedPair) → List·Memᴰ t ts → Small c t) → length (textOf c ts) ≤ sentenceBytes * length ts
 unfolding textOf
 text-fits c [] s = omega arith
 text-fits c (t ∷ ts) s =

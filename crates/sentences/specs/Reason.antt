@@ -15,7 +15,7 @@ pub data Reason : Type 0 where
   exchange : (p q u v saved : ℕ) → Reason
   -- moving the point w to between u and v saves so much
   move : (w u v saved : ℕ) → Reason
-  -- the pair stands, and its case is closed by 3-opt (01's crossing) with the edge pq and the centres r and s, which
+  -- the pair stands, and its case is closed by 3-opt with the edge pq and the centres r and s, which
   -- saves so much
   threeOpt : (p q r s saved : ℕ) → Reason
   -- by a further split at the point w
@@ -24,7 +24,7 @@ pub data Reason : Type 0 where
   reorder : (u : ℕ) (vs : List ℕ) (v saved : ℕ) → Reason
 
 -- a pair at a split point, with its reason
-pub record Told : Type 0 where
+pub record ReasonedPair : Type 0 where
   pub x : ℕ
   pub y : ℕ
   pub reason : Reason

@@ -3,7 +3,7 @@
 use Prim.Native.Nat.{ℕ}
 use mathlib.Core.List.{List, [], _∷_, _++_}
 use Rattle.text.specs.Decimal.{fieldText}
-use Rattle.sentences.specs.Reason.{Reason, struck, third, loop, exchange, move, threeOpt, split, reorder, Told}
+use Rattle.sentences.specs.Reason.{Reason, struck, third, loop, exchange, move, threeOpt, split, reorder, ReasonedPair}
 
 -- "Struck edge "
 abbrev pub struckWords : List ℕ
@@ -108,7 +108,7 @@ sentence c x y (reorder u vs v saved) =
     fieldText orderWords u ++ dashed vs ++ fieldText dash v ++ fieldText savesWord saved ++ pairText andSettlesWords c x y
 
 -- the sentences of a list of reasons at the split point c, one after another
-unfoldable pub textOf : (c : ℕ) → List Told → List ℕ
+unfoldable pub textOf : (c : ℕ) → List ReasonedPair → List ℕ
 textOf c [] = []
 textOf c (t ∷ ts) = sentence c (t .x) (t .y) (t .reason) ++ textOf c ts
 

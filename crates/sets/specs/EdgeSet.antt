@@ -1,3 +1,4 @@
+-- 01's K is the known edges: those that a tour is assumed to have.
 -- A list of edges read as a set: neither the order of an edge's two points nor a repeated edge matters.
 use Prim.Native.Nat.{ℕ, _≤_}
 use mathlib.Core.Path.{_≡_}

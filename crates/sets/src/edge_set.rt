@@ -4,6 +4,7 @@ ghost use Prim.Native.Nat.{_+_, _≤_};
 ghost use Rattle.sets.specs.Joined.{joins?, has?};
 ghost use Rattle.sets.specs.asks.Stored.{mostKnown, edgeList, Stored, Single, Added};
 
+// 01's K, the known edges: those that a tour is assumed to have.
 // The i-th edge taken in joins from[i] and to[i], for i below count. An edge may stand twice.
 pub struct EdgeSet {
     pub from: [u16; EdgeSet::PLACES],

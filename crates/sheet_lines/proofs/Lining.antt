@@ -13,7 +13,7 @@ use Rattle.marks.specs.asks.Mark.{MarkAsked, SetAsked}
 use Rattle.marks.proofs.Marks.{length-marked}
 use Rattle.sets.specs.asks.Stored.{edgeList, Single}
 use Rattle.sets.specs.declared.edge_set.EdgeSet.{EdgeSet}
-use Rattle.argument.specs.Argument.{splitLimit}
+use Rattle.argument.specs.Argument.{mostSplits}
 use Rattle.argument.specs.Verdict.{Verdict, accepted, refused, andThen}
 use Rattle.argument.specs.Record.{splits, line, records, recordAt, fits}
 use Rattle.argument.specs.Layout.{Enters}
@@ -55,12 +55,12 @@ module _ (R : Rules) (open? : ℕ → ℕ → Bool) (s : List ℕ) (i a b c firs
     unfolding judgeRecord
     line-struck o = sym (pass-guard _ 11 i _ f ∙ fail-guard _ 12 i _ o)
 
-    module _ (o : open? a b ≡ true) {k : EdgeSet} (one : Single a b k) {v : Walked} (z : walkedOf v ≡ walk R s (opening R splitLimit (edgeList k) i c first)) where
+    module _ (o : open? a b ≡ true) {k : EdgeSet} (one : Single a b k) {v : Walked} (z : walkedOf v ≡ walk R s (opening R mostSplits (edgeList k) i c first)) where
       line-walks : {v′ : Walked} → v ≡ v′ → judgeRecord R open? s i (line a b c first next) ≡ andThen (walkedOf v′) λ high. accepted (strikes a b next high)
       unfolding judgeRecord
       line-walks g =
           pass-guard _ 11 i _ f ∙ pass-guard _ 12 i _ o ∙ ap (λ (w : Verdict ℕ). andThen w (λ high. accepted (strikes a b next high)))
-          (close-splits R s splitLimit (edge a b ∷ []) i c first (omega arith) ∙ ap (λ (K : List Edge). walk R s (opening R splitLimit K i c first)) (sym (one .edges)) ∙ sym z ∙ ap walkedOf g)
+          (close-splits R s mostSplits (edge a b ∷ []) i c first (omega arith) ∙ ap (λ (K : List Edge). walk R s (opening R mostSplits K i c first)) (sym (one .edges)) ∙ sym z ∙ ap walkedOf g)
 
       pub line-strikes : {high : ℕ} → v ≡ walked.Closed high → accepted (strikes a b next high) ≡ judgeRecord R open? s i (line a b c first next)
       unfolding andThen
@@ -70,17 +70,17 @@ module _ (R : Rules) (open? : ℕ → ℕ → Bool) (s : List ℕ) (i a b c firs
       unfolding andThen
       line-stops g = sym (line-walks g)
 
-module _ {n : ℕ} {out put outs puts marks s : List ℕ} {count i : ℕ} (asked : LineAsked n out put outs puts marks s count i) (a b c first : ℕ) (f : fits n a b (splits c first) ≡ true) where
+module _ {n : ℕ} {out put outrows putrows marks s : List ℕ} {count i : ℕ} (asked : LineAsked n out put outrows putrows marks s count i) (a b c first : ℕ) (f : fits n a b (splits c first) ≡ true) where
   pub line-marked : MarkAsked n marks a b
   line-marked =
       let t = fits-means n a b (splits c first) f in
       record { is-edge = record { first = t .point-a; second = t .point-b; apart = t .apart }; whole = asked .tried .admitted .marked }
 
   -- the first split: five more may lie inside it
-  pub line-chain : {k : EdgeSet} → Single a b k → ChainAsked n out put outs puts marks s count k (splitLimit - 1) c
+  pub line-chain : {k : EdgeSet} → Single a b k → ChainAsked n out put outrows putrows marks s count k (mostSplits - 1) c
   line-chain one =
       let t = fits-means n a b (splits c first) f in
-      record { tried = asked .tried; held = one .held n (t .point-a) (t .point-b); room = omega (arith, one .one); centre = t .how-fits }
+      record { tried = asked .tried; held = one .held n (t .point-a) (t .point-b); room = omega (arith, one .one); centre = t .closing-fits }
 
 -- the record of a line, by the declared record that was read
 
@@ -106,81 +106,81 @@ module _ (R : Rules) (open? : ℕ → ℕ → Bool) (s : List ℕ) (i : ℕ) {r 
 
 -- one line from an index
 
-module _ (by n : ℕ) (out put marks s : List ℕ) (last index high : ℕ) where
+module _ (mark n : ℕ) (out put marks s : List ℕ) (last index high : ℕ) where
   abbrev at : ℕ → Place (List ℕ)
   at lines = placeOf marks lines last index high
 
-  stepped-as : (r : Stepped) (left : List ℕ) → length left ≡ length marks → ((lines : ℕ) → lineStep (markingBetween by n out put) s (at lines) ≡ steppedOf (at lines) r left) → ((lines : ℕ) → left ≡ marksAfter (at lines) (steppedOf (at lines) r left)) → SteppedAs by n out put marks s last index high r left
+  stepped-as : (r : Stepped) (left : List ℕ) → length left ≡ length marks → ((lines : ℕ) → lineStep (markingBetween mark n out put) s (at lines) ≡ steppedOf (at lines) r left) → ((lines : ℕ) → left ≡ marksAfter (at lines) (steppedOf (at lines) r left)) → SteppedAs mark n out put marks s last index high r left
   stepped-as r left k t m = record { answered = λ lines. sym (t lines); size = k; marks-left = λ lines. m lines ∙ ap (marksAfter (at lines)) (sym (t lines)) }
 
-  pub mark-over : index ≡ 0 → SteppedAs by n out put marks s last index high stepped.Over marks
-  mark-over e = stepped-as stepped.Over marks refl (λ lines. step-over (markingBetween by n out put) s (at lines) e) (λ lines. refl)
+  pub mark-over : index ≡ 0 → SteppedAs mark n out put marks s last index high stepped.Over marks
+  mark-over e = stepped-as stepped.Over marks refl (λ lines. step-over (markingBetween mark n out put) s (at lines) e) (λ lines. refl)
 
-  pub mark-above : records s < index → SteppedAs by n out put marks s last index high (stepped.Refused 8 last) marks
-  mark-above h = stepped-as (stepped.Refused 8 last) marks refl (λ lines. step-8 (markingBetween by n out put) s (at lines) h) (λ lines. refl)
+  pub mark-above : records s < index → SteppedAs mark n out put marks s last index high (stepped.Refused 8 last) marks
+  mark-above h = stepped-as (stepped.Refused 8 last) marks refl (λ lines. step-8 (markingBetween mark n out put) s (at lines) h) (λ lines. refl)
 
-  pub mark-low : (index ≡ 0 → ⊥) → index ≤ records s → index ≤ high → SteppedAs by n out put marks s last index high (stepped.Refused 9 last) marks
-  mark-low z h l = stepped-as (stepped.Refused 9 last) marks refl (λ lines. step-9 (markingBetween by n out put) s (at lines) z h l) (λ lines. refl)
+  pub mark-low : (index ≡ 0 → ⊥) → index ≤ records s → index ≤ high → SteppedAs mark n out put marks s last index high (stepped.Refused 9 last) marks
+  mark-low z h l = stepped-as (stepped.Refused 9 last) marks refl (λ lines. step-9 (markingBetween mark n out put) s (at lines) z h l) (λ lines. refl)
 
   module _ (h : Enters s high index) {v : Judged} (z : judgedOf v ≡ judge (rulesBetween n out put marks) (openIn n marks) s index) where
     judges : {v′ : Judged} → v ≡ v′ → judge (rulesBetween n out put marks) (openIn n marks) s index ≡ judgedOf v′
     judges g = sym z ∙ ap judgedOf g
 
-    pub mark-stops : {m r : ℕ} → v ≡ judging.Refused m r → SteppedAs by n out put marks s last index high (stepped.Refused m r) marks
-    mark-stops {m} {r} g = stepped-as (stepped.Refused m r) marks refl (λ lines. step-stops (markingBetween by n out put) s (at lines) h m r (judges g)) (λ lines. refl)
+    pub mark-stops : {m r : ℕ} → v ≡ judging.Refused m r → SteppedAs mark n out put marks s last index high (stepped.Refused m r) marks
+    mark-stops {m} {r} g = stepped-as (stepped.Refused m r) marks refl (λ lines. step-stops (markingBetween mark n out put) s (at lines) h m r (judges g)) (λ lines. refl)
 
-    pub mark-strikes : {a b next reached : ℕ} {left : List ℕ} → v ≡ judging.Strikes a b next reached → left ≡ markIn by n marks a b → SteppedAs by n out put marks s last index high (stepped.Struck next reached) left
+    pub mark-strikes : {a b next reached : ℕ} {left : List ℕ} → v ≡ judging.Strikes a b next reached → left ≡ markIn mark n marks a b → SteppedAs mark n out put marks s last index high (stepped.Struck next reached) left
     unfolding struck
     mark-strikes {a} {b} {next} {reached} {left} g e =
-        stepped-as (stepped.Struck next reached) left (ap length e ∙ length-marked by n marks a b) (λ lines.
-        step-strikes (markingBetween by n out put) s (at lines) h (strikes a b next reached) (judges g) ∙ ap (λ (m : List ℕ). accepted (onward (placeOf m (suc lines) index next reached))) (sym e))
+        stepped-as (stepped.Struck next reached) left (ap length e ∙ length-marked mark n marks a b) (λ lines.
+        step-strikes (markingBetween mark n out put) s (at lines) h (strikes a b next reached) (judges g) ∙ ap (λ (m : List ℕ). accepted (onward (placeOf m (suc lines) index next reached))) (sym e))
         (λ lines. refl)
 
 -- an accepted line strikes an edge
-pub mark-marked : {by n : ℕ} {out put outs puts marks s : List ℕ} {count : ℕ} → MarkingAsked by n out put outs puts marks s count → (index : ℕ) {v : Judged} {a b next reached : ℕ} → judgedOf v ≡ judge (rulesBetween n out put marks) (openIn n marks) s index → v ≡ judging.Strikes a b next reached → SetAsked n marks a b by
-mark-marked {by} {n} {out} {put} {outs} {puts} {marks} {s} {count} t index {v} {a} {b} {next} {reached} z g =
+pub mark-marked : {mark n : ℕ} {out put outrows putrows marks s : List ℕ} {count : ℕ} → MarkingAsked mark n out put outrows putrows marks s count → (index : ℕ) {v : Judged} {a b next reached : ℕ} → judgedOf v ≡ judge (rulesBetween n out put marks) (openIn n marks) s index → v ≡ judging.Strikes a b next reached → SetAsked n marks a b mark
+mark-marked {mark} {n} {out} {put} {outrows} {putrows} {marks} {s} {count} t index {v} {a} {b} {next} {reached} z g =
     let l = judged (rulesBetween n out put marks) (openIn n marks) s index a b next reached (sym z ∙ ap judgedOf g) .at-line in
     record { asked = record { is-edge = record { first = l .point-a; second = l .point-b; apart = l .apart }; whole = t .tried .admitted .marked }; is-mark = t .is-mark }
 
 -- the lines of a sheet
 
 -- the loop's invariant: the lines from here are the lines of the sheet
-pub record Proceeding (by n : ℕ) (out put outs puts marks₀ s : List ℕ) (count : ℕ) (marks : List ℕ) (lines last index high : ℕ) : Type 0 where
-  pub tried : Tried n out put outs puts marks s count
+pub record Proceeding (mark n : ℕ) (out put outrows putrows marks₀ s : List ℕ) (count : ℕ) (marks : List ℕ) (lines last index high : ℕ) : Type 0 where
+  pub tried : Tried n out put outrows putrows marks s count
   pub counted : lines ≤ high
-  pub goes : linesFrom (markingBetween by n out put) s (placeOf marks lines last index high) ≡ sheet (markingBetween by n out put) s marks₀
+  pub goes : linesFrom (markingBetween mark n out put) s (placeOf marks lines last index high) ≡ sheet (markingBetween mark n out put) s marks₀
 
-pub lines-start : {by n : ℕ} {out put outs puts marks s : List ℕ} {count : ℕ} → Tried n out put outs puts marks s count → Proceeding by n out put outs puts marks s count marks 0 0 1 0
+pub lines-start : {mark n : ℕ} {out put outrows putrows marks s : List ℕ} {count : ℕ} → Tried n out put outrows putrows marks s count → Proceeding mark n out put outrows putrows marks s count marks 0 0 1 0
 unfolding sheet start
 lines-start t = record { tried = t; counted = omega arith; goes = refl }
 
-module _ {by n : ℕ} {out put outs puts marks₀ s : List ℕ} {count : ℕ} {marks : List ℕ} {lines last index high : ℕ} (p : Proceeding by n out put outs puts marks₀ s count marks lines last index high) {r : Stepped} {left : List ℕ} (t : SteppedAs by n out put marks s last index high r left) where
+module _ {mark n : ℕ} {out put outrows putrows marks₀ s : List ℕ} {count : ℕ} {marks : List ℕ} {lines last index high : ℕ} (p : Proceeding mark n out put outrows putrows marks₀ s count marks lines last index high) {r : Stepped} {left : List ℕ} (t : SteppedAs mark n out put marks s last index high r left) where
   abbrev here : Place (List ℕ)
   here = placeOf marks lines last index high
 
-  steps : {r′ : Stepped} → r ≡ r′ → lineStep (markingBetween by n out put) s here ≡ steppedOf here r′ left
+  steps : {r′ : Stepped} → r ≡ r′ → lineStep (markingBetween mark n out put) s here ≡ steppedOf here r′ left
   steps g = sym (t .answered lines) ∙ ap (λ (x : Stepped). steppedOf here x left) g
 
   leaves : {r′ : Stepped} → r ≡ r′ → left ≡ marksAfter here (steppedOf here r′ left)
   leaves g = t .marks-left lines ∙ ap (marksAfter here) (steps g)
 
-  pub lines-accepted : r ≡ stepped.Over → resultOf (verdict.Accepted lines) left ≡ sheet (markingBetween by n out put) s marks₀
+  pub lines-accepted : r ≡ stepped.Over → resultOf (verdict.Accepted lines) left ≡ sheet (markingBetween mark n out put) s marks₀
   unfolding answer
   lines-accepted g =
       ap (λ (m : List ℕ). resultOf (verdict.Accepted lines) m) (leaves g)
-      ∙ sym (lines-over (markingBetween by n out put) s here (steps g))
+      ∙ sym (lines-over (markingBetween mark n out put) s here (steps g))
       ∙ p .goes
 
-  pub lines-refused : {m i : ℕ} → r ≡ stepped.Refused m i → resultOf (verdict.Refused m i lines) left ≡ sheet (markingBetween by n out put) s marks₀
+  pub lines-refused : {m i : ℕ} → r ≡ stepped.Refused m i → resultOf (verdict.Refused m i lines) left ≡ sheet (markingBetween mark n out put) s marks₀
   unfolding answer
   lines-refused {m} {i} g =
       ap (λ (x : List ℕ). resultOf (verdict.Refused m i lines) x) (leaves g)
-      ∙ sym (lines-stop (markingBetween by n out put) s here m i (steps g))
+      ∙ sym (lines-stop (markingBetween mark n out put) s here m i (steps g))
       ∙ p .goes
 
   module _ {next reached : ℕ} (g : r ≡ stepped.Struck next reached) where
     risen : Enters s high index × (index ≤ reached)
-    risen = step-rises (markingBetween by n out put) s here (placeOf left (suc lines) index next reached) (steps g)
+    risen = step-rises (markingBetween mark n out put) s here (placeOf left (suc lines) index next reached) (steps g)
 
     pub lines-few : lines + 1 ≤ mostRecords
     lines-few = omega (arith, risen .0, p .tried .admitted .few, p .counted)
@@ -188,10 +188,10 @@ module _ {by n : ℕ} {out put outs puts marks₀ s : List ℕ} {count : ℕ} {m
     pub lines-fall : records s - reached < records s - high
     lines-fall = omega (arith, risen .0, risen .1)
 
-    pub lines-on : Proceeding by n out put outs puts marks₀ s count left (lines + 1) index next reached
+    pub lines-on : Proceeding mark n out put outrows putrows marks₀ s count left (lines + 1) index next reached
     lines-on =
         record {
-          tried = let a = p .tried .admitted in record { admitted = record { least = a .least; limits = a .limits; marked = t .size ∙ a .marked; whole = a .whole; few = a .few }; in-out = p .tried .in-out; in-put = p .tried .in-put };
+          tried = let a = p .tried .admitted in record { admitted = record { least = a .least; intervals = a .intervals; marked = t .size ∙ a .marked; whole = a .whole; few = a .few }; in-out = p .tried .in-out; in-put = p .tried .in-put };
           counted = omega (arith, risen .0, risen .1, p .counted);
-          goes = ap (λ (m : ℕ). linesFrom (markingBetween by n out put) s (placeOf left m index next reached)) (add-one lines) ∙ sym (lines-go-on (markingBetween by n out put) s here (placeOf left (suc lines) index next reached) (steps g)) ∙ p .goes;
+          goes = ap (λ (m : ℕ). linesFrom (markingBetween mark n out put) s (placeOf left m index next reached)) (add-one lines) ∙ sym (lines-go-on (markingBetween mark n out put) s here (placeOf left (suc lines) index next reached) (steps g)) ∙ p .goes;
         }

@@ -1,6 +1,6 @@
 // One line of a sheet: judged against the marks as they are, and then marked; and a sheet as the repetition of one
-// line. What is taken out is measured by the table `out`, what is put in by the table `put`; `outs` and
-// `puts` are their rows.
+// line. What is taken out is measured by the table `out`, what is put in by the table `put`; `outrows` and
+// `putrows` are their rows.
 use lengths::refusal;
 use marks::mark;
 use marks::mark::is_open;
@@ -50,15 +50,15 @@ fn judge_line(
     n: u16,
     out: &[u8],
     put: &[u8],
-    outs: &[u32],
-    puts: &[u32],
+    outrows: &[u32],
+    putrows: &[u32],
     marks: &[u8],
     sheet: &[u8],
     count: u16,
     i: u16,
     line: Line,
 ) -> Judged
-    requires { ⌜ LineAsked n (whole32 (now out)) (whole32 (now put)) (now outs) (now puts)
+    requires { ⌜ LineAsked n (whole32 (now out)) (whole32 (now put)) (now outrows) (now putrows)
         (marksOf n (now marks)) (whole16 (now sheet)) count i ⌝ }
     ensures { λ r. ⌜ judgedOf r ≡ judgeRecord (rulesIn n (now (out .entry)) (now (put .entry)) (now (marks .entry)))
         (openIn n (marksOf n (now (marks .entry)))) (whole16 (now (sheet .entry))) i (recordOf (Record.Line line)) ⌝ }
@@ -78,8 +78,8 @@ fn judge_line(
         n,
         out,
         put,
-        outs,
-        puts,
+        outrows,
+        putrows,
         marks,
         sheet,
         count,
@@ -104,34 +104,45 @@ pub fn judge(
     n: u16,
     out: &[u8],
     put: &[u8],
-    outs: &[u32],
-    puts: &[u32],
+    outrows: &[u32],
+    putrows: &[u32],
     marks: &[u8],
     sheet: &[u8],
     count: u16,
     i: u16,
 ) -> Judged
-    requires { ⌜ LineAsked n (whole32 (now out)) (whole32 (now put)) (now outs) (now puts)
+    requires { ⌜ LineAsked n (whole32 (now out)) (whole32 (now put)) (now outrows) (now putrows)
         (marksOf n (now marks)) (whole16 (now sheet)) count i ⌝ }
     ensures { λ r. ⌜ judgedOf r ≡ judging.judge (rulesIn n (now (out .entry)) (now (put .entry)) (now (marks .entry)))
         (openIn n (marksOf n (now (marks .entry)))) (whole16 (now (sheet .entry))) i ⌝ }
 {
     match Sheet::record(sheet, i) {
-        Record::Line(line) => judge_line(n, out, put, outs, puts, marks, sheet, count, i, line),
+        Record::Line(line) => judge_line(
+            n,
+            out,
+            put,
+            outrows,
+            putrows,
+            marks,
+            sheet,
+            count,
+            i,
+            line,
+        ),
         Record::Case(_) => Judged::Refused(refusal::KIND, i),
         Record::Visit(_, _) => Judged::Refused(refusal::KIND, i),
         Record::Other => Judged::Refused(refusal::KIND, i),
     }
 }
 
-// One line from an index, which the record `last` has: judged and, if it is accepted, marked with `by`.
+// One line from an index, which the record `last` has: judged and, if it is accepted, marked with `mark`.
 pub fn mark_line(
     n: u16,
-    by: u8,
+    mark: u8,
     out: &[u8],
     put: &[u8],
-    outs: &[u32],
-    puts: &[u32],
+    outrows: &[u32],
+    putrows: &[u32],
     marks: &mut [u8],
     sheet: &[u8],
     count: u16,
@@ -139,9 +150,9 @@ pub fn mark_line(
     index: u16,
     high: u16,
 ) -> Stepped
-    requires { ⌜ MarkingAsked by n (whole32 (now out)) (whole32 (now put)) (now outs) (now puts)
+    requires { ⌜ MarkingAsked mark n (whole32 (now out)) (whole32 (now put)) (now outrows) (now putrows)
         (marksOf n (now marks)) (whole16 (now sheet)) count ⌝ }
-    ensures { λ r. ⌜ SteppedAs by n (whole32 (now (out .entry))) (whole32 (now (put .entry)))
+    ensures { λ r. ⌜ SteppedAs mark n (whole32 (now (out .entry))) (whole32 (now (put .entry)))
         (marksOf n (now (marks .entry))) (whole16 (now (sheet .entry))) last index high r (marksOf n (now (marks .exit))) ⌝ }
 {
     if index == 0 {
@@ -153,9 +164,9 @@ pub fn mark_line(
     if index <= high {
         return Stepped::Refused(refusal::INDEX_NOT_ABOVE, last);
     }
-    match judge(n, out, put, outs, puts, marks, sheet, count, index) {
+    match judge(n, out, put, outrows, putrows, marks, sheet, count, index) {
         Judged::Strikes { a, b, next, high } => {
-            set_mark(n, marks, a, b, by);
+            set_mark(n, marks, a, b, mark);
             Stepped::Struck {
                 next: next,
                 high: high,
@@ -165,23 +176,23 @@ pub fn mark_line(
     }
 }
 
-// The lines of a sheet of so many records, from record 1 on; an accepted line marks its edge with `by`. Ends: each
+// The lines of a sheet of so many records, from record 1 on; an accepted line marks its edge with `mark`. Ends: each
 // record entered is above the highest before.
 pub fn mark_lines(
     n: u16,
-    by: u8,
+    mark: u8,
     out: &[u8],
     put: &[u8],
-    outs: &[u32],
-    puts: &[u32],
+    outrows: &[u32],
+    putrows: &[u32],
     marks: &mut [u8],
     sheet: &[u8],
     count: u16,
 ) -> Verdict
-    requires { ⌜ MarkingAsked by n (whole32 (now out)) (whole32 (now put)) (now outs) (now puts)
+    requires { ⌜ MarkingAsked mark n (whole32 (now out)) (whole32 (now put)) (now outrows) (now putrows)
         (marksOf n (now marks)) (whole16 (now sheet)) count ⌝ }
     ensures { λ r. ⌜ resultOf r (marksOf n (now (marks .exit))) ≡
-        lines.sheet (markingIn by n (now (out .entry)) (now (put .entry))) (whole16 (now (sheet .entry)))
+        lines.sheet (markingIn mark n (now (out .entry)) (now (put .entry))) (whole16 (now (sheet .entry)))
         (marksOf n (now (marks .entry))) ⌝ }
 {
     let mut lines: u16 = 0;
@@ -191,11 +202,11 @@ pub fn mark_lines(
     loop {
         match mark_line(
             n,
-            by,
+            mark,
             out,
             put,
-            outs,
-            puts,
+            outrows,
+            putrows,
             marks,
             sheet,
             count,

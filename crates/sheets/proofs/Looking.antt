@@ -15,13 +15,13 @@ use Rattle.search.specs.asks.Pairs.{firstOf}
 use Rattle.search.specs.declared.pairs.NextPair.{NextPair}
 use Rattle.search.specs.declared.pairs.NextPair.the-variants.{Pair, End}
 use Rattle.argument.specs.Verdict.{Verdict, accepted, refused, guard}
-use Rattle.argument.specs.Record.{How, Record, line, case, visit, other, records, recordAt, howFits, fits}
+use Rattle.argument.specs.Record.{CaseClosing, Record, line, case, visit, other, records, recordAt, closingFits, fits}
 use Rattle.argument.specs.Rules.{Rules}
-use Rattle.argument.specs.Walk.{Spot, Step, ends, takes, entering, noneLeft, isNext, readCase, look}
+use Rattle.argument.specs.Walk.{Spot, ChainStep, ends, takes, entering, noneLeft, isNext, readCase, look}
 use Rattle.argument.specs.Layout.{Enters}
 use Rattle.argument.proofs.Verdicts.{pass-guard, fail-guard}
-use Rattle.argument.proofs.Steps.{look-entered}
-use Rattle.sheets.specs.asks.Sheet.{howOf, recordOf}
+use Rattle.argument.proofs.ChainSteps.{look-entered}
+use Rattle.sheets.specs.asks.Sheet.{closingOf, recordOf}
 use Rattle.sheets.specs.asks.Walk.{WholeRecords, pointsOnly, pairsOf, spotOf}
 use Rattle.sheets.specs.declared.sheet.Closing.{Closing}
 use Rattle.sheets.specs.declared.sheet.Closing.the-variants.{Split, ThreeOpt, Reorder}
@@ -32,39 +32,39 @@ use Rattle.sheets.specs.declared.sheet.Record.the-variants as variant
 
 -- the points of a closing
 
-pub split-fits : (n : ℕ) {closing : Closing} {c first : ℕ} → closing ≡ Split c first → isPoint n c ≡ howFits n (howOf closing)
-unfolding howFits
+pub split-fits : (n : ℕ) {closing : Closing} {c first : ℕ} → closing ≡ Split c first → isPoint n c ≡ closingFits n (closingOf closing)
+unfolding closingFits
 split-fits n e = rw e
 
 module _ (n : ℕ) {closing : Closing} {p q r s : ℕ} (e : closing ≡ ThreeOpt p q r s) where
-  three-opt-is : howFits n (howOf closing) ≡ (isPoint n p && (isPoint n q && (isPoint n r && isPoint n s)))
-  unfolding howFits
+  three-opt-is : closingFits n (closingOf closing) ≡ (isPoint n p && (isPoint n q && (isPoint n r && isPoint n s)))
+  unfolding closingFits
   three-opt-is = rw e
 
-  pub three-opt-p : isPoint n p ≡ false → false ≡ howFits n (howOf closing)
+  pub three-opt-p : isPoint n p ≡ false → false ≡ closingFits n (closingOf closing)
   three-opt-p h = and-stop _ h ∙ sym three-opt-is
 
-  pub three-opt-q : isPoint n p ≡ true → isPoint n q ≡ false → false ≡ howFits n (howOf closing)
+  pub three-opt-q : isPoint n p ≡ true → isPoint n q ≡ false → false ≡ closingFits n (closingOf closing)
   three-opt-q hp h = and-go hp (and-stop _ h) ∙ sym three-opt-is
 
-  pub three-opt-r : isPoint n p ≡ true → isPoint n q ≡ true → isPoint n r ≡ false → false ≡ howFits n (howOf closing)
+  pub three-opt-r : isPoint n p ≡ true → isPoint n q ≡ true → isPoint n r ≡ false → false ≡ closingFits n (closingOf closing)
   three-opt-r hp hq h = and-go hp (and-go hq (and-stop _ h)) ∙ sym three-opt-is
 
-  pub three-opt-s : isPoint n p ≡ true → isPoint n q ≡ true → isPoint n r ≡ true → isPoint n s ≡ howFits n (howOf closing)
+  pub three-opt-s : isPoint n p ≡ true → isPoint n q ≡ true → isPoint n r ≡ true → isPoint n s ≡ closingFits n (closingOf closing)
   three-opt-s hp hq hr = and-go hp (and-go hq (and-go hr refl)) ∙ sym three-opt-is
 
 module _ (n : ℕ) {closing : Closing} {u v first : ℕ} (e : closing ≡ Reorder u v first) where
-  order-is : howFits n (howOf closing) ≡ (isPoint n u && isPoint n v)
-  unfolding howFits
+  order-is : closingFits n (closingOf closing) ≡ (isPoint n u && isPoint n v)
+  unfolding closingFits
   order-is = rw e
 
-  pub order-u : isPoint n u ≡ false → false ≡ howFits n (howOf closing)
+  pub order-u : isPoint n u ≡ false → false ≡ closingFits n (closingOf closing)
   order-u h = and-stop _ h ∙ sym order-is
 
-  pub order-v : isPoint n u ≡ true → isPoint n v ≡ howFits n (howOf closing)
+  pub order-v : isPoint n u ≡ true → isPoint n v ≡ closingFits n (closingOf closing)
   order-v h = and-go h refl ∙ sym order-is
 
-module _ (n a b : ℕ) (how : How) where
+module _ (n a b : ℕ) (how : CaseClosing) where
   pub fits-not-a : isPoint n a ≡ false → false ≡ fits n a b how
   unfolding fits
   fits-not-a h = and-stop _ h
@@ -77,11 +77,11 @@ module _ (n a b : ℕ) (how : How) where
   unfolding fits
   fits-not-apart ha hb h = and-go ha (and-go hb (and-stop _ (ap not (eq-eqb a b h))))
 
-  pub fits-how : isPoint n a ≡ true → isPoint n b ≡ true → (a ≡ b → ⊥) → howFits n how ≡ fits n a b how
+  pub fits-closing : isPoint n a ≡ true → isPoint n b ≡ true → (a ≡ b → ⊥) → closingFits n how ≡ fits n a b how
   unfolding fits
-  fits-how ha hb h = and-go ha (and-go hb (and-go (ap not (ne-eqb a b h)) refl))
+  fits-closing ha hb h = and-go ha (and-go hb (and-go (ap not (ne-eqb a b h)) refl))
 
-pub closing-fits : (n a b : ℕ) (how : How) → fits n a b how ≡ true → howFits n how ≡ true
+pub closing-fits : (n a b : ℕ) (how : CaseClosing) → fits n a b how ≡ true → closingFits n how ≡ true
 unfolding fits
 closing-fits n a b how e =
     let h = and-true (isPoint n a) _ e in
@@ -116,7 +116,7 @@ some-at-pair e = rw e
 
 -- a case that was read
 
-module _ (R : Rules) (q : Spot) (a b : ℕ) (how : How) (next : ℕ) where
+module _ (R : Rules) (q : Spot) (a b : ℕ) (how : CaseClosing) (next : ℕ) where
   pub read-misfit : fits (R .n) a b how ≡ false → refused 11 (q .index) ≡ readCase R q (case a b how next)
   unfolding readCase
   read-misfit f = sym (fail-guard _ 11 (q .index) _ f)
@@ -155,7 +155,7 @@ module _ (R : Rules) (s : List ℕ) (left : ℕ) (K : List Edge) (c : ℕ) where
   pub look-heads : (pairs : List Edge) (last index high : ℕ) → look R s (spot left K c pairs last index high) ≡ look (pointsOnly (R .n)) s (spotOf (firstOf pairs) last index high)
   unfolding look
   look-heads pairs last index high =
-      ap₂ (λ (t : Bool) (v : Verdict Step). elim (eqb index 0) [
+      ap₂ (λ (t : Bool) (v : Verdict ChainStep). elim (eqb index 0) [
         | true ↦ guard t 14 last λ _. accepted ends
         | false ↦ entering s last high index λ _. v
       ]) (heads-none pairs) (heads-read pairs last index high (recordAt s index))
@@ -177,7 +177,7 @@ module _ (R : Rules) (s : List ℕ) (q : Spot) (h : Enters s (q .high) (q .index
   look-read : {x : declared.Record} → r ≡ x → look R s q ≡ readCase R q (recordOf x)
   look-read {x} g = look-entered R s q h ∙ ap (readCase R q) (sym e ∙ ap recordOf g)
 
-  pub look-case : {x : Case} {v : Verdict Step} → r ≡ variant.Case x → v ≡ readCase R q (recordOf (variant.Case x)) → v ≡ look R s q
+  pub look-case : {x : Case} {v : Verdict ChainStep} → r ≡ variant.Case x → v ≡ readCase R q (recordOf (variant.Case x)) → v ≡ look R s q
   look-case g z = z ∙ sym (look-read g)
 
   pub look-line : {x : Line} → r ≡ variant.Line x → refused 10 (q .index) ≡ look R s q

@@ -14,7 +14,7 @@ use Rattle.segments.specs.asks.Reorder.{orderList, kept, NamesNone, NamesThen, 
 use Rattle.segments.specs.asks.Segment.{innerPoints, Listed, Keeps}
 use Rattle.segments.specs.declared.reorder.Order.{Order}
 use Rattle.segments.specs.declared.reorder.Reordered.{Reordered}
-use Rattle.segments.specs.declared.reorder.Reordered.the-variants.{Settled, OtherPoints, NotShorter}
+use Rattle.segments.specs.declared.reorder.Reordered.the-variants.{Closed, OtherPoints, NotShorter}
 use Rattle.segments.specs.declared.segment.Segment.{Segment}
 use Rattle.segments.proofs.Orders.{kept-then}
 use Rattle.segments.proofs.SegmentLaws.{segment-none, segment-some, segment-listed, reordering-kept}
@@ -122,8 +122,8 @@ module _ {n : ℕ} {out put sheet : List ℕ} {count : ℕ} {k : EdgeSet} {u v :
     pub order-asked : ReorderAsked n out put found u v (r .order)
     order-asked =
         record {
-          old = record { first = asked .first; last = asked .last; listed = segment-listed k u v found held n (asked .held); whole = asked .limits .out-lengths .whole };
-          new = record { first = asked .first; last = asked .last; listed = came .listed; whole = asked .limits .put-lengths .whole };
+          old = record { first = asked .first; last = asked .last; listed = segment-listed k u v found held n (asked .held); whole = asked .intervals .out-lengths .whole };
+          new = record { first = asked .first; last = asked .last; listed = came .listed; whole = asked .intervals .put-lengths .whole };
         }
 
     module _ {high : ℕ} (g : r .end ≡ walked.Closed high) {o : Reordered} (z : o ≡ reordered (lengthOf n out) (lengthOf n put) (innerPoints found) u v (orderList (r .order))) where
@@ -133,9 +133,9 @@ module _ {n : ℕ} {out put sheet : List ℕ} {count : ℕ} {k : EdgeSet} {u v :
           ap (λ (m : ℕ). refusedBy m i high) (ap refusalOf (sym w ∙ z) ∙ reordering-kept k u v found held (lengthOf n out) (lengthOf n put) (r .order) (came .named) (came .keeps))
           ∙ sym (order-visited n (segment? (edgeList k) u v) numbered sheet i first there (record { order = came .named; high = high }) (ended g))
 
-      pub order-settled : o ≡ Settled → accepted high ≡ closeByOrder n (segment? (edgeList k) u v) numbered sheet i first
+      pub order-closed : o ≡ Closed → accepted high ≡ closeByOrder n (segment? (edgeList k) u v) numbered sheet i first
       unfolding refusalOf refusedBy
-      order-settled w = compared w
+      order-closed w = compared w
 
       pub order-other : o ≡ OtherPoints → refused 23 i ≡ closeByOrder n (segment? (edgeList k) u v) numbered sheet i first
       unfolding refusalOf refusedBy

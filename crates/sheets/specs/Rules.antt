@@ -21,7 +21,7 @@ rulesWhere n out put open? =
     record {
       n = n;
       Feasible = FeasiblePair n (lengthOf n out) (lengthOf n put) open?;
-      Settles = Closes (lengthOf n out) (lengthOf n put);
+      Closes = Closes (lengthOf n out) (lengthOf n put);
       Reorders = Reorders (lengthOf n out) (lengthOf n put);
       pairs = feasiblePairs n (lengthOf n out) (lengthOf n put) open?;
       closing = λ K p q r s. refusalOf (threeOptOutcome (lengthOf n out) (lengthOf n put) K p q r s);
@@ -40,16 +40,16 @@ rulesIn n low high set = rulesBetween n (whole32 low) (whole32 high) (marksOf n 
 abbrev pub rulesOf : ℕ → (table marks : List ℕ) → Rules
 rulesOf n table marks = rulesBetween n table table marks
 
--- marks of n points with these lengths, where an accepted line writes the mark `by`
-abbrev pub markingBetween : (by : ℕ) → ℕ → (low high : List ℕ) → Marking (List ℕ)
-markingBetween by n low high = record { rules = rulesBetween n low high; open? = openIn n; strike = markIn by n }
+-- marks of n points with these lengths, where an accepted line writes the mark `mark`
+abbrev pub markingBetween : (mark : ℕ) → ℕ → (low high : List ℕ) → Marking (List ℕ)
+markingBetween mark n low high = record { rules = rulesBetween n low high; open? = openIn n; strike = markIn mark n }
 
 -- the same by the bytes of the two tables
-abbrev pub markingIn : (by : ℕ) → ℕ → (low high : List ℕ) → Marking (List ℕ)
-markingIn by n low high = markingBetween by n (whole32 low) (whole32 high)
+abbrev pub markingIn : (mark : ℕ) → ℕ → (low high : List ℕ) → Marking (List ℕ)
+markingIn mark n low high = markingBetween mark n (whole32 low) (whole32 high)
 
-abbrev pub markingBy : (by : ℕ) → ℕ → List ℕ → Marking (List ℕ)
-markingBy by n table = markingBetween by n table table
+abbrev pub markingBy : (mark : ℕ) → ℕ → List ℕ → Marking (List ℕ)
+markingBy mark n table = markingBetween mark n table table
 
 -- direct marking: an accepted line strikes its edge
 abbrev pub markingOf : ℕ → List ℕ → Marking (List ℕ)

@@ -1,4 +1,4 @@
--- Sheets (01, "The sheet"): their limits, and test 7.
+-- Sheets, certificates of edge eliminations (01, "The sheet"): their limits, and test 7.
 use Prim.Native.Nat.{ℕ, _*_, _%_}
 use mathlib.Core.Bool.{Bool, not, _&&_}
 use lib.Dec.{leb, eqb}

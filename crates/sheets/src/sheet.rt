@@ -7,7 +7,7 @@ ghost use Rattle.sheets.specs.Sheet.{Readable};
 ghost use Rattle.sheets.specs.asks.Sheet.{sheetAdmission, recordOf};
 ghost use Rattle.argument.specs.Record.{content, recordAt};
 
-// A sheet of 1 to MOST_RECORDS whole records.
+// A sheet, which is a certificate of edge eliminations: 1 to MOST_RECORDS whole records.
 pub struct Sheet {
     pub records: u16,
 }
@@ -18,7 +18,8 @@ pub enum SheetAdmission {
     Refused,
 }
 
-// How a case is closed: by a split at a point whose first case is the record `first`, by 3-opt (01's crossing), or by a
+// A split is a branching on the two edges that a tour has at a point.
+// How a case is closed: by a split at a point whose first case is the record `first`, by 3-opt, or by a
 // new order of the segment from u to v, whose first point the record `first` names (02, Paper 10: a stretch).
 pub enum Closing {
     Split { point: u16, first: u16 },
@@ -26,7 +27,7 @@ pub enum Closing {
     Reorder { u: u16, v: u16, first: u16 },
 }
 
-// A case: its pair, its closing and the index of the next case.
+// A case, one branch of a split: its pair, its closing and the index of the next case.
 pub struct Case {
     pub a: u16,
     pub b: u16,
@@ -34,6 +35,7 @@ pub struct Case {
     pub next: u16,
 }
 
+// A line is the elimination of one edge.
 // A line: strike ab by a split at a point whose first case is the record `first`; the index of the next line.
 pub struct Line {
     pub a: u16,

@@ -120,7 +120,7 @@ pub fn close_by_order(
     match end {
         Walked::Refused(number, at) => Walked::Refused(number, at),
         Walked::Closed(high) => match reorder(n, out, put, segment, u, v, order) {
-            Reordered::Settled => Walked::Closed(high),
+            Reordered::Closed => Walked::Closed(high),
             Reordered::OtherPoints => Walked::Refused(refusal::NO_SEGMENT, i),
             Reordered::NotShorter => Walked::Refused(refusal::NOT_SHORTER, i),
         },

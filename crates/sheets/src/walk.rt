@@ -22,10 +22,10 @@ ghost use Prim.Native.Nat.{suc};
 ghost use Rattle.endian.specs.Bytes.{whole16, whole32};
 ghost use Rattle.marks.specs.Packed.{marksOf};
 ghost use Rattle.sets.specs.asks.Stored.{edgeList};
-ghost use Rattle.argument.specs.Record.{howFits, fits};
+ghost use Rattle.argument.specs.Record.{closingFits, fits};
 ghost use Rattle.argument.specs.Walk.{readCase, opening, close, walk};
 ghost use Rattle.argument.specs.Walk as walking;
-ghost use Rattle.sheets.specs.asks.Sheet.{howOf, recordOf};
+ghost use Rattle.sheets.specs.asks.Sheet.{closingOf, recordOf};
 ghost use Rattle.sheets.specs.Rules.{rulesIn};
 ghost use Rattle.sheets.specs.asks.Walk.{walkedOf, lookedOf, pointsOnly, spotOf, WholeRecords, ChainAsked, CaseAsked};
 
@@ -44,7 +44,7 @@ pub enum Looked {
 
 // Are the points of a closing among 1 to n?
 fn closing_fits(n: u16, closing: Closing) -> bool
-    ensures { λ r. ⌜ r ≡ howFits n (howOf closing) ⌝ }
+    ensures { λ r. ⌜ r ≡ closingFits n (closingOf closing) ⌝ }
 {
     match closing {
         Closing::Split { point, first: _ } => is_point(n, point),
@@ -71,7 +71,7 @@ fn closing_fits(n: u16, closing: Closing) -> bool
 
 // Are the points of a case, or of a line read as a case, among 1 to n, and is a not b?
 pub fn points_fit(n: u16, a: u16, b: u16, closing: Closing) -> bool
-    ensures { λ r. ⌜ r ≡ fits n a b (howOf closing) ⌝ }
+    ensures { λ r. ⌜ r ≡ fits n a b (closingOf closing) ⌝ }
 {
     if !is_point(n, a) {
         return false;
@@ -140,15 +140,15 @@ fn look(
 }
 
 // The chain of the split at c that record i holds, under k, from the index `first` on; `left` more splits may
-// lie inside a case. What is taken out is measured by the table `out`, what is put in by the table `put`; `outs` and
-// `puts` are their rows, and `count` is how many records the sheet has. Ends: each record entered is above the highest
+// lie inside a case. What is taken out is measured by the table `out`, what is put in by the table `put`; `outrows` and
+// `putrows` are their rows, and `count` is how many records the sheet has. Ends: each record entered is above the highest
 // before, and a split inside a case leaves one split less.
 pub fn chain(
     n: u16,
     out: &[u8],
     put: &[u8],
-    outs: &[u32],
-    puts: &[u32],
+    outrows: &[u32],
+    putrows: &[u32],
     marks: &[u8],
     sheet: &[u8],
     count: u16,
@@ -158,13 +158,13 @@ pub fn chain(
     c: u16,
     first: u16,
 ) -> Walked
-    requires { ⌜ ChainAsked n (whole32 (now out)) (whole32 (now put)) (now outs) (now puts)
+    requires { ⌜ ChainAsked n (whole32 (now out)) (whole32 (now put)) (now outrows) (now putrows)
         (marksOf n (now marks)) (whole16 (now sheet)) count k left c ⌝ }
     ensures { λ r. ⌜ walkedOf r ≡ walk (rulesIn n (now (out .entry)) (now (put .entry)) (now (marks .entry))) (whole16 (now (sheet .entry)))
         (opening (rulesIn n (now (out .entry)) (now (put .entry)) (now (marks .entry))) (suc left) (edgeList k) i c first) ⌝ }
 {
     let mut legs = [legs::FAR; Instance::PLACES];
-    let bound = prepare(n, out, put, outs, puts, marks, k, c, &mut legs);
+    let bound = prepare(n, out, put, outrows, putrows, marks, k, c, &mut legs);
     let centre = neighbours_of(k, c);
     let mut candidates = [0u16; candidates::PLACES];
     let mut rank = [0u16; candidates::PLACES];
@@ -186,8 +186,8 @@ pub fn chain(
                     n,
                     out,
                     put,
-                    outs,
-                    puts,
+                    outrows,
+                    putrows,
                     marks,
                     sheet,
                     count,
@@ -213,8 +213,8 @@ fn close_case(
     n: u16,
     out: &[u8],
     put: &[u8],
-    outs: &[u32],
-    puts: &[u32],
+    outrows: &[u32],
+    putrows: &[u32],
     marks: &[u8],
     sheet: &[u8],
     count: u16,
@@ -223,12 +223,12 @@ fn close_case(
     i: u16,
     closing: Closing,
 ) -> Walked
-    requires { ⌜ CaseAsked n (whole32 (now out)) (whole32 (now put)) (now outs) (now puts)
+    requires { ⌜ CaseAsked n (whole32 (now out)) (whole32 (now put)) (now outrows) (now putrows)
         (marksOf n (now marks)) (whole16 (now sheet)) count k left closing ⌝ }
     ensures { λ r. ⌜ walkedOf r ≡ close (rulesIn n (now (out .entry)) (now (put .entry)) (now (marks .entry)))
         (whole16 (now (sheet .entry)))
         (walk (rulesIn n (now (out .entry)) (now (put .entry)) (now (marks .entry))) (whole16 (now (sheet .entry))))
-        left (edgeList k) i (howOf closing) ⌝ }
+        left (edgeList k) i (closingOf closing) ⌝ }
 {
     match closing {
         Closing::Split { point, first } => {
@@ -239,8 +239,8 @@ fn close_case(
                 n,
                 out,
                 put,
-                outs,
-                puts,
+                outrows,
+                putrows,
                 marks,
                 sheet,
                 count,
@@ -252,7 +252,7 @@ fn close_case(
             )
         }
         Closing::ThreeOpt { p, q, r, s } => match close_by_three_opt(n, out, put, k, p, q, r, s) {
-            ThreeOptOutcome::Settled => Walked::Closed(i),
+            ThreeOptOutcome::Closed => Walked::Closed(i),
             ThreeOptOutcome::NoMoves => Walked::Refused(refusal::CROSSING, i),
             ThreeOptOutcome::NoSaving => Walked::Refused(refusal::SAVING, i),
         },

@@ -18,17 +18,17 @@ use Rattle.lengths.proofs.Distances.{distance-euc2d, euc2d-only, distance-ceil2
 use Rattle.lengths.proofs.Tables.{length-symmetric}
 use Rattle.sets.specs.EdgeSet.{Has, DegreeTwo, withPair}
 use Rattle.closings.specs.Closing.{ThreeOptMoves}
-use Rattle.closings.specs.ClosingTest.{saves?, labelling?, centresApart?, placed?, settledBy, threeOptOutcome}
+use Rattle.closings.specs.ClosingTest.{saves?, labelling?, centresApart?, placed?, closedBy, threeOptOutcome}
 use Rattle.sets.specs.Joined.{joins?, has?}
 use Rattle.marks.specs.Mark.{openUpTo, markAt}
 use Rattle.sets.specs.Neighbours.{withPoint, seen, neighboursOf, bothOf, endsOf, within?, either?, beyond}
 use lib.IntN.{pos}
 use Rattle.lengths.specs.Saving.{gains?, smaller, larger}
-use Rattle.closings.specs.Closing.{firstSaving, secondSaving, labelSaving, crossingSaving}
+use Rattle.closings.specs.Closing.{firstSaving, secondSaving, labelSaving, threeOptSaving}
 use Rattle.closings.proofs.Savings.{saves-sums}
 use Rattle.rules.proofs.Savings.{compatible-sum, move-sum}
 use Rattle.rules.specs.Pair.{moveSaving, FeasiblePair}
-use Rattle.rules.specs.PairTest.{every, compatible?, leg?, stays?, unmoved?, joint?, meeting?, apart?, settled?, endAt?, endStays?, candidateLeg?, feasible?, feasibleBy01?}
+use Rattle.rules.specs.PairTest.{every, compatible?, leg?, stays?, unmoved?, joint?, meeting?, apart?, degreeTwoStays?, endAt?, endStays?, candidateLeg?, feasible?, feasibleBy01?}
 use Rattle.rules.specs.Pairs.{keep, feasiblePairs}
 use Rattle.sets.specs.Shape.{shape?, shuts?, reaches?, goesOn}
 use Rattle.closings.specs.declared.closing.ThreeOptOutcome.the-variants.{NoSaving}
@@ -101,7 +101,7 @@ eight-lengths rs = record {
   rs = refl;
 }
 
-saves-hold : (rs difference : ℕ) → 1 ≤ difference → 30 ≡ rs + 18 + difference → crossingSaving (eight rs) (eight rs) 1 2 3 4 5 6 7 8 ≡ pos difference → Claim (saves rs 30 (rs + 18) difference)
+saves-hold : (rs difference : ℕ) → 1 ≤ difference → 30 ≡ rs + 18 + difference → threeOptSaving (eight rs) (eight rs) 1 2 3 4 5 6 7 8 ≡ pos difference → Claim (saves rs 30 (rs + 18) difference)
 saves-hold rs difference h e best =
     let l = eight-lengths rs in (
       (l, are-moves),
@@ -121,7 +121,7 @@ unsaved-hold rs h e =
         swapped-xy = λ s. omega (arith, saves-sums (eight rs) (eight rs) 1 2 3 4 6 5 7 8 .0 s);
         swapped-both = λ s. omega (arith, saves-sums (eight rs) (eight rs) 1 2 3 4 6 5 8 7 .0 s);
       },
-      no-saving-exact (eight rs) (eight rs) centres 1 2 3 4 .0 e .unsettled,
+      no-saving-exact (eight rs) (eight rs) centres 1 2 3 4 .0 e .unclosed,
     )
 
 -- the first pair is feasible by its test; the second is not, since 1 lies between 2 and 3 and would lie
@@ -172,8 +172,8 @@ each (d ∷ es) (h & hs) e m = ⊎-elim (λ q. subst (λ (x : Example). Claim x)
 -- the square's numbers, the standing pairs and the 3-opt closing's answer are computed
 proved : Proved starred
 unfolding starred distanceBy bisect passes square allOpen five fiveOpen second feasibleBy01? withPair moveSaving eight centres lengthOf measuredTable edgeDistance gapDistance squares xOf yOf xGap yGap gapOf
-    edgeCount place placeUp tri edges rows row openUpTo markAt feasiblePairs keep feasible? candidateLeg? leg? settled? apart? meeting? joint? unmoved? endStays? endAt? stays? every compatible? shape? shuts? reaches? goesOn
-    neighboursOf seen withPoint within? either? beyond threeOptOutcome placed? has? joins? centresApart? endsOf bothOf settledBy labelling? saves? crossingSaving labelSaving firstSaving secondSaving smaller larger
+    edgeCount place placeUp tri edges rows row openUpTo markAt feasiblePairs keep feasible? candidateLeg? leg? degreeTwoStays? apart? meeting? joint? unmoved? endStays? endAt? stays? every compatible? shape? shuts? reaches? goesOn
+    neighboursOf seen withPoint within? either? beyond threeOptOutcome placed? has? joins? centresApart? endsOf bothOf closedBy labelling? saves? threeOptSaving labelSaving firstSaving secondSaving smaller larger
 proved =
     distances-hold 1 1 2 1 2 1 2 1 (omega arith) refl refl refl refl refl refl &
     distances-hold 1 2 5 2 3 1 3 2 (omega arith) refl refl refl refl refl refl &

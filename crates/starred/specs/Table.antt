@@ -13,7 +13,7 @@ use Rattle.lengths.specs.Measure.{measuredTable}
 use Rattle.lengths.specs.Table.{lengthOf}
 use Rattle.lengths.specs.declared.distance.Root.the-variants.{Euc2d}
 use Rattle.lengths.specs.declared.distance.Rule.the-variants.{Rooted}
-use Rattle.closings.specs.Closing.{crossingSaving, Saves, ThreeOptMoves, Closes}
+use Rattle.closings.specs.Closing.{threeOptSaving, Saves, ThreeOptMoves, Closes}
 use Rattle.marks.specs.Mark.{openIn}
 use lib.IntN.{pos}
 use Rattle.rules.specs.Pair.{moveSaving, Compatible, MoveSaves, FeasiblePair}
@@ -152,7 +152,7 @@ Claim (saves rs taken put difference) =
     Given rs
     × Moves (eight rs) 1 2 3 4 5 6 7 8 taken put
     × (taken ≡ put + difference)
-    × (crossingSaving (eight rs) (eight rs) 1 2 3 4 5 6 7 8 ≡ pos difference)
+    × (threeOptSaving (eight rs) (eight rs) 1 2 3 4 5 6 7 8 ≡ pos difference)
     × Closes (eight rs) (eight rs) centres 1 2 3 4
 Claim (unsaved rs) = Given rs × NoneSaves (eight rs) 1 2 3 4 5 6 7 8 × (Closes (eight rs) (eight rs) centres 1 2 3 4 → ⊥)
 Claim (moved saved) =

@@ -13,20 +13,20 @@ use Rattle.tours.proofs.Count.{tour-counts}
 use Rattle.tours.proofs.Edges.{Inside, inside-nil, inside-cons}
 use Rattle.tours.proofs.Segment.{Seg, cnt, len, list, count-list, length-list}
 
--- there is a tour of n points that is t with the edges `outs` taken out and `ins` put in
-pub record Exchanged (n : ℕ) (t : List ℕ) (outs ins : List Edge) : Type 0 where
+-- there is a tour of n points that is t with the edges `removed` taken out and `added` put in
+pub record Exchanged (n : ℕ) (t : List ℕ) (removed added : List Edge) : Type 0 where
   pub tour : List ℕ
   pub is-tour : Tour n tour
-  pub exchange : Exchange t tour outs ins
+  pub exchange : Exchange t tour removed added
 
 pub rejoin :
-    {n : ℕ} {t : List ℕ} {outs ins : List Edge} {a b : ℕ} →
+    {n : ℕ} {t : List ℕ} {removed added : List Edge} {a b : ℕ} →
     Tour n t →
-    Inside outs (closedEdges t) →
+    Inside removed (closedEdges t) →
     (U : Seg a b) →
     ((v : ℕ) → cnt v U ≡ count v t) →
-    ((l : ℕ → ℕ → ℕ) → Symmetric l → len l U + l b a + total l outs ≡ tourLength l t + total l ins) →
-    Exchanged n t outs ins
+    ((l : ℕ → ℕ → ℕ) → Symmetric l → len l U + l b a + total l removed ≡ tourLength l t + total l added) →
+    Exchanged n t removed added
 rejoin T inside U counts lengths =
     record {
       tour = list U;
@@ -36,12 +36,12 @@ rejoin T inside U counts lengths =
 
 -- the same exchange, with its edges listed in another way
 pub exchanged-as :
-    {n : ℕ} {t : List ℕ} {outs ins outs′ ins′ : List Edge} →
-    Exchanged n t outs ins →
-    Inside outs′ (closedEdges t) →
-    ((l : ℕ → ℕ → ℕ) → Symmetric l → total l outs′ ≡ total l outs) →
-    ((l : ℕ → ℕ → ℕ) → Symmetric l → total l ins′ ≡ total l ins) →
-    Exchanged n t outs′ ins′
+    {n : ℕ} {t : List ℕ} {removed added removed′ added′ : List Edge} →
+    Exchanged n t removed added →
+    Inside removed′ (closedEdges t) →
+    ((l : ℕ → ℕ → ℕ) → Symmetric l → total l removed′ ≡ total l removed) →
+    ((l : ℕ → ℕ → ℕ) → Symmetric l → total l added′ ≡ total l added) →
+    Exchanged n t removed′ added′
 exchanged-as X inside o i =
     record { tour = X .tour; is-tour = X .is-tour; exchange = record { taken = inside; balance = λ l y. omega (arith, X .exchange .balance l y, o l y, i l y) } }
 

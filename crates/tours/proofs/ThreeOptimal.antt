@@ -10,8 +10,8 @@ use Rattle.tours.proofs.Exchange.{Exchanged}
 
 -- No tour of n points at all is shorter than a shortest one, so in particular none is that an exchange makes.
 pub shortest-optimal : {n : ℕ} {l : ℕ → ℕ → ℕ} {t : List ℕ} → Shortest n l t → ThreeOptimal n l t
-shortest-optimal S = record { tour = S .tour; optimal = λ u outs ins T X h. S .least u T }
+shortest-optimal S = record { tour = S .tour; optimal = λ u removed added T X h. S .least u T }
 
 -- the edges that an exchange of at most three edges puts in are together no shorter than those that it takes out
-pub no-gain : {n : ℕ} {l : ℕ → ℕ → ℕ} {t : List ℕ} {outs ins : List Edge} → ThreeOptimal n l t → Symmetric l → length outs ≤ 3 → Exchanged n t outs ins → total l outs ≤ total l ins
-no-gain {l = l} {outs = outs} {ins = ins} O y h X = omega (arith, X .exchange .balance l y, O .optimal (X .tour) outs ins (X .is-tour) (X .exchange) h)
+pub no-gain : {n : ℕ} {l : ℕ → ℕ → ℕ} {t : List ℕ} {removed added : List Edge} → ThreeOptimal n l t → Symmetric l → length removed ≤ 3 → Exchanged n t removed added → total l removed ≤ total l added
+no-gain {l = l} {removed = removed} {added = added} O y h X = omega (arith, X .exchange .balance l y, O .optimal (X .tour) removed added (X .is-tour) (X .exchange) h)

@@ -33,13 +33,14 @@ pub record Shortest (n : ℕ) (l : ℕ → ℕ → ℕ) (t : List ℕ) : Type 0 
 abbrev pub Symmetric : (ℕ → ℕ → ℕ) → Type 0
 Symmetric l = (a b : ℕ) → l a b ≡ l b a
 
--- u is the tour t with the edges `outs` taken out and the edges `ins` put in: said of all lengths at once
-pub record Exchange (t u : List ℕ) (outs ins : List Edge) : Type 0 where
-  pub taken : (a b : ℕ) → Has outs a b → Uses t a b
-  pub balance : (l : ℕ → ℕ → ℕ) → Symmetric l → tourLength l u + total l outs ≡ tourLength l t + total l ins
+-- u is the tour t with the edges `removed` taken out and the edges `added` put in: said of all lengths at once
+pub record Exchange (t u : List ℕ) (removed added : List Edge) : Type 0 where
+  pub taken : (a b : ℕ) → Has removed a b → Uses t a b
+  pub balance : (l : ℕ → ℕ → ℕ) → Symmetric l → tourLength l u + total l removed ≡ tourLength l t + total l added
 
 -- a 3-optimal tour: taking out at most three of its edges and putting in as many makes no shorter tour.
 -- "As many" is the balance where all lengths are 1.
 pub record ThreeOptimal (n : ℕ) (l : ℕ → ℕ → ℕ) (t : List ℕ) : Type 0 where
   pub tour : Tour n t
-  pub optimal : (u : List ℕ) (outs ins : List Edge) → Tour n u → Exchange t u outs ins → length outs ≤ 3 → tourLength l t ≤ tourLength l u
+  pub optimal : (u : List ℕ) (removed added : List Edge) → Tour n u → Exchange t u removed added → length removed ≤ 3
+      → tourLength l t ≤ tourLength l u

@@ -10,17 +10,17 @@ use borrow.Author.Tests.{ne-eqb}
 use Rattle.lists.specs.Test.{allAtMost}
 use Rattle.lists.proofs.Bools.{and-both}
 use Rattle.lengths.specs.Edge.{edgeCount}
-use Rattle.lengths.proofs.Limits.{each-limit}
+use Rattle.lengths.proofs.AtMostTests.{at-most-all}
 use Rattle.text.specs.Decimal.{decimal, valueFrom}
 use Rattle.text.proofs.Decimals.{decimal-is}
 use Rattle.text.specs.Words.{blank}
 use Rattle.tsplib_lines.specs.Words.{newline, free, Sole, dimensionWord, weightTypeWord, explicitWord, euc2dWord, formatWord, upperRowWord, nodeSectionWord, weightSectionWord, eofWord}
 use Rattle.tsplib_lines.specs.Numbers.{numberLimit, Digits, Number, NumberText}
 use Rattle.tsplib_lines.specs.Numbers as number
-use Rattle.tsplib_lines.specs.Line.{Line, format-line, node-section, weight-section, eof-line, dimension-line, weighing-line, number-line, Reads}
-use Rattle.tsplib_lines.specs.Line as reads
-use Rattle.tsplib_lines.specs.declared.line.Weighing.{Weighing}
-use Rattle.tsplib_lines.specs.declared.line.Weighing.the-variants as weighing
+use Rattle.tsplib_lines.specs.TextLine.{TextLine, format-line, node-section, weight-section, eof-line, dimension-line, weighing-line, number-line, Reads}
+use Rattle.tsplib_lines.specs.TextLine as reads
+use Rattle.tsplib_lines.specs.declared.text_line.Weighing.{Weighing}
+use Rattle.tsplib_lines.specs.declared.text_line.Weighing.the-variants as weighing
 use Rattle.tsplib_lines.proofs.LinesExact.{LineRead, is, other}
 use Rattle.tsplib_lines.proofs.WordsExact.{free-both}
 use Rattle.tsplib.specs.Language.{Text}
@@ -31,11 +31,11 @@ use Rattle.tsplib.specs.declared.state.Points.the-variants as points
 use Rattle.tsplib.specs.declared.state.Weigh.{Weigh}
 use Rattle.tsplib.specs.declared.state.Weigh.the-variants as weigh
 use Rattle.tsplib.specs.declared.state.State.{State}
-use Rattle.tsplib.specs.declared.state.State.the-variants.{Header, Nodes, Weights, Ended}
+use Rattle.tsplib.specs.declared.state.State.the-variants.{Specification, Nodes, Weights, Ended}
 use Rattle.tsplib.specs.declared.state.Stepped.the-variants.{To}
 use Rattle.tsplib.proofs.Exact.{ran, ran-step}
 use Rattle.tsplib.proofs.Verdicts.{at-most-both}
-use Rattle.tsplib.proofs.Steps.{Step, name, comment, type-tsp, dimension, weight-type, format, nodes, weights, node, some-weights, last-node, last-weight}
+use Rattle.tsplib.proofs.LegalSteps.{LegalStep, name, comment, type-tsp, dimension, weight-type, format, nodes, weights, node, some-weights, last-node, last-weight}
 
 -- the numbers that a state holds fit 32 bits
 abbrev SmallPoints : Points → Type 0
@@ -43,7 +43,7 @@ SmallPoints points.Unset = Unit {0}
 SmallPoints (points.Set n) = n < numberLimit
 
 abbrev pub Good : State → Type 0
-Good (Header nm ty p w) = SmallPoints p
+Good (Specification nm ty p w) = SmallPoints p
 Good (Nodes n r k) = (k ≤ n) × (n < numberLimit)
 Good (Weights n left) = Unit {0}
 Good (Ended n v) = Unit {0}
@@ -53,7 +53,7 @@ sole-small (number.padded m) e = sole-small m e
 sole-small {n = n} (number.last {n = k} m j) e = let f : k ≡ n = cc in omega (arith, m .fits)
 sole-small {n = n} (number.more {n = k} m r) e = let f : k ≡ n = cc in omega (arith, m .fits)
 
-dimension-small : {t : List ℕ} {l : Line} {n : ℕ} → LineRead t l → l ≡ dimension-line n → n < numberLimit
+dimension-small : {t : List ℕ} {l : TextLine} {n : ℕ} → LineRead t l → l ≡ dimension-line n → n < numberLimit
 dimension-small {n = n} (is (reads.dimension {n = k} s m)) e = let f : k ≡ n = cc in let h = sole-small m refl in omega arith
 dimension-small (is (reads.name s v)) e = let z : _≡_ {A = ℕ} 0 1 = cc in absurd (omega arith)
 dimension-small (is (reads.comment s v)) e = let z : _≡_ {A = ℕ} 0 1 = cc in absurd (omega arith)
@@ -66,7 +66,7 @@ dimension-small (is (reads.eof s)) e = let z : _≡_ {A = ℕ} 0 1 = cc in absur
 dimension-small (is (reads.numbers m)) e = let z : _≡_ {A = ℕ} 0 1 = cc in absurd (omega arith)
 dimension-small other e = let z : _≡_ {A = ℕ} 0 1 = cc in absurd (omega arith)
 
-pub good-step : {s t : State} {l : Line} {bytes : List ℕ} → LineRead bytes l → Step s l t → Good s → Good t
+pub good-step : {s t : State} {l : TextLine} {bytes : List ℕ} → LineRead bytes l → LegalStep s l t → Good s → Good t
 good-step r name g = g
 good-step r comment g = g
 good-step r type-tsp g = g
@@ -82,7 +82,7 @@ good-step r last-weight g = tt
 
 -- lines of bytes that complete an instance
 pub record Completion (s : State) : Type 0 where
-  pub lines : List Line
+  pub lines : List TextLine
   pub text : List ℕ
   pub are-bytes : allAtMost 255 text ≡ true
   pub written : Text lines text
@@ -91,7 +91,7 @@ pub record Completion (s : State) : Type 0 where
   pub ends : ran s lines ≡ To (Ended n weighs)
 
 -- the bytes of a line
-record Writes (l : Line) : Type 0 where
+record Writes (l : TextLine) : Type 0 where
   pub bytes : List ℕ
   pub are-bytes : allAtMost 255 bytes ≡ true
   pub no-newline : free newline bytes ≡ true
@@ -100,7 +100,7 @@ record Writes (l : Line) : Type 0 where
 both-bytes : (s t : List ℕ) → allAtMost 255 s ≡ true → allAtMost 255 t ≡ true → allAtMost 255 (s ++ t) ≡ true
 both-bytes s t h g = at-most-both 255 s t ∙ and-both (allAtMost 255 s) (allAtMost 255 t) h g
 
-prepend : {s t : State} {l : Line} → Writes l → Step s l t → Completion t → Completion s
+prepend : {s t : State} {l : TextLine} → Writes l → LegalStep s l t → Completion t → Completion s
 unfolding allAtMost
 prepend {l = l} w h c = record {
   lines = l ∷ c .lines;
@@ -197,7 +197,7 @@ write-node k h = record {
   bytes = decimal k ++ blank ∷ (48 ∷ blank ∷ 48 ∷ []);
   are-bytes =
       both-bytes (decimal k) (blank ∷ 48 ∷ blank ∷ 48 ∷ [])
-      (each-limit 255 (decimal k) (λ i g. omega (arith, decimal-is k .digit i g .1))) refl;
+      (at-most-all 255 (decimal k) (λ i g. omega (arith, decimal-is k .digit i g .1))) refl;
   no-newline = free-both newline (decimal k) (blank ∷ 48 ∷ blank ∷ 48 ∷ []) (digits-free (decimal k) (decimal-is k .digit)) refl;
   reads = reads.numbers (number.more (decimal-number k h) (number.more zero-number (number.last zero-number 0)));
 }
@@ -219,13 +219,13 @@ nodes-complete (suc m) n r k e h =
     let g : k < n = omega arith in
     prepend (write-node (suc k) (omega arith)) (node g) (nodes-complete m n r (suc k) (omega arith) h)
 
-rule-completes : (nm ty : Bool) (n r : ℕ) → n < numberLimit → Completion (Header nm ty (points.Set n) (weigh.Rule r))
+rule-completes : (nm ty : Bool) (n r : ℕ) → n < numberLimit → Completion (Specification nm ty (points.Set n) (weigh.Rule r))
 rule-completes nm ty n r h = prepend write-nodes nodes (nodes-complete n n r 0 (omega arith) h)
 
-row-completes : (nm ty : Bool) (n : ℕ) → Completion (Header nm ty (points.Set n) weigh.ExplicitRow)
+row-completes : (nm ty : Bool) (n : ℕ) → Completion (Specification nm ty (points.Set n) weigh.ExplicitRow)
 row-completes nm ty n = prepend write-weights weights (weights-complete n (edgeCount n))
 
-points-complete : (nm ty : Bool) (n : ℕ) (w : Weigh) → n < numberLimit → Completion (Header nm ty (points.Set n) w)
+points-complete : (nm ty : Bool) (n : ℕ) (w : Weigh) → n < numberLimit → Completion (Specification nm ty (points.Set n) w)
 unfolding weighNext rowNext
 points-complete nm ty n weigh.Unset h = prepend write-euc2d (weight-type refl) (rule-completes nm ty n 1 h)
 points-complete nm ty n weigh.Row h = prepend write-explicit (weight-type refl) (row-completes nm ty n)
@@ -233,12 +233,12 @@ points-complete nm ty n weigh.Explicit h = prepend write-format (format refl) (r
 points-complete nm ty n weigh.ExplicitRow h = row-completes nm ty n
 points-complete nm ty n (weigh.Rule r) h = rule-completes nm ty n r h
 
-header-completes : (nm ty : Bool) (p : Points) (w : Weigh) → SmallPoints p → Completion (Header nm ty p w)
-header-completes nm ty points.Unset w g = prepend write-dimension dimension (points-complete nm ty 0 w (omega arith))
-header-completes nm ty (points.Set n) w g = points-complete nm ty n w g
+specification-completes : (nm ty : Bool) (p : Points) (w : Weigh) → SmallPoints p → Completion (Specification nm ty p w)
+specification-completes nm ty points.Unset w g = prepend write-dimension dimension (points-complete nm ty 0 w (omega arith))
+specification-completes nm ty (points.Set n) w g = points-complete nm ty n w g
 
 pub completes : (s : State) → Good s → Completion s
-completes (Header nm ty p w) g = header-completes nm ty p w g
+completes (Specification nm ty p w) g = specification-completes nm ty p w g
 completes (Nodes n r k) g = nodes-complete (n - k) n r k (omega (arith, g .0)) (g .1)
 completes (Weights n left) g = weights-complete n left
 completes (Ended n v) g = ended-completes n v

@@ -10,7 +10,7 @@ use Rattle.endian.specs.asks.Bytes.{Entry, Put}
 use Rattle.endian.proofs.Writing.{bytes-length}
 use Rattle.text.proofs.Writing.{wrote-both, wrote-none}
 use Rattle.tsplib.specs.asks.Gathering.{RoomFor, WroteNumbers, WroteTo}
-use Rattle.tsplib.specs.declared.gathering.Spot.{Spot}
+use Rattle.tsplib.specs.declared.gathering.Slot.{Slot}
 
 bytes-append : (xs ys : List ℕ) → bytes32 (xs ++ ys) ≡ bytes32 xs ++ bytes32 ys
 unfolding bytesOf
@@ -56,10 +56,10 @@ drop-both (suc k) (x ∷ xs) ys = let e : k - length xs ≡ suc k - suc (length 
 pub room-same : {out : List ℕ} {at : ℕ} {xs ys : List ℕ} (k : ℕ) → xs ≡ ys → RoomFor out at (drop k xs) → RoomFor out at (drop k ys)
 room-same {out} {at} k e w = subst (λ (zs : List ℕ). RoomFor out at (drop k zs)) e w
 
-one : (spot : Spot) (v : ℕ) → spot .skip ≤ 0 → drop (spot .skip) (v ∷ []) ≡ v ∷ []
+one : (spot : Slot) (v : ℕ) → spot .skip ≤ 0 → drop (spot .skip) (v ∷ []) ≡ v ∷ []
 one spot v h = let z : spot .skip ≡ 0 = omega arith in ap (λ (k : ℕ). drop k (v ∷ [])) z
 
-module _ (out : List ℕ) (spot : Spot) (v : ℕ) where
+module _ (out : List ℕ) (spot : Slot) (v : ℕ) where
   pub left-out : 0 < spot .skip → WroteTo out spot (v ∷ []) (record { skip = spot .skip - 1; at = spot .at }) out
   left-out h =
       let e : drop (spot .skip) (v ∷ []) ≡ [] = drop-of-length-le (v ∷ []) h in
@@ -72,13 +72,13 @@ module _ (out : List ℕ) (spot : Spot) (v : ℕ) where
       → WroteTo out spot (v ∷ []) (record { skip = 0; at = spot .at + 1 }) left
   put-in h r p = record { skipped = omega arith; wrote = rw (one spot v h) (wrote-entry (entry-room h r) p) }
 
-pub none-in : (out : List ℕ) (spot : Spot) {xs : List ℕ} → xs ≡ [] → WroteTo out spot xs spot out
+pub none-in : (out : List ℕ) (spot : Slot) {xs : List ℕ} → xs ≡ [] → WroteTo out spot xs spot out
 none-in out spot {xs} e = record {
   skipped = let k : length xs ≡ 0 = ap length e in omega arith;
   wrote = rw (ap (drop (spot .skip)) e ∙ drop-nil (spot .skip)) (wrote-nothing out (spot .at));
 }
 
-pub same-in : {out : List ℕ} {spot : Spot} {xs ys : List ℕ} {r : Spot} {left : List ℕ} → xs ≡ ys → WroteTo out spot ys r left → WroteTo out spot xs r left
+pub same-in : {out : List ℕ} {spot : Slot} {xs ys : List ℕ} {r : Slot} {left : List ℕ} → xs ≡ ys → WroteTo out spot ys r left → WroteTo out spot xs r left
 same-in {out} {spot} {r = r} {left = left} e w = subst (λ (zs : List ℕ). WroteTo out spot zs r left) (sym e) w
 
 pub wrote-same : {out : List ℕ} {at : ℕ} {xs ys : List ℕ} {r : ℕ} {left : List ℕ} (k : ℕ) → xs ≡ ys → WroteNumbers out at (drop k xs) r left → WroteNumbers out at (drop k ys) r left

@@ -10,27 +10,27 @@ use native.Mathlib.Omega.{arith}
 use lib.ListN.{length, take, drop, length-map}
 use lib.Seq.{take-add}
 use Rattle.tsplib_lines.specs.Words.{newline}
-use Rattle.tsplib_lines.specs.Line.{Line, lineOf, toldOf}
+use Rattle.tsplib_lines.specs.TextLine.{TextLine, lineOf, toldOf}
 use Rattle.tsplib_lines.proofs.LinesExact.{line-read}
 use Rattle.tsplib.specs.Language.{Text, Tsplib}
 use Rattle.tsplib.specs.Language as language
-use Rattle.tsplib.specs.Told.{joined, firstLines, Begins, ToldFirst}
+use Rattle.tsplib.specs.FaultLine.{joined, firstLines, BeginsText, ToldFirst}
 use Rattle.tsplib.specs.State.{noLines, stepOf}
 use Rattle.tsplib.specs.Gathering.{gathered}
-use Rattle.tsplib.specs.Judging.{wholeLines, unfinished, linesOf, judged, judgedFrom, judgedEnd, goOn, mostOf}
+use Rattle.tsplib.specs.Judging.{wholeLines, unfinished, linesOf, judged, judgedFrom, judgedEnd, goOn, maximumOf}
 use Rattle.tsplib.specs.declared.state.State.{State}
-use Rattle.tsplib.specs.declared.state.State.the-variants.{Header, Nodes, Weights, Ended}
+use Rattle.tsplib.specs.declared.state.State.the-variants.{Specification, Nodes, Weights, Ended}
 use Rattle.tsplib.specs.declared.state.Stepped.{Stepped}
 use Rattle.tsplib.specs.declared.state.Stepped.the-variants as stepped
-use Rattle.tsplib.specs.declared.judging.Judged.the-variants.{Fault}
+use Rattle.tsplib.specs.declared.judging.JudgedText.the-variants.{Fault}
 use Rattle.tsplib.proofs.Completions.{Good, good-step, completes}
 use Rattle.tsplib.proofs.Exact.{ran, onTo, skipFor, accepted-rest, rest-instance}
-use Rattle.tsplib.proofs.Steps.{step-legal, to-is, faulty}
+use Rattle.tsplib.proofs.LegalSteps.{step-legal, to-is, faulty}
 use Rattle.tsplib.proofs.TextLines.{lines-next}
 use Rattle.tsplib.proofs.TextsExact.{AllFree, none, more, whole-free, lines-text, text-ran}
 
 -- where the judge stops: the lines passed, the state that they lead to, and why it stops there
-pub record FaultAt (s : State) (ls : List Line) (k line : ℕ) : Type 0 where
+pub record FaultAt (s : State) (ls : List TextLine) (k line : ℕ) : Type 0 where
   pub passed : ℕ
   pub told : line ≡ k + (passed + 1)
   pub within : passed ≤ length ls
@@ -47,19 +47,19 @@ here s e = record { passed = 0; told = sym (fault-is e); within = omega arith; s
 
 end-fault : (s : State) (k m : ℕ) (rest : List ℕ) {line : ℕ} → judgedEnd s k m rest ≡ Fault line → FaultAt s [] k line
 unfolding judgedEnd
-end-fault (Header nm ty p w) k m rest e = here (Header nm ty p w) e
+end-fault (Specification nm ty p w) k m rest e = here (Specification nm ty p w) e
 end-fault (Nodes n r j) k m rest e = here (Nodes n r j) e
 end-fault (Weights n left) k m rest e = here (Weights n left) e
 end-fault (Ended n w) k m [] e = let z : _≡_ {A = ℕ} 0 1 = cc in absurd (omega arith)
 end-fault (Ended n w) k m (b ∷ rest) e = here (Ended n w) e
 
-pub fault-at : (ls : List Line) (s : State) (k m : ℕ) (rest : List ℕ) (line : ℕ) → judgedFrom s k m ls rest ≡ Fault line → FaultAt s ls k line
+pub fault-at : (ls : List TextLine) (s : State) (k m : ℕ) (rest : List ℕ) (line : ℕ) → judgedFrom s k m ls rest ≡ Fault line → FaultAt s ls k line
 unfolding judgedFrom ran
 fault-at [] s k m rest line e = end-fault s k m rest e
-fault-at (l ∷ ls) s k m rest line e = go (stepOf s (toldOf l)) refl e (λ t. fault-at ls t (k + 1) (max m (mostOf (toldOf l))) rest line)
+fault-at (l ∷ ls) s k m rest line e = go (stepOf s (toldOf l)) refl e (λ t. fault-at ls t (k + 1) (max m (maximumOf (toldOf l))) rest line)
   where
-    go : (x : Stepped) → stepOf s (toldOf l) ≡ x → goOn x k (λ (t : State). judgedFrom t (k + 1) (max m (mostOf (toldOf l))) ls rest) ≡ Fault line
-        → ((t : State) → judgedFrom t (k + 1) (max m (mostOf (toldOf l))) ls rest ≡ Fault line → FaultAt t ls (k + 1) line) → FaultAt s (l ∷ ls) k line
+    go : (x : Stepped) → stepOf s (toldOf l) ≡ x → goOn x k (λ (t : State). judgedFrom t (k + 1) (max m (maximumOf (toldOf l))) ls rest) ≡ Fault line
+        → ((t : State) → judgedFrom t (k + 1) (max m (maximumOf (toldOf l))) ls rest ≡ Fault line → FaultAt t ls (k + 1) line) → FaultAt s (l ∷ ls) k line
     go (stepped.To t) f e ih =
         let r = ih t e in
         record {
@@ -85,7 +85,7 @@ fault-at (l ∷ ls) s k m rest line e = go (stepOf s (toldOf l)) refl e (λ t. f
     }
 
 -- a fault stays one, and a state is gone on from
-ran-both : (ls ms : List Line) (s : State) → ran s (ls ++ ms) ≡ onTo (ran s ls) (λ (t : State). ran t ms)
+ran-both : (ls ms : List TextLine) (s : State) → ran s (ls ++ ms) ≡ onTo (ran s ls) (λ (t : State). ran t ms)
 unfolding ran
 ran-both [] ms s = refl
 ran-both (l ∷ ls) ms s = go (stepOf s (toldOf l)) (λ t. ran-both ls ms t)
@@ -107,7 +107,7 @@ good-ran (l ∷ ls) s t g e = go (stepOf s (toldOf (lineOf l))) refl e (λ u. go
     go stepped.Fault f e ih = faulty e
 
 -- lines and their bytes, first some, then others
-text-both : {ls ms : List Line} {t u : List ℕ} → Text ls t → Text ms u → Text (ls ++ ms) (t ++ u)
+text-both : {ls ms : List TextLine} {t u : List ℕ} → Text ls t → Text ms u → Text (ls ++ ms) (t ++ u)
 text-both language.none v = v
 text-both {ms = ms} {u = u} (language.line {l} {ls} {bytes} {rest} f r t) v =
     subst (λ (x : List ℕ). Text (l ∷ (ls ++ ms)) x) (sym (append-assoc bytes (newline ∷ rest) u)) (language.line f r (text-both t v))
@@ -116,12 +116,12 @@ lines-joined : (ls : List (List ℕ)) (rest : List ℕ) → AllFree ls → lines
 unfolding joined
 lines-joined [] rest f = refl
 lines-joined (l ∷ ls) rest (more f g) =
-    ap linesOf (append-assoc l (newline ∷ joined ls []) rest) ∙ lines-next l (joined ls [] ++ rest) f ∙ ap (λ (ms : List Line). lineOf l ∷ ms) (lines-joined ls rest g)
+    ap linesOf (append-assoc l (newline ∷ joined ls []) rest) ∙ lines-next l (joined ls [] ++ rest) f ∙ ap (λ (ms : List TextLine). lineOf l ∷ ms) (lines-joined ls rest g)
 
 map-take : (k : ℕ) (ls : List (List ℕ)) → map lineOf (take k ls) ≡ take k (map lineOf ls)
 map-take zero ls = refl
 map-take (suc k) [] = refl
-map-take (suc k) (l ∷ ls) = ap (λ (ms : List Line). lineOf l ∷ ms) (map-take k ls)
+map-take (suc k) (l ∷ ls) = ap (λ (ms : List TextLine). lineOf l ∷ ms) (map-take k ls)
 
 take-free : (k : ℕ) (ls : List (List ℕ)) → AllFree ls → AllFree (take k ls)
 take-free zero ls f = none
@@ -129,7 +129,7 @@ take-free (suc k) [] none = none
 take-free (suc k) (l ∷ ls) (more f g) = more f (take-free k ls g)
 
 -- whole lines that lead to a state begin a text of the language
-begins : (ls : List (List ℕ)) (t : State) → AllFree ls → ran noLines (map lineOf ls) ≡ stepped.To t → Begins (joined ls [])
+begins : (ls : List (List ℕ)) (t : State) → AllFree ls → ran noLines (map lineOf ls) ≡ stepped.To t → BeginsText (joined ls [])
 begins ls t f e =
     let c = completes t (good-ran ls noLines t tt e) in
     record {
@@ -148,7 +148,7 @@ begins ls t f e =
     }
 
 -- whole lines that lead to none begin none
-begins-not : (ls : List (List ℕ)) → AllFree ls → ran noLines (map lineOf ls) ≡ stepped.Fault → Begins (joined ls []) → ⊥
+begins-not : (ls : List (List ℕ)) → AllFree ls → ran noLines (map lineOf ls) ≡ stepped.Fault → BeginsText (joined ls []) → ⊥
 begins-not ls f e b =
     let r : ran noLines (map lineOf ls ++ linesOf (b .rest)) ≡ stepped.To (Ended (b .n) (b .weighs)) =
     ap (ran noLines) (sym (lines-joined ls (b .rest) f)) ∙ text-ran (b .text) in
@@ -165,12 +165,12 @@ told-first text line e = go (fault-at (linesOf text) noLines 0 0 (unfinished tex
     whole = wholeLines text
 
     stop : (j : ℕ) → line ≡ 0 + (j + 1) → (length (linesOf text) ≤ j) ⊎ (ran noLines (take (suc j) (linesOf text)) ≡ stepped.Fault)
-        → (length (wholeLines text) < line) ⊎ (Begins (joined (take line (wholeLines text)) []) → ⊥)
+        → (length (wholeLines text) < line) ⊎ (BeginsText (joined (take line (wholeLines text)) []) → ⊥)
     stop j t (inl h) = inl (omega (arith, length-map (wholeLines text) lineOf))
     stop j t (inr h) =
         let k : line ≡ suc j = omega arith in
         inr
-        (subst (λ (i : ℕ). Begins (joined (take i (wholeLines text)) []) → ⊥) (sym k)
+        (subst (λ (i : ℕ). BeginsText (joined (take i (wholeLines text)) []) → ⊥) (sym k)
         (begins-not (take (suc j) (wholeLines text)) (take-free (suc j) (wholeLines text) (whole-free text)) (ap (ran noLines) (map-take (suc j) (wholeLines text)) ∙ h)))
 
     go : FaultAt noLines (linesOf text) 0 line → ToldFirst text line
@@ -180,13 +180,13 @@ told-first text line e = go (fault-at (linesOf text) noLines 0 0 (unfinished tex
           counted = omega (arith, f .told);
           there = omega (arith, f .told, f .within, length-map (wholeLines text) lineOf);
           before =
-              subst (λ (i : ℕ). Begins (joined (take i (wholeLines text)) [])) (sym k)
+              subst (λ (i : ℕ). BeginsText (joined (take i (wholeLines text)) [])) (sym k)
               (begins (take (f .passed) (wholeLines text)) (f .state) (take-free (f .passed) (wholeLines text) (whole-free text)) (ap (ran noLines) (map-take (f .passed) (wholeLines text)) ∙ f .reached));
           stops = stop (f .passed) (f .told) (f .stops);
         }
 
 -- where some lines begin a text, so do fewer: a fault among them would stay one
-begins-fewer : (j k : ℕ) (text : List ℕ) → j ≤ k → Begins (firstLines k text) → Begins (firstLines j text)
+begins-fewer : (j k : ℕ) (text : List ℕ) → j ≤ k → BeginsText (firstLines k text) → BeginsText (firstLines j text)
 unfolding firstLines linesOf
 begins-fewer j k text h b = go (ran noLines (map lineOf (take j (wholeLines text)))) refl
   where
@@ -198,7 +198,7 @@ begins-fewer j k text h b = go (ran noLines (map lineOf (take j (wholeLines text
         let e : k ≡ j + (k - j) = omega arith in
         ap (λ (i : ℕ). take i (linesOf text)) e ∙ take-add j (k - j) (linesOf text)
 
-    go : (x : Stepped) → ran noLines (map lineOf (take j (wholeLines text))) ≡ x → Begins (joined (take j (wholeLines text)) [])
+    go : (x : Stepped) → ran noLines (map lineOf (take j (wholeLines text))) ≡ x → BeginsText (joined (take j (wholeLines text)) [])
     go (stepped.To t) e = begins (take j (wholeLines text)) t (free j) e
     go stepped.Fault e =
         let later : Stepped → Stepped = λ (x : Stepped). onTo x (λ (u : State). ran u (take (k - j) (drop j (linesOf text)))) in
@@ -212,7 +212,7 @@ begins-fewer j k text h b = go (ran noLines (map lineOf (take j (wholeLines text
 none-before : {text : List ℕ} {i j : ℕ} → ToldFirst text i → ToldFirst text j → i < j → ⊥
 none-before {text} {i} {j} a b h = go (a .stops)
   where
-    go : (length (wholeLines text) < i) ⊎ (Begins (firstLines i text) → ⊥) → ⊥
+    go : (length (wholeLines text) < i) ⊎ (BeginsText (firstLines i text) → ⊥) → ⊥
     go (inl s) = omega (arith, b .there)
     go (inr s) = s (begins-fewer i (j - 1) text (omega arith) (b .before))
 

@@ -8,18 +8,18 @@ use native.Mathlib.Decide.{decLt}
 use lib.ListN.{length, getD, take, drop, drop-of-length-le}
 use lib.Seq.{drop-cons}
 use Rattle.tsplib_lines.specs.Words.{newline, free, isSole, wordThenBlanks, afterBlanks}
-use Rattle.tsplib_lines.specs.asks.Words.{Found}
+use Rattle.tsplib_lines.specs.asks.Words.{FoundByte}
 use Rattle.tsplib_lines.specs.Numbers.{numbersIn, numbersFrom}
-use Rattle.tsplib_lines.specs.Line.{lineOf, toldOf, partsLine, atColon, sectionOf}
-use Rattle.tsplib.specs.State.{noLines, stepOf, onHeader, onNodes, onWeights, bodyOf}
-use Rattle.tsplib.specs.Judging.{wholeLines, linesOf, unfinished, judged, judgedFrom, judgedEnd, goOn, mostOf}
+use Rattle.tsplib_lines.specs.TextLine.{lineOf, toldOf, partsLine, atColon, sectionOf}
+use Rattle.tsplib.specs.State.{noLines, stepOf, onSpecification, onNodes, onWeights, bodyOf}
+use Rattle.tsplib.specs.Judging.{wholeLines, linesOf, unfinished, judged, judgedFrom, judgedEnd, goOn, maximumOf}
 use Rattle.tsplib.specs.declared.state.State.{State}
-use Rattle.tsplib.specs.declared.state.State.the-variants.{Header, Nodes, Weights, Ended}
+use Rattle.tsplib.specs.declared.state.State.the-variants.{Specification, Nodes, Weights, Ended}
 use Rattle.tsplib.specs.declared.state.Stepped.{Stepped}
 use Rattle.tsplib.specs.declared.state.Stepped.the-variants as stepped
-use Rattle.tsplib.specs.declared.judging.Judged.{Judged}
-use Rattle.tsplib.specs.declared.judging.Judged.the-variants.{Fault}
-use Rattle.tsplib.proofs.Steps.{faulty}
+use Rattle.tsplib.specs.declared.judging.JudgedText.{JudgedText}
+use Rattle.tsplib.specs.declared.judging.JudgedText.the-variants.{Fault}
+use Rattle.tsplib.proofs.LegalSteps.{faulty}
 use Rattle.tsplib.proofs.TextLines.{lines-next, lines-none, rest-next, rest-none, next-line, last-part}
 
 -- the loop over the lines
@@ -34,8 +34,8 @@ judging-start text = record { inside = omega arith; few = omega arith; same = re
 
 -- no state takes an empty line
 empty-line : (s : State) → stepOf s (toldOf (lineOf [])) ≡ stepped.Fault
-unfolding stepOf onHeader onNodes onWeights lineOf toldOf partsLine atColon sectionOf isSole wordThenBlanks afterBlanks numbersIn numbersFrom bodyOf
-empty-line (Header nm ty p w) = refl
+unfolding stepOf onSpecification onNodes onWeights lineOf toldOf partsLine atColon sectionOf isSole wordThenBlanks afterBlanks numbersIn numbersFrom bodyOf
+empty-line (Specification nm ty p w) = refl
 empty-line (Nodes n r k) = refl
 empty-line (Weights n left) = refl
 empty-line (Ended n w) = refl
@@ -43,17 +43,17 @@ empty-line (Ended n w) = refl
 -- bytes behind the last newline are at fault in every state
 unfinished-fault : (s : State) (k m b : ℕ) (t : List ℕ) → judgedEnd s k m (b ∷ t) ≡ Fault (k + 1)
 unfolding judgedEnd
-unfinished-fault (Header nm ty p w) k m b t = refl
+unfinished-fault (Specification nm ty p w) k m b t = refl
 unfinished-fault (Nodes n r j) k m b t = refl
 unfinished-fault (Weights n left) k m b t = refl
 unfinished-fault (Ended n w) k m b t = refl
 
 module _ {text : List ℕ} {s : State} {at k m : ℕ} (j : Judging text s at k m) where
-  pub judging-ends : {x : Judged} → length text ≤ at → x ≡ judgedEnd s k m [] → x ≡ judged text
+  pub judging-ends : {x : JudgedText} → length text ≤ at → x ≡ judgedEnd s k m [] → x ≡ judged text
   unfolding judgedFrom linesOf unfinished wholeLines
   judging-ends h e = e ∙ sym (j .same ∙ ap (λ (t : List ℕ). judgedFrom s k m (linesOf t) (unfinished t)) (drop-of-length-le text h))
 
-  module _ {r : ℕ} (f : Found text at newline r) where
+  module _ {r : ℕ} (f : FoundByte text at newline r) where
     pub judging-unfinished : at < length text → r ≡ length text → Fault (k + 1) ≡ judged text
     unfolding judgedFrom
     judging-unfinished h e =
@@ -70,7 +70,7 @@ module _ {text : List ℕ} {s : State} {at k m : ℕ} (j : Judging text s at k m
 
       next : judged text
           ≡ goOn (stepOf s (toldOf (lineOf line))) k
-          (λ (t : State). judgedFrom t (k + 1) (max m (mostOf (toldOf (lineOf line)))) (linesOf (drop (r + 1) text)) (unfinished (drop (r + 1) text)))
+          (λ (t : State). judgedFrom t (k + 1) (max m (maximumOf (toldOf (lineOf line)))) (linesOf (drop (r + 1) text)) (unfinished (drop (r + 1) text)))
       unfolding judgedFrom line
       next =
           j .same
@@ -84,7 +84,7 @@ module _ {text : List ℕ} {s : State} {at k m : ℕ} (j : Judging text s at k m
           (next
           ∙ ap
           (λ (x : Stepped). goOn x k
-          (λ (t : State). judgedFrom t (k + 1) (max m (mostOf (toldOf (lineOf line)))) (linesOf (drop (r + 1) text)) (unfinished (drop (r + 1) text))))
+          (λ (t : State). judgedFrom t (k + 1) (max m (maximumOf (toldOf (lineOf line)))) (linesOf (drop (r + 1) text)) (unfinished (drop (r + 1) text))))
           e)
 
       longer : {t : State} → stepOf s (toldOf (lineOf (take (r - at) (drop at text)))) ≡ stepped.To t → at < r
@@ -97,7 +97,7 @@ module _ {text : List ℕ} {s : State} {at k m : ℕ} (j : Judging text s at k m
       ]
 
       pub judging-on : {t : State} {m′ : ℕ} → stepOf s (toldOf (lineOf (take (r - at) (drop at text)))) ≡ stepped.To t
-          → m′ ≡ max m (mostOf (toldOf (lineOf (take (r - at) (drop at text))))) → Judging text t (r + 1) (k + 1) m′
+          → m′ ≡ max m (maximumOf (toldOf (lineOf (take (r - at) (drop at text))))) → Judging text t (r + 1) (k + 1) m′
       unfolding line
       judging-on {t} {m′} e g = record {
         inside = omega (arith, f .high, h);
@@ -106,7 +106,7 @@ module _ {text : List ℕ} {s : State} {at k m : ℕ} (j : Judging text s at k m
             next
             ∙ ap
             (λ (x : Stepped). goOn x k
-            (λ (t : State). judgedFrom t (k + 1) (max m (mostOf (toldOf (lineOf line)))) (linesOf (drop (r + 1) text)) (unfinished (drop (r + 1) text))))
+            (λ (t : State). judgedFrom t (k + 1) (max m (maximumOf (toldOf (lineOf line)))) (linesOf (drop (r + 1) text)) (unfinished (drop (r + 1) text))))
             e
             ∙ ap (λ (y : ℕ). judgedFrom t (k + 1) y (linesOf (drop (r + 1) text)) (unfinished (drop (r + 1) text))) (sym g);
       }

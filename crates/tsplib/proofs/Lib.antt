@@ -7,7 +7,7 @@ pub mod NumbersGathered
 pub mod Reader
 pub mod SmallNumbers
 pub mod Stepping
-pub mod Steps
+pub mod LegalSteps
 pub mod TextLines
 pub mod TextsExact
 pub mod TextsRead

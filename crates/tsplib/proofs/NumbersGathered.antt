@@ -13,15 +13,15 @@ use borrow.Author.Tests.{eq-eqb, ne-eqb, ltb-true, leb-true}
 use Rattle.lists.proofs.Bools.{and-left, and-right}
 use Rattle.text.specs.Words.{blank}
 use Rattle.tsplib_lines.specs.Words.{newline, isSole, tspWord, upperRowWord, nodeSectionWord, weightSectionWord, eofWord}
-use Rattle.tsplib_lines.specs.asks.Words.{Found}
+use Rattle.tsplib_lines.specs.asks.Words.{FoundByte}
 use Rattle.tsplib_lines.specs.Numbers.{numberLimit, atBlank, atDigit, isDigit, numbersFrom, numbersIn, noTally, talliedOf}
-use Rattle.tsplib_lines.specs.Line.{Line, other-line, type-line, format-line, node-section, weight-section, eof-line, Parts, whole, parts, when, numbersOr, partsLine, atColon, sectionOf, valued, keywordOf, weighingOf, weighingLine, dimensionOf, lineOf}
-use Rattle.tsplib_lines.specs.declared.line.Keyword.{Keyword}
-use Rattle.tsplib_lines.specs.declared.line.Keyword.the-variants as keyword
-use Rattle.tsplib_lines.specs.declared.line.NamedWeighing.{NamedWeighing}
-use Rattle.tsplib_lines.specs.declared.line.NamedWeighing.the-variants as named
-use Rattle.tsplib_lines.specs.declared.numbers.Place.{Place}
-use Rattle.tsplib_lines.specs.declared.numbers.Place.the-variants.{Between, Within}
+use Rattle.tsplib_lines.specs.TextLine.{TextLine, other-line, type-line, format-line, node-section, weight-section, eof-line, Parts, whole, parts, when, numbersOr, partsLine, atColon, sectionOf, valued, keywordOf, weighingOf, weighingLine, dimensionOf, lineOf}
+use Rattle.tsplib_lines.specs.declared.text_line.Keyword.{Keyword}
+use Rattle.tsplib_lines.specs.declared.text_line.Keyword.the-variants as keyword
+use Rattle.tsplib_lines.specs.declared.text_line.NamedWeighing.{NamedWeighing}
+use Rattle.tsplib_lines.specs.declared.text_line.NamedWeighing.the-variants as named
+use Rattle.tsplib_lines.specs.declared.numbers.Partial.{Partial}
+use Rattle.tsplib_lines.specs.declared.numbers.Partial.the-variants.{Between, Within}
 use Rattle.tsplib_lines.specs.declared.numbers.Tally.{Tally}
 use Rattle.tsplib_lines.specs.declared.numbers.Numbers.the-variants.{Some, Nothing}
 use Rattle.tsplib_lines.proofs.NumbersExact.{some-is, none-some, with-some}
@@ -29,27 +29,27 @@ use Rattle.tsplib_lines.proofs.LineReading.{tally-some, tally-empty}
 use Rattle.tsplib.specs.Judging.{wholeLines, linesOf}
 use Rattle.tsplib.specs.Gathering.{numbersOf, gathered}
 use Rattle.tsplib.specs.asks.Gathering.{RoomFor, WroteNumbers, WroteTo, begun, endedBy, grown, placeBehind, takenFrom}
-use Rattle.tsplib.specs.declared.gathering.Spot.{Spot}
+use Rattle.tsplib.specs.declared.gathering.Slot.{Slot}
 use Rattle.tsplib.proofs.Entries.{wrote-nothing, wrote-more, drop-both}
 use Rattle.tsplib.proofs.TextLines.{lines-next, lines-none, next-line, last-part}
 
 -- the number that a byte ends
-pub ended-none : (b : ℕ) (p : Place) → (b ≡ blank → ⊥) → endedBy b p ≡ []
+pub ended-none : (b : ℕ) (p : Partial) → (b ≡ blank → ⊥) → endedBy b p ≡ []
 unfolding endedBy
 ended-none b p h = rw (endedBy, ne-eqb b blank h)
 
-pub ended-begun : (b : ℕ) (p : Place) → b ≡ blank → endedBy b p ≡ begun p
+pub ended-begun : (b : ℕ) (p : Partial) → b ≡ blank → endedBy b p ≡ begun p
 unfolding endedBy
 ended-begun b p h = rw (endedBy, eq-eqb b blank h)
 
 -- the numbers that are taken are those of the text
-taken-blank : (p : Place) (t : List ℕ) {xs : List ℕ} → ((q : Place) (ys : List ℕ) → numbersFrom q t ≡ some ys → takenFrom q t ≡ ys)
-    → atBlank p (λ (q : Place). numbersFrom q t) ≡ some xs → begun p ++ takenFrom Between t ≡ xs
+taken-blank : (p : Partial) (t : List ℕ) {xs : List ℕ} → ((q : Partial) (ys : List ℕ) → numbersFrom q t ≡ some ys → takenFrom q t ≡ ys)
+    → atBlank p (λ (q : Partial). numbersFrom q t) ≡ some xs → begun p ++ takenFrom Between t ≡ xs
 taken-blank Between t {xs} ih e = ih Between xs e
 taken-blank (Within v) t {xs} ih e = with-some v (numbersFrom Between t) e (λ ys f g. ap (λ (zs : List ℕ). v ∷ zs) (ih Between ys f) ∙ g)
 
-taken-digit : (b : ℕ) (p : Place) (t : List ℕ) {xs : List ℕ} → 48 ≤ b → b ≤ 57 → ((q : Place) (ys : List ℕ) → numbersFrom q t ≡ some ys → takenFrom q t ≡ ys)
-    → atDigit (b - 48) p (λ (q : Place). numbersFrom q t) ≡ some xs → takenFrom (Within (grown b p)) t ≡ xs
+taken-digit : (b : ℕ) (p : Partial) (t : List ℕ) {xs : List ℕ} → 48 ≤ b → b ≤ 57 → ((q : Partial) (ys : List ℕ) → numbersFrom q t ≡ some ys → takenFrom q t ≡ ys)
+    → atDigit (b - 48) p (λ (q : Partial). numbersFrom q t) ≡ some xs → takenFrom (Within (grown b p)) t ≡ xs
 taken-digit b Between t {xs} l h ih e =
     let d : b % 16 ≡ b - 48 = omega arith in
     ap (λ (v : ℕ). takenFrom (Within v) t) d ∙ ih (Within (b - 48)) xs e
@@ -64,16 +64,16 @@ taken-digit b (Within v) t {xs} l h ih e = go (ltb (10 * v + (b - 48)) numberLim
         ap (λ (n : ℕ). takenFrom (Within n) t) m ∙ ih (Within (10 * v + (b - 48))) xs e
     go false f e = none-some e
 
-taken : (t : List ℕ) (p : Place) (xs : List ℕ) → numbersFrom p t ≡ some xs → takenFrom p t ≡ xs
+taken : (t : List ℕ) (p : Partial) (xs : List ℕ) → numbersFrom p t ≡ some xs → takenFrom p t ≡ xs
 unfolding numbersFrom takenFrom endedBy placeBehind isDigit
 taken [] Between xs e = some-is e
 taken [] (Within v) xs e = some-is e
 taken (b ∷ t) p xs e = go (eqb b blank) (isDigit b) refl (taken t) e
   where
-    go : (x y : Bool) → isDigit b ≡ y → ((q : Place) (ys : List ℕ) → numbersFrom q t ≡ some ys → takenFrom q t ≡ ys)
+    go : (x y : Bool) → isDigit b ≡ y → ((q : Partial) (ys : List ℕ) → numbersFrom q t ≡ some ys → takenFrom q t ≡ ys)
         → (elim x [
-          | true ↦ atBlank p (λ (q : Place). numbersFrom q t)
-          | false ↦ elim y [ true ↦ atDigit (b - 48) p (λ (q : Place). numbersFrom q t) | false ↦ none ]
+          | true ↦ atBlank p (λ (q : Partial). numbersFrom q t)
+          | false ↦ elim y [ true ↦ atDigit (b - 48) p (λ (q : Partial). numbersFrom q t) | false ↦ none ]
         ]) ≡ some xs
         → (elim x [ true ↦ begun p | false ↦ [] ]) ++ takenFrom (elim x [ true ↦ Between | false ↦ Within (grown b p) ]) t ≡ xs
     go true y f ih e = taken-blank p t ih e
@@ -85,7 +85,7 @@ no-tally : {t : Tally} → talliedOf noTally none ≡ Some t → ⊥
 unfolding talliedOf
 no-tally e = let z : _≡_ {A = ℕ} 0 1 = cc in omega arith
 
-when-none : (x : Bool) (l m : Line) → numbersOf l ≡ [] → numbersOf m ≡ [] → numbersOf (when x l m) ≡ []
+when-none : (x : Bool) (l m : TextLine) → numbersOf l ≡ [] → numbersOf m ≡ [] → numbersOf (when x l m) ≡ []
 when-none true l m e f = e
 when-none false l m e f = f
 
@@ -145,7 +145,7 @@ line-numbers-some l {t} e = go (numbersFrom Between l) refl e
     go (some (x ∷ xs)) f e = taken l Between (x ∷ xs) f
 
 -- the loop over the bytes of a line
-pub record Writing (text : List ℕ) (skip : ℕ) (out₀ : List ℕ) (at : ℕ) (p : Place) (spot : Spot) (i : ℕ) (out : List ℕ) : Type 0 where
+pub record Writing (text : List ℕ) (skip : ℕ) (out₀ : List ℕ) (at : ℕ) (p : Partial) (spot : Slot) (i : ℕ) (out : List ℕ) : Type 0 where
   pub inside : i ≤ length text
   pub done : List ℕ
   pub split : drop skip (takenFrom Between text) ≡ done ++ drop (spot .skip) (takenFrom p (drop i text))
@@ -160,7 +160,7 @@ next-room {out₀} {out} {at} {r} {all} {done} next rest m e w = record {
   room = omega (arith, m .room, ap length e, length-append done (next ++ rest), length-append next rest, w .next, w .wrote .kept);
 }
 
-module _ {text : List ℕ} {skip : ℕ} {out₀ : List ℕ} {at : ℕ} {p : Place} {spot : Spot} {i : ℕ} {out : List ℕ} (w : Writing text skip out₀ at p spot i out) where
+module _ {text : List ℕ} {skip : ℕ} {out₀ : List ℕ} {at : ℕ} {p : Partial} {spot : Slot} {i : ℕ} {out : List ℕ} (w : Writing text skip out₀ at p spot i out) where
   module _ (h : i < length text) where
     rest : List ℕ
     rest = takenFrom (placeBehind (getD text i 0) p) (drop (i + 1) text)
@@ -175,8 +175,8 @@ module _ {text : List ℕ} {skip : ℕ} {out₀ : List ℕ} {at : ℕ} {p : Plac
     pub ended-room : RoomFor out₀ at (drop skip (takenFrom Between text)) → RoomFor out (spot .at) (drop (spot .skip) (endedBy (getD text i 0) p))
     ended-room m = next-room (drop (spot .skip) (endedBy (getD text i 0) p)) (drop (spot .skip - length (endedBy (getD text i 0) p)) rest) m next-split (w .wrote)
 
-    module _ {spot′ : Spot} {out′ : List ℕ} (e : WroteTo out spot (endedBy (getD text i 0) p) spot′ out′) where
-      pub writing-on : {q : Place} → q ≡ placeBehind (getD text i 0) p → Writing text skip out₀ at q spot′ (i + 1) out′
+    module _ {spot′ : Slot} {out′ : List ℕ} (e : WroteTo out spot (endedBy (getD text i 0) p) spot′ out′) where
+      pub writing-on : {q : Partial} → q ≡ placeBehind (getD text i 0) p → Writing text skip out₀ at q spot′ (i + 1) out′
       unfolding rest
       writing-on {q} f = record {
         inside = omega arith;
@@ -185,7 +185,7 @@ module _ {text : List ℕ} {skip : ℕ} {out₀ : List ℕ} {at : ℕ} {p : Plac
             next-split
             ∙ sym (append-assoc (w .done) (drop (spot .skip) (endedBy (getD text i 0) p)) (drop (spot .skip - length (endedBy (getD text i 0) p)) rest))
             ∙ ap₂
-            (λ (k : ℕ) (x : Place). (w .done ++ drop (spot .skip) (endedBy (getD text i 0) p)) ++ drop k (takenFrom x (drop (i + 1) text)))
+            (λ (k : ℕ) (x : Partial). (w .done ++ drop (spot .skip) (endedBy (getD text i 0) p)) ++ drop k (takenFrom x (drop (i + 1) text)))
             (sym (e .skipped))
             (sym f);
         wrote = wrote-more (w .wrote) (e .wrote);
@@ -199,7 +199,7 @@ module _ {text : List ℕ} {skip : ℕ} {out₀ : List ℕ} {at : ℕ} {p : Plac
     pub begun-room : RoomFor out₀ at (drop skip (takenFrom Between text)) → RoomFor out (spot .at) (drop (spot .skip) (begun p))
     begun-room m = next-room (drop (spot .skip) (begun p)) [] m (last-split ∙ ap (λ (t : List ℕ). w .done ++ t) (sym (append-nil (drop (spot .skip) (begun p))))) (w .wrote)
 
-    pub writing-done : {r : Spot} {left : List ℕ} → WroteTo out spot (begun p) r left → WroteNumbers out₀ at (drop skip (takenFrom Between text)) (r .at) left
+    pub writing-done : {r : Slot} {left : List ℕ} → WroteTo out spot (begun p) r left → WroteNumbers out₀ at (drop skip (takenFrom Between text)) (r .at) left
     writing-done {r} {left} e = subst (λ (xs : List ℕ). WroteNumbers out₀ at xs (r .at) left) (sym last-split) (wrote-more (w .wrote) (e .wrote))
 
 -- the loop over the lines
@@ -221,7 +221,7 @@ module _ {text : List ℕ} {skip : ℕ} {out₀ : List ℕ} {from at : ℕ} {out
   unfolding linesOf gathered wholeLines
   gathering-ends h = all-done (ap (λ (t : List ℕ). gathered skip (linesOf t)) (drop-of-length-le text h))
 
-  module _ {r : ℕ} (f : Found text from newline r) where
+  module _ {r : ℕ} (f : FoundByte text from newline r) where
     pub gathering-unfinished : r ≡ length text → WroteNumbers out₀ 0 (gathered skip (linesOf text)) at out
     unfolding gathered
     gathering-unfinished e = all-done (ap (gathered skip) (lines-none (drop from text) (last-part f e)))
@@ -232,7 +232,7 @@ module _ {text : List ℕ} {skip : ℕ} {out₀ : List ℕ} {from at : ℕ} {out
       next-lines =
           g .split
           ∙ ap (λ (t : List ℕ). g .done ++ gathered skip (linesOf t)) (next-line f h)
-          ∙ ap (λ (ls : List Line). g .done ++ gathered skip ls) (lines-next (take (r - from) (drop from text)) (drop (r + 1) text) (f .passed))
+          ∙ ap (λ (ls : List TextLine). g .done ++ gathered skip ls) (lines-next (take (r - from) (drop from text)) (drop (r + 1) text) (f .passed))
 
       pub line-room : RoomFor out₀ 0 (gathered skip (linesOf text)) → RoomFor out at (drop skip (numbersOf (lineOf (take (r - from) (drop from text)))))
       line-room m = next-room (drop skip (numbersOf (lineOf (take (r - from) (drop from text))))) (gathered skip (linesOf (drop (r + 1) text))) m next-lines (g .wrote)
@@ -246,11 +246,11 @@ module _ {text : List ℕ} {skip : ℕ} {out₀ : List ℕ} {from at : ℕ} {out
       }
 
 -- the ways out of `place_behind`
-module _ {b : ℕ} (p : Place) where
+module _ {b : ℕ} (p : Partial) where
   pub behind-blank : b ≡ blank → Between ≡ placeBehind b p
   unfolding placeBehind
   behind-blank e = sym (rw (placeBehind, eq-eqb b blank e))
 
-  pub behind-digit : (b ≡ blank → ⊥) → {q : Place} {v : ℕ} → p ≡ q → v ≡ grown b q → Within v ≡ placeBehind b p
+  pub behind-digit : (b ≡ blank → ⊥) → {q : Partial} {v : ℕ} → p ≡ q → v ≡ grown b q → Within v ≡ placeBehind b p
   unfolding placeBehind
   behind-digit h e f = ap Within (f ∙ ap (grown b) (sym e)) ∙ sym (rw (placeBehind, ne-eqb b blank h))

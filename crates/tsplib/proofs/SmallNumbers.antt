@@ -10,10 +10,10 @@ use lib.ListN.{getD, drop}
 use borrow.Author.Tests.{le-leb}
 use Rattle.lists.specs.Test.{allAtMost}
 use Rattle.lists.proofs.Bools.{and-right, and-both}
-use Rattle.lengths.proofs.Limits.{limit-each}
+use Rattle.lengths.proofs.AtMostTests.{at-most-each}
 use Rattle.tsplib_lines.specs.Numbers.{numberLimit, NumberText, padded, last, more, numbersIn}
 use Rattle.tsplib_lines.proofs.NumbersExact.{numbers-stand}
-use Rattle.tsplib_lines.specs.Line.{numbersOr, partsLine, atColon, lineOf}
+use Rattle.tsplib_lines.specs.TextLine.{numbersOr, partsLine, atColon, lineOf}
 use Rattle.tsplib.specs.Judging.{wholeLines, linesOf}
 use Rattle.tsplib.specs.Gathering.{numbersOf, gathered}
 use Rattle.tsplib.proofs.NumbersGathered.{parts-none}
@@ -52,4 +52,4 @@ gathered-small k (t ∷ ts) =
 
 pub numbers-fit : (k : ℕ) (text : List ℕ) (i : ℕ) → getD (gathered k (linesOf text)) i 0 < numberLimit
 unfolding linesOf
-numbers-fit k text i = let h = limit-each largestNumber (gathered k (linesOf text)) (gathered-small k (wholeLines text)) i in omega arith
+numbers-fit k text i = let h = at-most-each largestNumber (gathered k (linesOf text)) (gathered-small k (wholeLines text)) i in omega arith

@@ -9,8 +9,8 @@ use lib.Dec.{eqb}
 use lib.ListN.{length, getD, take, drop, length-drop}
 use lib.Seq.{split-at, getD-drop, drop-drop}
 use Rattle.tsplib_lines.specs.Words.{newline, free}
-use Rattle.tsplib_lines.specs.asks.Words.{Found}
-use Rattle.tsplib_lines.specs.Line.{lineOf}
+use Rattle.tsplib_lines.specs.asks.Words.{FoundByte}
+use Rattle.tsplib_lines.specs.TextLine.{lineOf}
 use Rattle.tsplib_lines.proofs.LineReading.{part-end}
 use Rattle.tsplib.specs.Judging.{withByte, wholeLines, unfinished, linesOf}
 
@@ -66,7 +66,7 @@ rest-none [] h = refl
 rest-none (b ∷ t) h = rw (unfinished, h)
 
 -- a line that ends in a newline, and a rest that does not
-module _ {text : List ℕ} {at c r : ℕ} (f : Found text at c r) where
+module _ {text : List ℕ} {at c r : ℕ} (f : FoundByte text at c r) where
   pub next-line : (r ≡ length text → ⊥) → drop at text ≡ take (r - at) (drop at text) ++ c ∷ drop (r + 1) text
   next-line h =
       let l : r - at < length (drop at text) = omega (arith, f .low, f .high, h, length-drop at text) in

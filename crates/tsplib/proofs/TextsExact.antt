@@ -8,32 +8,32 @@ use native.Mathlib.Omega.{arith}
 use lib.Dec.{eqb}
 use borrow.Author.Tests.{eqb-true}
 use Rattle.tsplib_lines.specs.Words.{newline, free}
-use Rattle.tsplib_lines.specs.Line.{Line, other-line, lineOf, toldOf}
-use Rattle.tsplib_lines.specs.declared.line.Weighing.{Weighing}
+use Rattle.tsplib_lines.specs.TextLine.{TextLine, other-line, lineOf, toldOf}
+use Rattle.tsplib_lines.specs.declared.text_line.Weighing.{Weighing}
 use Rattle.tsplib_lines.proofs.LinesExact.{LineRead, is, other, line-read, reads-line}
 use Rattle.tsplib.specs.Language.{Text, Tsplib}
 use Rattle.tsplib.specs.Language as language
-use Rattle.tsplib.specs.State.{noLines, stepOf, onHeader, onNodes, onWeights, bodyOf}
+use Rattle.tsplib.specs.State.{noLines, stepOf, onSpecification, onNodes, onWeights, bodyOf}
 use Rattle.tsplib.specs.Gathering.{gathered}
 use Rattle.tsplib.specs.Judging.{withByte, wholeLines, unfinished, linesOf, judged, judgedFrom}
-use Rattle.tsplib.specs.Told.{joined}
+use Rattle.tsplib.specs.FaultLine.{joined}
 use Rattle.tsplib.specs.declared.state.State.{State}
-use Rattle.tsplib.specs.declared.state.State.the-variants.{Header, Nodes, Weights, Ended}
+use Rattle.tsplib.specs.declared.state.State.the-variants.{Specification, Nodes, Weights, Ended}
 use Rattle.tsplib.specs.declared.state.Stepped.{Stepped}
 use Rattle.tsplib.specs.declared.state.Stepped.the-variants as stepped
-use Rattle.tsplib.specs.declared.judging.Judged.the-variants.{Instance, Fault}
+use Rattle.tsplib.specs.declared.judging.JudgedText.the-variants.{Described, Fault}
 use Rattle.tsplib.proofs.Exact.{ran, onTo, skipFor, accepted-rest, rest-accepted, instance-rest, rest-instance, instance-gathered}
-use Rattle.tsplib.proofs.Steps.{faulty}
+use Rattle.tsplib.proofs.LegalSteps.{faulty}
 use Rattle.tsplib.proofs.TextLines.{false-true, lines-next, rest-next, whole-none}
 use Rattle.tsplib.proofs.Verdicts.{judged-accepted, accepted-judged, largest}
 
 -- a text of the language has its lines, and nothing behind them
-pub text-lines : {ls : List Line} {t : List ℕ} → Text ls t → linesOf t ≡ ls
+pub text-lines : {ls : List TextLine} {t : List ℕ} → Text ls t → linesOf t ≡ ls
 unfolding linesOf wholeLines
 text-lines language.none = refl
-text-lines (language.line {bytes = b} {rest = r} f h u) = lines-next b r f ∙ ap₂ (λ (l : Line) (ls : List Line). l ∷ ls) (reads-line h) (text-lines u)
+text-lines (language.line {bytes = b} {rest = r} f h u) = lines-next b r f ∙ ap₂ (λ (l : TextLine) (ls : List TextLine). l ∷ ls) (reads-line h) (text-lines u)
 
-pub text-finished : {ls : List Line} {t : List ℕ} → Text ls t → unfinished t ≡ []
+pub text-finished : {ls : List TextLine} {t : List ℕ} → Text ls t → unfinished t ≡ []
 unfolding unfinished
 text-finished language.none = refl
 text-finished (language.line {bytes = b} {rest = r} f h u) = rest-next b r ∙ text-finished u
@@ -94,8 +94,8 @@ whole-joined (b ∷ t) = go (free newline (b ∷ t)) refl (whole-joined t)
 
 -- no state takes a line that the language does not know
 other-fault : (s : State) → stepOf s (toldOf other-line) ≡ stepped.Fault
-unfolding stepOf onHeader onNodes onWeights toldOf bodyOf
-other-fault (Header nm ty p w) = refl
+unfolding stepOf onSpecification onNodes onWeights toldOf bodyOf
+other-fault (Specification nm ty p w) = refl
 other-fault (Nodes n r k) = refl
 other-fault (Weights n left) = refl
 other-fault (Ended n w) = refl
@@ -106,7 +106,7 @@ unfolding ran joined
 lines-text [] s f e = language.none
 lines-text (l ∷ ls) s {t} (more f g) e = go (stepOf s (toldOf (lineOf l))) refl e (λ u. lines-text ls u g)
   where
-    read : (x : Line) → LineRead l x → (y : Stepped) {u : State} → stepOf s (toldOf x) ≡ y → y ≡ stepped.To u → Text (map lineOf ls) (joined ls []) → Text (x ∷ map lineOf ls) (l ++ newline ∷ joined ls [])
+    read : (x : TextLine) → LineRead l x → (y : Stepped) {u : State} → stepOf s (toldOf x) ≡ y → y ≡ stepped.To u → Text (map lineOf ls) (joined ls []) → Text (x ∷ map lineOf ls) (l ++ newline ∷ joined ls [])
     read x (is r) y e h m = language.line f r m
     read x other y e h m = faulty (sym (other-fault s) ∙ e ∙ h)
 
@@ -116,10 +116,10 @@ lines-text (l ∷ ls) s {t} (more f g) e = go (stepOf s (toldOf (lineOf l))) ref
     go stepped.Fault e h ih = faulty h
 
 -- an accepted text is a text of the language, with its data
-pub accepted-text : (text : List ℕ) {n : ℕ} {w : Weighing} {most : ℕ} → judged text ≡ Instance n w most → Tsplib text n w (gathered (skipFor w) (linesOf text))
+pub accepted-text : (text : List ℕ) {n : ℕ} {w : Weighing} {maximum : ℕ} → judged text ≡ Described n w maximum → Tsplib text n w (gathered (skipFor w) (linesOf text))
 unfolding judged linesOf
-accepted-text text {n} {w} {most} e =
-    let v = judged-accepted (linesOf text) noLines 0 0 (unfinished text) n w most e in
+accepted-text text {n} {w} {maximum} e =
+    let v = judged-accepted (linesOf text) noLines 0 0 (unfinished text) n w maximum e in
     let whole : joined (wholeLines text) [] ≡ text = ap (joined (wholeLines text)) (sym (v .nothing-behind)) ∙ whole-joined text in
     record {
       lines = linesOf text;
@@ -129,7 +129,7 @@ accepted-text text {n} {w} {most} e =
 
 -- a text of the language is accepted, and its data are the numbers of its lines
 pub record AcceptedAs (text : List ℕ) (n : ℕ) (w : Weighing) (xs : List ℕ) : Type 0 where
-  pub verdict : judged text ≡ Instance n w (largest 0 (linesOf text))
+  pub verdict : judged text ≡ Described n w (largest 0 (linesOf text))
   pub data-are : gathered (skipFor w) (linesOf text) ≡ xs
 
 pub text-ran : {text : List ℕ} {n : ℕ} {w : Weighing} {xs : List ℕ} → Tsplib text n w xs → ran noLines (linesOf text) ≡ stepped.To (Ended n w)
@@ -147,6 +147,6 @@ pub text-once : {text : List ℕ} {m n : ℕ} {v w : Weighing} {xs ys : List ℕ
 text-once {text} {m} {n} {v} {w} t u =
     let a = text-accepted text t in
     let b = text-accepted text u in
-    let e : Instance m v (largest 0 (linesOf text)) ≡ Instance n w (largest 0 (linesOf text)) = sym (a .verdict) ∙ b .verdict in
+    let e : Described m v (largest 0 (linesOf text)) ≡ Described n w (largest 0 (linesOf text)) = sym (a .verdict) ∙ b .verdict in
     let same : v ≡ w = cc in
     (cc, same, sym (a .data-are) ∙ ap (λ (z : Weighing). gathered (skipFor z) (linesOf text)) same ∙ b .data-are)

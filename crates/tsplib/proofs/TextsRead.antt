@@ -21,15 +21,15 @@ use Rattle.lengths.specs.declared.outcome.Outcome.{Outcome}
 use Rattle.lengths.specs.declared.outcome.Outcome.the-variants as measure
 use Rattle.lengths.proofs.Edges.{edgeCount-tri, tri-some}
 use Rattle.lengths.proofs.Instances.{Admits, out-of-range}
-use Rattle.tsplib_lines.specs.declared.line.Weighing.the-variants.{Explicit, Rule}
+use Rattle.tsplib_lines.specs.declared.text_line.Weighing.the-variants.{Explicit, Rule}
 use Rattle.tsplib.specs.State.{noLines}
 use Rattle.tsplib.specs.Judging.{linesOf, unfinished, judged}
 use Rattle.tsplib.specs.Gathering.{gathered}
 use Rattle.tsplib.specs.Reading.{coordinatesOf, weightsOf, ofMeasured, ofWeights, filledWith, readAs, leftAs, ReadAs}
 use Rattle.tsplib.specs.asks.Gathering.{RoomFor, WroteNumbers}
 use Rattle.tsplib.specs.asks.Reading.{GatheredAsked, CoordinatesAsked, CoordinatesRead, WeightsAsked, WeightsRead}
-use Rattle.tsplib.specs.declared.judging.Judged.{Judged}
-use Rattle.tsplib.specs.declared.judging.Judged.the-variants as verdict
+use Rattle.tsplib.specs.declared.judging.JudgedText.{JudgedText}
+use Rattle.tsplib.specs.declared.judging.JudgedText.the-variants as verdict
 use Rattle.tsplib.specs.declared.reading.Read.{Read}
 use Rattle.tsplib.specs.declared.reading.Read.the-variants.{Points, Refused}
 use Rattle.tsplib.proofs.Exact.{accepted-rest, coordinates-count, upper-row-count}
@@ -43,7 +43,7 @@ filled {out} {left} {xs} {r} e w =
     sym (take-all (4 * r) left l) ∙ w .wrote .front
 
 -- weights
-module _ {text : List ℕ} {n most : ℕ} (table : List ℕ) (a : WeightsAsked text n most) where
+module _ {text : List ℕ} {n maximum : ℕ} (table : List ℕ) (a : WeightsAsked text n maximum) where
   weights-refused : (k : ℕ) → ofWeights n (weightsOf (linesOf text)) (length (whole32 table)) ≡ Refused k 0 → WeightsRead text n table (Refused k 0) table
   weights-refused k h = record { answered = sym h; table-left = sym (ap (λ (x : Read). filledWith x (weightsOf (linesOf text)) table) h) }
 
@@ -60,10 +60,10 @@ module _ {text : List ℕ} {n most : ℕ} (table : List ℕ) (a : WeightsAsked t
       size : length (whole32 table) ≡ edgeCount n
       size = sized ∙ ap edgeCount (m .points)
 
-      pub weights-limit : mostLength < most → WeightsRead text n table (Refused 5 0) table
+      pub weights-limit : mostLength < maximum → WeightsRead text n table (Refused 5 0) table
       unfolding ofWeights
       weights-limit h = weights-refused 5
-          (rw (ofWeights, m .range, eq-eqb (length (whole32 table)) (edgeCount n) size, a .largest mostLength ∙ lt-leb most mostLength h))
+          (rw (ofWeights, m .range, eq-eqb (length (whole32 table)) (edgeCount n) size, a .largest mostLength ∙ lt-leb maximum mostLength h))
 
       bytes : length table ≡ 4 * length (weightsOf (linesOf text))
       bytes =
@@ -73,11 +73,11 @@ module _ {text : List ℕ} {n most : ℕ} (table : List ℕ) (a : WeightsAsked t
       pub weights-room : RoomFor table 0 (weightsOf (linesOf text))
       weights-room = record { room = omega (arith, bytes) }
 
-      pub weights-done : {r : ℕ} {left : List ℕ} → most ≤ mostLength → WroteNumbers table 0 (weightsOf (linesOf text)) r left → WeightsRead text n table (Points n) left
+      pub weights-done : {r : ℕ} {left : List ℕ} → maximum ≤ mostLength → WroteNumbers table 0 (weightsOf (linesOf text)) r left → WeightsRead text n table (Points n) left
       unfolding ofWeights
       weights-done h w =
           let d : ofWeights n (weightsOf (linesOf text)) (length (whole32 table)) ≡ Points n =
-          rw (ofWeights, m .range, eq-eqb (length (whole32 table)) (edgeCount n) size, a .largest mostLength ∙ le-leb most mostLength h) in
+          rw (ofWeights, m .range, eq-eqb (length (whole32 table)) (edgeCount n) size, a .largest mostLength ∙ le-leb maximum mostLength h) in
           record { answered = sym d; table-left = filled bytes w ∙ sym (ap (λ (x : Read). filledWith x (weightsOf (linesOf text)) table) d) }
 
 -- coordinates
@@ -119,20 +119,20 @@ buffer-asked {i = i} buffer m a e = record {
 }
 
 -- the texts that the judge accepts
-module _ {text : List ℕ} {n most : ℕ} where
-  pub weights-asked : judged text ≡ verdict.Instance n Explicit most → WeightsAsked text n most
+module _ {text : List ℕ} {n maximum : ℕ} where
+  pub weights-asked : judged text ≡ verdict.Described n Explicit maximum → WeightsAsked text n maximum
   unfolding judged
   weights-asked e =
-      let v = judged-accepted (linesOf text) noLines 0 0 (unfinished text) n Explicit most e in
+      let v = judged-accepted (linesOf text) noLines 0 0 (unfinished text) n Explicit maximum e in
       record {
         all = upper-row-count (accepted-rest (linesOf text) noLines (v .ends));
-        largest = λ limit. sym (ap (λ (m : ℕ). leb m limit) (v .most-is) ∙ largest-limit limit 0 (linesOf text) ∙ ap (λ (b : Bool). b && allAtMost limit (gathered 0 (linesOf text))) (le-leb 0 limit (omega arith)));
+        largest = λ limit. sym (ap (λ (m : ℕ). leb m limit) (v .maximum-is) ∙ largest-limit limit 0 (linesOf text) ∙ ap (λ (b : Bool). b && allAtMost limit (gathered 0 (linesOf text))) (le-leb 0 limit (omega arith)));
       }
 
-  pub coordinates-asked : {r : ℕ} → judged text ≡ verdict.Instance n (Rule r) most → CoordinatesAsked text n
+  pub coordinates-asked : {r : ℕ} → judged text ≡ verdict.Described n (Rule r) maximum → CoordinatesAsked text n
   unfolding judged
   coordinates-asked {r} e =
-      let v = judged-accepted (linesOf text) noLines 0 0 (unfinished text) n (Rule r) most e in
+      let v = judged-accepted (linesOf text) noLines 0 0 (unfinished text) n (Rule r) maximum e in
       record { all = coordinates-count (accepted-rest (linesOf text) noLines (v .ends)); fit = numbers-fit 1 text }
 
 -- the ways out of `read_tsplib` and `tsplib_points`
@@ -140,20 +140,20 @@ module _ {text : List ℕ} (table : List ℕ) where
   pub read-fault : {line : ℕ} → judged text ≡ verdict.Fault line → ReadAs text table (Refused 19 line) table
   unfolding readAs leftAs
   read-fault e = record {
-    answered = sym (ap (λ (j : Judged). readAs j (linesOf text) (length (whole32 table))) e);
-    table-left = sym (ap (λ (j : Judged). leftAs j (linesOf text) table) e);
+    answered = sym (ap (λ (j : JudgedText). readAs j (linesOf text) (length (whole32 table))) e);
+    table-left = sym (ap (λ (j : JudgedText). leftAs j (linesOf text) table) e);
   }
 
-  pub read-coordinates-as : {n r most : ℕ} {x : Read} {left : List ℕ} → judged text ≡ verdict.Instance n (Rule r) most → CoordinatesRead text n r table x left → ReadAs text table x left
+  pub read-coordinates-as : {n r maximum : ℕ} {x : Read} {left : List ℕ} → judged text ≡ verdict.Described n (Rule r) maximum → CoordinatesRead text n r table x left → ReadAs text table x left
   unfolding readAs leftAs
   read-coordinates-as e c = record {
-    answered = c .answered ∙ sym (ap (λ (j : Judged). readAs j (linesOf text) (length (whole32 table))) e);
-    table-left = c .table-left ∙ sym (ap (λ (j : Judged). leftAs j (linesOf text) table) e);
+    answered = c .answered ∙ sym (ap (λ (j : JudgedText). readAs j (linesOf text) (length (whole32 table))) e);
+    table-left = c .table-left ∙ sym (ap (λ (j : JudgedText). leftAs j (linesOf text) table) e);
   }
 
-  pub read-weights-as : {n most : ℕ} {x : Read} {left : List ℕ} → judged text ≡ verdict.Instance n Explicit most → WeightsRead text n table x left → ReadAs text table x left
+  pub read-weights-as : {n maximum : ℕ} {x : Read} {left : List ℕ} → judged text ≡ verdict.Described n Explicit maximum → WeightsRead text n table x left → ReadAs text table x left
   unfolding readAs leftAs
   read-weights-as e c = record {
-    answered = c .answered ∙ sym (ap (λ (j : Judged). readAs j (linesOf text) (length (whole32 table))) e);
-    table-left = c .table-left ∙ sym (ap (λ (j : Judged). leftAs j (linesOf text) table) e);
+    answered = c .answered ∙ sym (ap (λ (j : JudgedText). readAs j (linesOf text) (length (whole32 table))) e);
+    table-left = c .table-left ∙ sym (ap (λ (j : JudgedText). leftAs j (linesOf text) table) e);
   }

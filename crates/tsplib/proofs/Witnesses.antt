@@ -4,16 +4,16 @@ use mathlib.Core.Path.{_≡_, refl, subst}
 use mathlib.Core.List.{List, [], _∷_, _++_, map}
 use Rattle.tsplib_lines.specs.Words.{colon, free, afterBlanks, onlyBlanks, wordThenBlanks, isSole, nameWord, commentWord, typeWord, tspWord, dimensionWord, weightTypeWord, attWord, man2dWord, explicitWord, formatWord, upperRowWord, nodeSectionWord, weightSectionWord, eofWord}
 use Rattle.tsplib_lines.specs.Numbers.{isDigit, numbersFrom, numbersIn, counted, countedAll, totalOf, talliedOf}
-use Rattle.tsplib_lines.specs.Line.{atColon, keywordOf, weighingOf, sectionOf, dimensionOf, valued, partsLine, lineOf, toldOf}
-use Rattle.tsplib_lines.specs.declared.line.Weighing.the-variants.{Explicit, Rule}
+use Rattle.tsplib_lines.specs.TextLine.{atColon, keywordOf, weighingOf, sectionOf, dimensionOf, valued, partsLine, lineOf, toldOf}
+use Rattle.tsplib_lines.specs.declared.text_line.Weighing.the-variants.{Explicit, Rule}
 use Rattle.lengths.specs.Edge.{edgeCount}
 use Rattle.tsplib.specs.Language.{Tsplib}
-use Rattle.tsplib.specs.State.{weighNext, rowNext, weighedAs, onName, onType, onDimension, openNodes, openWeights, onHeader, onNode, onNodes, onWeights, stepOf, bodyOf}
+use Rattle.tsplib.specs.State.{weighNext, rowNext, weighedAs, onName, onType, onDimension, openNodes, openWeights, onSpecification, onNode, onNodes, onWeights, stepOf, bodyOf}
 use Rattle.tsplib.specs.Gathering.{numbersOf, gathered}
-use Rattle.tsplib.specs.Judging.{wholeLines, unfinished, linesOf, mostOf, judgedEnd, judgedFrom, judged}
-use Rattle.tsplib.specs.Told.{joined}
-use Rattle.tsplib.specs.declared.judging.Judged.{Judged}
-use Rattle.tsplib.specs.declared.judging.Judged.the-variants.{Instance, Fault}
+use Rattle.tsplib.specs.Judging.{wholeLines, unfinished, linesOf, maximumOf, judgedEnd, judgedFrom, judged}
+use Rattle.tsplib.specs.FaultLine.{joined}
+use Rattle.tsplib.specs.declared.judging.JudgedText.{JudgedText}
+use Rattle.tsplib.specs.declared.judging.JudgedText.the-variants.{Described, Fault}
 use Rattle.tsplib.proofs.TextsExact.{accepted-text}
 
 -- coordinates: NAME : a:b, COMMENT: behind a blank and with no value, TYPE: TSP, DIMENSION :004, MAN_2D, the square with blanks at will
@@ -86,14 +86,14 @@ faults =
     ∷ []
 
 pub record Computed : Type 0 where
-  pub square-judged : judged square ≡ Instance 4 (Rule 4) 10
+  pub square-judged : judged square ≡ Described 4 (Rule 4) 10
   pub square-data : gathered 1 (linesOf square) ≡ 0 ∷ 0 ∷ 10 ∷ 0 ∷ 10 ∷ 10 ∷ 0 ∷ 10 ∷ []
-  pub lengths-judged : judged lengths ≡ Instance 4 Explicit 6
+  pub lengths-judged : judged lengths ≡ Described 4 Explicit 6
   pub lengths-data : gathered 0 (linesOf lengths) ≡ 1 ∷ 2 ∷ 3 ∷ 4 ∷ 5 ∷ 6 ∷ []
   pub faults-told : map (λ (f : Faulty). judged (f .text)) faults ≡ map (λ (f : Faulty). Fault (f .line)) faults
 
 pub computed : Computed
-unfolding square lengths faults joined free afterBlanks onlyBlanks wordThenBlanks isSole isDigit numbersFrom numbersIn counted countedAll totalOf talliedOf atColon keywordOf weighingOf sectionOf dimensionOf valued partsLine lineOf toldOf edgeCount weighNext rowNext weighedAs onName onType onDimension openNodes openWeights onHeader onNode onNodes onWeights stepOf numbersOf gathered wholeLines unfinished linesOf mostOf judgedEnd judgedFrom judged bodyOf
+unfolding square lengths faults joined free afterBlanks onlyBlanks wordThenBlanks isSole isDigit numbersFrom numbersIn counted countedAll totalOf talliedOf atColon keywordOf weighingOf sectionOf dimensionOf valued partsLine lineOf toldOf edgeCount weighNext rowNext weighedAs onName onType onDimension openNodes openWeights onSpecification onNode onNodes onWeights stepOf numbersOf gathered wholeLines unfinished linesOf maximumOf judgedEnd judgedFrom judged bodyOf
 computed = record { square-judged = refl; square-data = refl; lengths-judged = refl; lengths-data = refl; faults-told = refl }
 
 -- texts of the language

@@ -2,9 +2,9 @@
 use Prim.Native.Nat.{ℕ}
 use mathlib.Core.List.{List, [], _∷_, _++_}
 use lib.ListN.{drop}
-use Rattle.tsplib_lines.specs.Line.{Line, name-line, comment-line, type-line, format-line, node-section, weight-section, eof-line, other-line, dimension-line, weighing-line, number-line}
+use Rattle.tsplib_lines.specs.TextLine.{TextLine, name-line, comment-line, type-line, format-line, node-section, weight-section, eof-line, other-line, dimension-line, weighing-line, number-line}
 
-unfoldable pub numbersOf : Line → List ℕ
+unfoldable pub numbersOf : TextLine → List ℕ
 numbersOf name-line = []
 numbersOf comment-line = []
 numbersOf type-line = []
@@ -18,6 +18,6 @@ numbersOf (weighing-line w) = []
 numbersOf (number-line xs) = xs
 
 -- the numbers of all lines, without the first `skip` of each
-unfoldable pub gathered : ℕ → List Line → List ℕ
+unfoldable pub gathered : ℕ → List TextLine → List ℕ
 gathered skip [] = []
 gathered skip (l ∷ ls) = drop skip (numbersOf l) ++ gathered skip ls

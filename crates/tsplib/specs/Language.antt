@@ -6,12 +6,12 @@ use mathlib.Core.List.{List, [], _∷_, _++_}
 use lib.ListN.{length}
 use Rattle.lengths.specs.Edge.{edgeCount}
 use Rattle.tsplib_lines.specs.Words.{newline, free}
-use Rattle.tsplib_lines.specs.Line.{Line, name-line, comment-line, type-line, format-line, node-section, weight-section, eof-line, other-line, dimension-line, weighing-line, number-line, Reads}
-use Rattle.tsplib_lines.specs.declared.line.Weighing.{Weighing}
-use Rattle.tsplib_lines.specs.declared.line.Weighing.the-variants.{Explicit, Rule}
+use Rattle.tsplib_lines.specs.TextLine.{TextLine, name-line, comment-line, type-line, format-line, node-section, weight-section, eof-line, other-line, dimension-line, weighing-line, number-line, Reads}
+use Rattle.tsplib_lines.specs.declared.text_line.Weighing.{Weighing}
+use Rattle.tsplib_lines.specs.declared.text_line.Weighing.the-variants.{Explicit, Rule}
 
 -- the keyword lines
-pub data Keyword : Line → Type 0 where
+pub data Keyword : TextLine → Type 0 where
   name : Keyword name-line
   comment : Keyword comment-line
   type-tsp : Keyword type-line
@@ -19,9 +19,9 @@ pub data Keyword : Line → Type 0 where
   dimension : (n : ℕ) → Keyword (dimension-line n)
   weight-type : (w : Weighing) → Keyword (weighing-line w)
 
-pub data Keywords : List Line → Type 0 where
+pub data Keywords : List TextLine → Type 0 where
   none : Keywords []
-  more : {l : Line} {ls : List Line} → Keyword l → Keywords ls → Keywords (l ∷ ls)
+  more : {l : TextLine} {ls : List TextLine} → Keyword l → Keywords ls → Keywords (l ∷ ls)
 
 -- what one line adds to each count: NAME, TYPE and EDGE_WEIGHT_FORMAT lines, the values of DIMENSION and of EDGE_WEIGHT_TYPE
 pub record Adds : Type 0 where
@@ -34,7 +34,7 @@ pub record Adds : Type 0 where
 abbrev pub nothing : Adds
 nothing = record { names = 0; types = 0; formats = 0; dimensions = []; weighings = [] }
 
-unfoldable pub addsOf : Line → Adds
+unfoldable pub addsOf : TextLine → Adds
 addsOf name-line = record { names = 1; types = 0; formats = 0; dimensions = []; weighings = [] }
 addsOf comment-line = nothing
 addsOf type-line = record { names = 0; types = 1; formats = 0; dimensions = []; weighings = [] }
@@ -56,7 +56,7 @@ plus a b = record {
   weighings = a .weighings ++ b .weighings;
 }
 
-unfoldable pub allAdd : List Line → Adds
+unfoldable pub allAdd : List TextLine → Adds
 allAdd [] = nothing
 allAdd (l ∷ ls) = plus (addsOf l) (allAdd ls)
 
@@ -74,37 +74,37 @@ pub record Counts (a : Adds) (n : ℕ) (w : Weighing) : Type 0 where
   pub format : a .formats ≡ formatsFor w
 
 -- the lines before the section, "order is free"
-pub record Header (ls : List Line) (n : ℕ) (w : Weighing) : Type 0 where
+pub record Specification (ls : List TextLine) (n : ℕ) (w : Weighing) : Type 0 where
   pub keywords : Keywords ls
   pub counts : Counts (allAdd ls) n w
 
 -- "Node lines must come in order 1 to n with whole coordinates": the lines of the nodes after the first k, and their coordinates
-pub data Nodes : ℕ → ℕ → List Line → List ℕ → Type 0 where
+pub data Nodes : ℕ → ℕ → List TextLine → List ℕ → Type 0 where
   none : {n : ℕ} → Nodes n n [] []
-  node : {k n : ℕ} {ls : List Line} {cs : List ℕ} (x y : ℕ) → Nodes (suc k) n ls cs → Nodes k n (number-line (suc k ∷ x ∷ y ∷ []) ∷ ls) (x ∷ y ∷ cs)
+  node : {k n : ℕ} {ls : List TextLine} {cs : List ℕ} (x y : ℕ) → Nodes (suc k) n ls cs → Nodes k n (number-line (suc k ∷ x ∷ y ∷ []) ∷ ls) (x ∷ y ∷ cs)
 
 -- "weights may break over lines": so many weights, one or more to a line
-pub data Weights : ℕ → List Line → List ℕ → Type 0 where
+pub data Weights : ℕ → List TextLine → List ℕ → Type 0 where
   none : Weights 0 [] []
-  some : {ls : List Line} {ws : List ℕ} (k x : ℕ) (xs : List ℕ) → Weights k ls ws → Weights (length (x ∷ xs) + k) (number-line (x ∷ xs) ∷ ls) ((x ∷ xs) ++ ws)
+  some : {ls : List TextLine} {ws : List ℕ} (k x : ℕ) (xs : List ℕ) → Weights k ls ws → Weights (length (x ∷ xs) + k) (number-line (x ∷ xs) ∷ ls) ((x ∷ xs) ++ ws)
 
 -- the lines of an instance: its n, how it is weighed, and its coordinates or weights
-pub data Instance : List Line → ℕ → Weighing → List ℕ → Type 0 where
-  coordinates : {hs ls : List Line} {n r : ℕ} {cs : List ℕ} → Header hs n (Rule r) → Nodes 0 n ls cs
-      → Instance (hs ++ node-section ∷ (ls ++ eof-line ∷ [])) n (Rule r) cs
-  weights : {hs ls : List Line} {n : ℕ} {ws : List ℕ} → Header hs n Explicit → Weights (edgeCount n) ls ws
-      → Instance (hs ++ weight-section ∷ (ls ++ eof-line ∷ [])) n Explicit ws
+pub data InstanceLines : List TextLine → ℕ → Weighing → List ℕ → Type 0 where
+  coordinates : {hs ls : List TextLine} {n r : ℕ} {cs : List ℕ} → Specification hs n (Rule r) → Nodes 0 n ls cs
+      → InstanceLines (hs ++ node-section ∷ (ls ++ eof-line ∷ [])) n (Rule r) cs
+  weights : {hs ls : List TextLine} {n : ℕ} {ws : List ℕ} → Specification hs n Explicit → Weights (edgeCount n) ls ws
+      → InstanceLines (hs ++ weight-section ∷ (ls ++ eof-line ∷ [])) n Explicit ws
 
 -- the bytes of lines: "each ends in a newline"
-pub data Text : List Line → List ℕ → Type 0 where
+pub data Text : List TextLine → List ℕ → Type 0 where
   none : Text [] []
-  line : {l : Line} {ls : List Line} {bytes rest : List ℕ} → free newline bytes ≡ true → Reads bytes l → Text ls rest → Text (l ∷ ls) (bytes ++ newline ∷ rest)
+  line : {l : TextLine} {ls : List TextLine} {bytes rest : List ℕ} → free newline bytes ≡ true → Reads bytes l → Text ls rest → Text (l ∷ ls) (bytes ++ newline ∷ rest)
 
 -- a text of the language: its n, how it is weighed, and its coordinates or weights
 pub record Tsplib (text : List ℕ) (n : ℕ) (w : Weighing) (xs : List ℕ) : Type 0 where
-  pub lines : List Line
+  pub lines : List TextLine
   pub written : Text lines text
-  pub says : Instance lines n w xs
+  pub says : InstanceLines lines n w xs
 
 -- the text is outside the language
 abbrev pub Outside : List ℕ → Type 0

@@ -4,4 +4,4 @@ pub mod Judging
 pub mod Language
 pub mod Reading
 pub mod State
-pub mod Told
+pub mod FaultLine

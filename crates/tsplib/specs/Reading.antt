@@ -11,22 +11,22 @@ use Rattle.lengths.specs.Instance.{inRange, mostLength}
 use Rattle.lengths.specs.Measure.{measured, tableAfter}
 use Rattle.lengths.specs.declared.outcome.Outcome as measuring
 use Rattle.lengths.specs.declared.outcome.Outcome.the-variants as measure
-use Rattle.tsplib_lines.specs.Line.{Line}
-use Rattle.tsplib_lines.specs.declared.line.Weighing.{Weighing}
-use Rattle.tsplib_lines.specs.declared.line.Weighing.the-variants.{Explicit, Rule}
+use Rattle.tsplib_lines.specs.TextLine.{TextLine}
+use Rattle.tsplib_lines.specs.declared.text_line.Weighing.{Weighing}
+use Rattle.tsplib_lines.specs.declared.text_line.Weighing.the-variants.{Explicit, Rule}
 use Rattle.tsplib.specs.Judging.{judged, linesOf}
-use Rattle.tsplib.specs.Told.{ToldFirst}
+use Rattle.tsplib.specs.FaultLine.{ToldFirst}
 use Rattle.tsplib.specs.Gathering.{gathered}
-use Rattle.tsplib.specs.declared.judging.Judged.{Judged}
-use Rattle.tsplib.specs.declared.judging.Judged.the-variants.{Instance, Fault}
+use Rattle.tsplib.specs.declared.judging.JudgedText.{JudgedText}
+use Rattle.tsplib.specs.declared.judging.JudgedText.the-variants.{Described, Fault}
 use Rattle.tsplib.specs.declared.reading.Read.{Read}
 use Rattle.tsplib.specs.declared.reading.Read.the-variants.{Points, Refused}
 
 -- the coordinates, two for each node line behind its place; and the weights
-abbrev pub coordinatesOf : List Line → List ℕ
+abbrev pub coordinatesOf : List TextLine → List ℕ
 coordinatesOf ls = gathered 1 ls
 
-abbrev pub weightsOf : List Line → List ℕ
+abbrev pub weightsOf : List TextLine → List ℕ
 weightsOf ls = gathered 0 ls
 
 -- the answer of *measure*, with n
@@ -47,15 +47,15 @@ abbrev pub filledWith : Read → List ℕ → List ℕ → List ℕ
 filledWith (Points n) ws table = bytes32 ws
 filledWith (Refused number line) ws table = table
 
-unfoldable pub readAs : Judged → List Line → ℕ → Read
+unfoldable pub readAs : JudgedText → List TextLine → ℕ → Read
 readAs (Fault line) ls size = Refused 19 line
-readAs (Instance n (Rule r) m) ls size = ofMeasured n (measured n r (coordinatesOf ls) size)
-readAs (Instance n Explicit m) ls size = ofWeights n (weightsOf ls) size
+readAs (Described n (Rule r) m) ls size = ofMeasured n (measured n r (coordinatesOf ls) size)
+readAs (Described n Explicit m) ls size = ofWeights n (weightsOf ls) size
 
-unfoldable pub leftAs : Judged → List Line → List ℕ → List ℕ
+unfoldable pub leftAs : JudgedText → List TextLine → List ℕ → List ℕ
 leftAs (Fault line) ls table = table
-leftAs (Instance n (Rule r) m) ls table = tableAfter n r (coordinatesOf ls) table
-leftAs (Instance n Explicit m) ls table = filledWith (ofWeights n (weightsOf ls) (length (whole32 table))) (weightsOf ls) table
+leftAs (Described n (Rule r) m) ls table = tableAfter n r (coordinatesOf ls) table
+leftAs (Described n Explicit m) ls table = filledWith (ofWeights n (weightsOf ls) (length (whole32 table))) (weightsOf ls) table
 
 -- what `read_tsplib` ensures: its answer, and the table's bytes that it leaves
 pub record ReadAs (text table : List ℕ) (answer : Read) (left : List ℕ) : Type 0 where
@@ -63,9 +63,9 @@ pub record ReadAs (text table : List ℕ) (answer : Read) (left : List ℕ) : Ty
   pub table-left : left ≡ leftAs (judged text) (linesOf text) table
 
 -- what `tsplib_points` answers: n, or the line at fault
-unfoldable pub pointsOf : Judged → Read
+unfoldable pub pointsOf : JudgedText → Read
 pointsOf (Fault line) = Refused 19 line
-pointsOf (Instance n w m) = Points n
+pointsOf (Described n w m) = Points n
 
 -- the same of a text of the language, by how it is weighed and its data
 unfoldable pub answerFor : Weighing → ℕ → List ℕ → ℕ → Read

@@ -3,10 +3,10 @@ use Prim.Native.Nat.{ℕ, _+_, _-_}
 use mathlib.Core.Bool.{Bool, true, false}
 use lib.Dec.{eqb, leb, ltb}
 use Rattle.lengths.specs.Edge.{edgeCount}
-use Rattle.tsplib_lines.specs.declared.line.Line as code
-use Rattle.tsplib_lines.specs.declared.line.Line.the-variants as told
-use Rattle.tsplib_lines.specs.declared.line.Weighing.{Weighing}
-use Rattle.tsplib_lines.specs.declared.line.Weighing.the-variants as weighing
+use Rattle.tsplib_lines.specs.declared.text_line.TalliedLine as code
+use Rattle.tsplib_lines.specs.declared.text_line.TalliedLine.the-variants as told
+use Rattle.tsplib_lines.specs.declared.text_line.Weighing.{Weighing}
+use Rattle.tsplib_lines.specs.declared.text_line.Weighing.the-variants as weighing
 use Rattle.tsplib_lines.specs.declared.numbers.Tally.{Tally}
 use Rattle.tsplib.specs.declared.state.Points.{Points}
 use Rattle.tsplib.specs.declared.state.Points.the-variants as points
@@ -17,13 +17,13 @@ use Rattle.tsplib.specs.declared.state.NextWeigh.the-variants.{Known, Cl
 use Rattle.tsplib.specs.declared.state.BodyLine.{BodyLine}
 use Rattle.tsplib.specs.declared.state.BodyLine.the-variants as body
 use Rattle.tsplib.specs.declared.state.State.{State}
-use Rattle.tsplib.specs.declared.state.State.the-variants.{Header, Nodes, Weights, Ended}
+use Rattle.tsplib.specs.declared.state.State.the-variants.{Specification, Nodes, Weights, Ended}
 use Rattle.tsplib.specs.declared.state.Stepped.{Stepped}
 use Rattle.tsplib.specs.declared.state.Stepped.the-variants.{To, Fault}
 
 -- no line so far
 abbrev pub noLines : State
-noLines = Header false false points.Unset weigh.Unset
+noLines = Specification false false points.Unset weigh.Unset
 
 -- what EDGE_WEIGHT_TYPE adds: it comes once, and a rule goes ill with UPPER_ROW
 unfoldable pub weighNext : Weighing → Weigh → NextWeigh
@@ -47,19 +47,19 @@ rowNext weigh.ExplicitRow = Clash
 rowNext (weigh.Rule r) = Clash
 
 unfoldable pub weighedAs : Bool → Bool → Points → NextWeigh → Stepped
-weighedAs nm ty p (Known w) = To (Header nm ty p w)
+weighedAs nm ty p (Known w) = To (Specification nm ty p w)
 weighedAs nm ty p Clash = Fault
 
 unfoldable pub onName : Bool → Bool → Points → Weigh → Stepped
 onName true ty p w = Fault
-onName false ty p w = To (Header true ty p w)
+onName false ty p w = To (Specification true ty p w)
 
 unfoldable pub onType : Bool → Bool → Points → Weigh → Stepped
 onType nm true p w = Fault
-onType nm false p w = To (Header nm true p w)
+onType nm false p w = To (Specification nm true p w)
 
 unfoldable pub onDimension : Bool → Bool → Points → Weigh → ℕ → Stepped
-onDimension nm ty points.Unset w n = To (Header nm ty (points.Set n) w)
+onDimension nm ty points.Unset w n = To (Specification nm ty (points.Set n) w)
 onDimension nm ty (points.Set m) w n = Fault
 
 -- a section comes behind DIMENSION and the type of its kind, and UPPER_ROW where that is EXPLICIT
@@ -79,18 +79,18 @@ openWeights (points.Set n) weigh.Explicit = Fault
 openWeights (points.Set n) weigh.ExplicitRow = To (Weights n (edgeCount n))
 openWeights (points.Set n) (weigh.Rule r) = Fault
 
-unfoldable pub onHeader : Bool → Bool → Points → Weigh → code.Line → Stepped
-onHeader nm ty p w told.Name = onName nm ty p w
-onHeader nm ty p w told.Comment = To (Header nm ty p w)
-onHeader nm ty p w told.Type = onType nm ty p w
-onHeader nm ty p w (told.Dimension n) = onDimension nm ty p w n
-onHeader nm ty p w (told.WeightType v) = weighedAs nm ty p (weighNext v w)
-onHeader nm ty p w told.WeightFormat = weighedAs nm ty p (rowNext w)
-onHeader nm ty p w told.NodeSection = openNodes p w
-onHeader nm ty p w told.WeightSection = openWeights p w
-onHeader nm ty p w told.Eof = Fault
-onHeader nm ty p w (told.Numbers t) = Fault
-onHeader nm ty p w told.Other = Fault
+unfoldable pub onSpecification : Bool → Bool → Points → Weigh → code.TalliedLine → Stepped
+onSpecification nm ty p w told.Name = onName nm ty p w
+onSpecification nm ty p w told.Comment = To (Specification nm ty p w)
+onSpecification nm ty p w told.Type = onType nm ty p w
+onSpecification nm ty p w (told.Dimension n) = onDimension nm ty p w n
+onSpecification nm ty p w (told.WeightType v) = weighedAs nm ty p (weighNext v w)
+onSpecification nm ty p w told.WeightFormat = weighedAs nm ty p (rowNext w)
+onSpecification nm ty p w told.NodeSection = openNodes p w
+onSpecification nm ty p w told.WeightSection = openWeights p w
+onSpecification nm ty p w told.Eof = Fault
+onSpecification nm ty p w (told.Numbers t) = Fault
+onSpecification nm ty p w told.Other = Fault
 
 -- "Node lines must come in order 1 to n": three numbers, the first of them the place
 unfoldable pub onNode : ℕ → ℕ → ℕ → Tally → Stepped
@@ -105,7 +105,7 @@ endOf true s = To s
 endOf false s = Fault
 
 -- what a line is among the nodes or weights: "a keyword line after the section" has no place there
-unfoldable pub bodyOf : code.Line → BodyLine
+unfoldable pub bodyOf : code.TalliedLine → BodyLine
 bodyOf told.Name = body.Other
 bodyOf told.Comment = body.Other
 bodyOf told.Type = body.Other
@@ -128,8 +128,8 @@ onWeights n left (body.Numbers t) = endOf (leb (t .count) left) (Weights n (left
 onWeights n left body.Eof = endOf (eqb left 0) (Ended n weighing.Explicit)
 onWeights n left body.Other = Fault
 
-unfoldable pub stepOf : State → code.Line → Stepped
-stepOf (Header nm ty p w) line = onHeader nm ty p w line
+unfoldable pub stepOf : State → code.TalliedLine → Stepped
+stepOf (Specification nm ty p w) line = onSpecification nm ty p w line
 stepOf (Nodes n r k) line = onNodes n r k (bodyOf line)
 stepOf (Weights n left) line = onWeights n left (bodyOf line)
 stepOf (Ended n v) line = Fault

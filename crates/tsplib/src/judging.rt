@@ -6,69 +6,69 @@ use crate::state::Stepped;
 use crate::state::Weigh;
 use crate::state::body_line;
 use crate::state::step;
-use tsplib_lines::line::Line;
-use tsplib_lines::line::Weighing;
-use tsplib_lines::line::read_line;
 use tsplib_lines::numbers::larger;
+use tsplib_lines::text_line::TalliedLine;
+use tsplib_lines::text_line::Weighing;
+use tsplib_lines::text_line::read_line;
 use tsplib_lines::words;
 use tsplib_lines::words::find;
 ghost use mathlib.Core.Path.{_≡_};
 ghost use mathlib.Core.List.{[]};
 ghost use Prim.Native.Nat.{_+_, _^_, _<_};
-ghost use Rattle.tsplib.specs.Judging.{judged, judgedEnd, mostOf};
+ghost use Rattle.tsplib.specs.Judging.{judged, judgedEnd, maximumOf};
 
 // What a text says: n, how it is weighed and its largest number; or the line at fault.
-pub enum Judged {
-    Instance {
+pub enum JudgedText {
+    Described {
         n: u32,
         weighing: Weighing,
-        most: u32,
+        maximum: u32,
     },
     Fault(u64),
 }
 
 // The largest number of a line.
-fn most_of(line: Line) -> u32
-    ensures { λ r. ⌜ r ≡ mostOf line ⌝ }
+fn maximum_of(line: TalliedLine) -> u32
+    ensures { λ r. ⌜ r ≡ maximumOf line ⌝ }
 {
     match body_line(line) {
-        BodyLine::Numbers(tally) => tally.most,
+        BodyLine::Numbers(tally) => tally.maximum,
         BodyLine::Eof => 0,
         BodyLine::Other => 0,
     }
 }
 
 // The end of a text after whole lines, so many of them.
-fn judge_end(state: State, passed: u64, most: u32) -> Judged
+fn judge_end(state: State, passed: u64, maximum: u32) -> JudgedText
     requires { ⌜ passed + 1 < 2 ^ 64 ⌝ }
-    ensures { λ r. ⌜ r ≡ judgedEnd state passed most [] ⌝ }
+    ensures { λ r. ⌜ r ≡ judgedEnd state passed maximum [] ⌝ }
 {
     match state {
-        State::Header {
+        State::Specification {
             name: _,
             typed: _,
             points: _,
             weigh: _,
-        } => Judged::Fault(passed + 1),
+        } => JudgedText::Fault(passed + 1),
         State::Nodes {
             n: _,
             rule: _,
             passed: _,
-        } => Judged::Fault(passed + 1),
-        State::Weights { n: _, left: _ } => Judged::Fault(passed + 1),
-        State::Ended { n, weighing } => Judged::Instance {
+        } => JudgedText::Fault(passed + 1),
+        State::Weights { n: _, left: _ } => JudgedText::Fault(passed + 1),
+        State::Ended { n, weighing } => JudgedText::Described {
             n: n,
             weighing: weighing,
-            most: most,
+            maximum: maximum,
         },
     }
 }
 
 // Judges a text line by line.
-pub fn judge(text: &[u8]) -> Judged
+pub fn judge(text: &[u8]) -> JudgedText
     ensures { λ r. ⌜ r ≡ judged (now (text .entry)) ⌝ }
 {
-    let mut state = State::Header {
+    let mut state = State::Specification {
         name: false,
         typed: false,
         points: Points::Unset,
@@ -76,20 +76,20 @@ pub fn judge(text: &[u8]) -> Judged
     };
     let mut at: usize = 0;
     let mut passed: u64 = 0;
-    let mut most: u32 = 0;
+    let mut maximum: u32 = 0;
     while at < text.len() {
         let end = find(text, at, words::NEWLINE);
         if end == text.len() {
-            return Judged::Fault(passed + 1);
+            return JudgedText::Fault(passed + 1);
         }
         let line = read_line(&text[at..end]);
         let Stepped::To(next) = step(state, line) else {
-            return Judged::Fault(passed + 1);
+            return JudgedText::Fault(passed + 1);
         };
         state = next;
-        most = larger(most, most_of(line));
+        maximum = larger(maximum, maximum_of(line));
         at = end + 1;
         passed += 1;
     }
-    judge_end(state, passed, most)
+    judge_end(state, passed, maximum)
 }

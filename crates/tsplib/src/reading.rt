@@ -1,6 +1,6 @@
 // The operations that read a TSPLIB text.
 use crate::gathering::gather;
-use crate::judging::Judged;
+use crate::judging::JudgedText;
 use crate::judging::judge;
 use endian::bytes::count32;
 use lengths::edge;
@@ -9,7 +9,7 @@ use lengths::instance::Instance;
 use lengths::measure::measure;
 use lengths::outcome::Outcome;
 use lengths::refusal;
-use tsplib_lines::line::Weighing;
+use tsplib_lines::text_line::Weighing;
 ghost use mathlib.Core.Path.{_≡_};
 ghost use Rattle.tsplib.specs.Judging.{judged};
 ghost use Rattle.tsplib.specs.Reading.{ReadAs, pointsOf};
@@ -61,9 +61,9 @@ fn read_coordinates(text: &[u8], n: u32, rule: u32, table: &mut [u8]) -> Read
     measure_gathered(text, n, rule, &mut coordinates[..bytes], table)
 }
 
-// Reads the weights of n points, the largest of which is `most`.
-fn read_weights(text: &[u8], n: u32, most: u32, table: &mut [u8]) -> Read
-    requires { ⌜ WeightsAsked (now text) n most ⌝ }
+// Reads the weights of n points, the largest of which is `maximum`.
+fn read_weights(text: &[u8], n: u32, maximum: u32, table: &mut [u8]) -> Read
+    requires { ⌜ WeightsAsked (now text) n maximum ⌝ }
     ensures { λ r. ⌜ WeightsRead (now (text .entry)) n (now (table .entry)) r (now (table .exit)) ⌝ }
 {
     let Admission::Admitted(instance) = Instance::admit(n) else {
@@ -78,7 +78,7 @@ fn read_weights(text: &[u8], n: u32, most: u32, table: &mut [u8]) -> Read
             line: 0,
         };
     }
-    if Instance::MOST_LENGTH < most {
+    if Instance::MOST_LENGTH < maximum {
         return Read::Refused {
             refusal: refusal::LENGTH,
             line: 0,
@@ -93,13 +93,17 @@ pub fn read_tsplib(text: &[u8], table: &mut [u8]) -> Read
     ensures { λ r. ⌜ ReadAs (now (text .entry)) (now (table .entry)) r (now (table .exit)) ⌝ }
 {
     match judge(text) {
-        Judged::Fault(line) => Read::Refused {
+        JudgedText::Fault(line) => Read::Refused {
             refusal: refusal::TEXT,
             line: line,
         },
-        Judged::Instance { n, weighing, most } => match weighing {
+        JudgedText::Described {
+            n,
+            weighing,
+            maximum,
+        } => match weighing {
             Weighing::Rule(rule) => read_coordinates(text, n, rule, table),
-            Weighing::Explicit => read_weights(text, n, most, table),
+            Weighing::Explicit => read_weights(text, n, maximum, table),
         },
     }
 }
@@ -109,14 +113,14 @@ pub fn tsplib_points(text: &[u8]) -> Read
     ensures { λ r. ⌜ r ≡ pointsOf (judged (now (text .entry))) ⌝ }
 {
     match judge(text) {
-        Judged::Fault(line) => Read::Refused {
+        JudgedText::Fault(line) => Read::Refused {
             refusal: refusal::TEXT,
             line: line,
         },
-        Judged::Instance {
+        JudgedText::Described {
             n,
             weighing: _,
-            most: _,
+            maximum: _,
         } => Read::Points(n),
     }
 }

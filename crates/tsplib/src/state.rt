@@ -1,10 +1,10 @@
 // What the lines so far amount to, and what one line more comes to.
-use tsplib_lines::line::Line;
-use tsplib_lines::line::Weighing;
 use tsplib_lines::numbers::Tally;
+use tsplib_lines::text_line::TalliedLine;
+use tsplib_lines::text_line::Weighing;
 ghost use mathlib.Core.Path.{_≡_};
 ghost use Rattle.lengths.specs.Edge.{edgeCount};
-ghost use Rattle.tsplib.specs.State.{stepOf, onHeader, onName, onType, onDimension, weighedAs, onNode, bodyOf, onNodes, onWeights, weighNext, rowNext, openNodes, openWeights};
+ghost use Rattle.tsplib.specs.State.{stepOf, onSpecification, onName, onType, onDimension, weighedAs, onNode, bodyOf, onNodes, onWeights, weighNext, rowNext, openNodes, openWeights};
 
 // What DIMENSION said.
 pub enum Points {
@@ -29,7 +29,7 @@ pub enum NextWeigh {
 
 // The lines so far: keyword lines; a section with `passed` of the n nodes, or with `left` weights to come; or all, with EOF.
 pub enum State {
-    Header {
+    Specification {
         name: bool,
         typed: bool,
         points: Points,
@@ -103,7 +103,7 @@ fn weighed(name: bool, typed: bool, points: Points, next: NextWeigh) -> Stepped
     ensures { λ r. ⌜ r ≡ weighedAs name typed points next ⌝ }
 {
     match next {
-        NextWeigh::Known(weigh) => Stepped::To(State::Header {
+        NextWeigh::Known(weigh) => Stepped::To(State::Specification {
             name: name,
             typed: typed,
             points: points,
@@ -120,7 +120,7 @@ fn on_name(name: bool, typed: bool, points: Points, weigh: Weigh) -> Stepped
     if name {
         return Stepped::Fault;
     }
-    Stepped::To(State::Header {
+    Stepped::To(State::Specification {
         name: true,
         typed: typed,
         points: points,
@@ -135,7 +135,7 @@ fn on_type(name: bool, typed: bool, points: Points, weigh: Weigh) -> Stepped
     if typed {
         return Stepped::Fault;
     }
-    Stepped::To(State::Header {
+    Stepped::To(State::Specification {
         name: name,
         typed: true,
         points: points,
@@ -148,7 +148,7 @@ fn on_dimension(name: bool, typed: bool, points: Points, weigh: Weigh, n: u32) -
     ensures { λ r. ⌜ r ≡ onDimension name typed points weigh n ⌝ }
 {
     match points {
-        Points::Unset => Stepped::To(State::Header {
+        Points::Unset => Stepped::To(State::Specification {
             name: name,
             typed: typed,
             points: Points::Set(n),
@@ -209,26 +209,37 @@ fn open_weights(points: Points, weigh: Weigh) -> Stepped
 }
 
 // A line behind keyword lines.
-fn on_header(name: bool, typed: bool, points: Points, weigh: Weigh, line: Line) -> Stepped
-    ensures { λ r. ⌜ r ≡ onHeader name typed points weigh line ⌝ }
+fn on_specification(
+    name: bool,
+    typed: bool,
+    points: Points,
+    weigh: Weigh,
+    line: TalliedLine,
+) -> Stepped
+    ensures { λ r. ⌜ r ≡ onSpecification name typed points weigh line ⌝ }
 {
     match line {
-        Line::Name => on_name(name, typed, points, weigh),
-        Line::Comment => Stepped::To(State::Header {
+        TalliedLine::Name => on_name(name, typed, points, weigh),
+        TalliedLine::Comment => Stepped::To(State::Specification {
             name: name,
             typed: typed,
             points: points,
             weigh: weigh,
         }),
-        Line::Type => on_type(name, typed, points, weigh),
-        Line::Dimension(n) => on_dimension(name, typed, points, weigh, n),
-        Line::WeightType(weighing) => weighed(name, typed, points, weigh_next(weighing, weigh)),
-        Line::WeightFormat => weighed(name, typed, points, row_next(weigh)),
-        Line::NodeSection => open_nodes(points, weigh),
-        Line::WeightSection => open_weights(points, weigh),
-        Line::Eof => Stepped::Fault,
-        Line::Numbers(_) => Stepped::Fault,
-        Line::Other => Stepped::Fault,
+        TalliedLine::Type => on_type(name, typed, points, weigh),
+        TalliedLine::Dimension(n) => on_dimension(name, typed, points, weigh, n),
+        TalliedLine::WeightType(weighing) => weighed(
+            name,
+            typed,
+            points,
+            weigh_next(weighing, weigh),
+        ),
+        TalliedLine::WeightFormat => weighed(name, typed, points, row_next(weigh)),
+        TalliedLine::NodeSection => open_nodes(points, weigh),
+        TalliedLine::WeightSection => open_weights(points, weigh),
+        TalliedLine::Eof => Stepped::Fault,
+        TalliedLine::Numbers(_) => Stepped::Fault,
+        TalliedLine::Other => Stepped::Fault,
     }
 }
 
@@ -253,21 +264,21 @@ fn on_node(n: u32, rule: u32, passed: u32, tally: Tally) -> Stepped
 }
 
 // What a line is among the nodes or weights.
-pub fn body_line(line: Line) -> BodyLine
+pub fn body_line(line: TalliedLine) -> BodyLine
     ensures { λ r. ⌜ r ≡ bodyOf line ⌝ }
 {
     match line {
-        Line::Name => BodyLine::Other,
-        Line::Comment => BodyLine::Other,
-        Line::Type => BodyLine::Other,
-        Line::Dimension(_) => BodyLine::Other,
-        Line::WeightType(_) => BodyLine::Other,
-        Line::WeightFormat => BodyLine::Other,
-        Line::NodeSection => BodyLine::Other,
-        Line::WeightSection => BodyLine::Other,
-        Line::Eof => BodyLine::Eof,
-        Line::Numbers(tally) => BodyLine::Numbers(tally),
-        Line::Other => BodyLine::Other,
+        TalliedLine::Name => BodyLine::Other,
+        TalliedLine::Comment => BodyLine::Other,
+        TalliedLine::Type => BodyLine::Other,
+        TalliedLine::Dimension(_) => BodyLine::Other,
+        TalliedLine::WeightType(_) => BodyLine::Other,
+        TalliedLine::WeightFormat => BodyLine::Other,
+        TalliedLine::NodeSection => BodyLine::Other,
+        TalliedLine::WeightSection => BodyLine::Other,
+        TalliedLine::Eof => BodyLine::Eof,
+        TalliedLine::Numbers(tally) => BodyLine::Numbers(tally),
+        TalliedLine::Other => BodyLine::Other,
     }
 }
 
@@ -318,16 +329,16 @@ fn on_weights(n: u32, left: u64, line: BodyLine) -> Stepped
 }
 
 // One line.
-pub fn step(state: State, line: Line) -> Stepped
+pub fn step(state: State, line: TalliedLine) -> Stepped
     ensures { λ r. ⌜ r ≡ stepOf state line ⌝ }
 {
     match state {
-        State::Header {
+        State::Specification {
             name,
             typed,
             points,
             weigh,
-        } => on_header(name, typed, points, weigh, line),
+        } => on_specification(name, typed, points, weigh, line),
         State::Nodes { n, rule, passed } => on_nodes(n, rule, passed, body_line(line)),
         State::Weights { n, left } => on_weights(n, left, body_line(line)),
         State::Ended { n: _, weighing: _ } => Stepped::Fault,

@@ -12,15 +12,15 @@ use lib.ListN.{length, getD, take, drop, length-drop}
 use lib.Seq.{take-all, take-length, split-at}
 use borrow.Author.Tests.{ne-eqb}
 use Rattle.tsplib_lines.specs.Words.{colon, free, isSole}
-use Rattle.tsplib_lines.specs.asks.Words.{Found}
+use Rattle.tsplib_lines.specs.asks.Words.{FoundByte}
 use Rattle.tsplib_lines.specs.Numbers.{numbersIn, counted, countedAll, noTally, totalOf, talliedOf}
-use Rattle.tsplib_lines.specs.Line.{Line, other-line, Parts, whole, parts, withByte, atColon, when, dimensionOf, numbersOr, partsLine, valued, keywordOf, sectionOf, lineOf, toldOf, toldNumbers, onlyAs}
+use Rattle.tsplib_lines.specs.TextLine.{TextLine, other-line, Parts, whole, parts, withByte, atColon, when, dimensionOf, numbersOr, partsLine, valued, keywordOf, sectionOf, lineOf, toldOf, toldNumbers, onlyAs}
 use Rattle.tsplib_lines.specs.declared.numbers.Tally.{Tally}
 use Rattle.tsplib_lines.specs.declared.numbers.Numbers.{Numbers}
 use Rattle.tsplib_lines.specs.declared.numbers.Numbers.the-variants.{Some, Nothing}
-use Rattle.tsplib_lines.specs.declared.line.Keyword.{Keyword}
-use Rattle.tsplib_lines.specs.declared.line.Line as code
-use Rattle.tsplib_lines.specs.declared.line.Line.the-variants as told
+use Rattle.tsplib_lines.specs.declared.text_line.Keyword.{Keyword}
+use Rattle.tsplib_lines.specs.declared.text_line.TalliedLine as code
+use Rattle.tsplib_lines.specs.declared.text_line.TalliedLine.the-variants as told
 
 -- a test that passed, and one that did not
 pub when-yes : {A : Type 0} {x : Bool} (a b : A) → x ≡ true → a ≡ when x a b
@@ -29,7 +29,7 @@ when-yes a b e = sym (ap (λ (y : Bool). when y a b) e)
 pub when-no : {A : Type 0} {x : Bool} {r : A} (a : A) {b : A} → x ≡ false → r ≡ b → r ≡ when x a b
 when-no a {b} e f = f ∙ sym (ap (λ (y : Bool). when y a b) e)
 
-pub told-when : (x : Bool) (l : Line) → when x (toldOf l) told.Other ≡ toldOf (when x l other-line)
+pub told-when : (x : Bool) (l : TextLine) → when x (toldOf l) told.Other ≡ toldOf (when x l other-line)
 unfolding toldOf
 told-when true l = refl
 told-when false l = refl
@@ -51,13 +51,13 @@ tally-empty = refl
 not-both : {A : Type 0} {r : Numbers} {t : Tally} → r ≡ Some t → r ≡ Nothing → A
 not-both e f = let z : _≡_ {A = ℕ} 0 1 = cc in absurd (omega arith)
 
-pub numbers-told : (o : Option (List ℕ)) (l : Line) {t : Tally} → talliedOf noTally o ≡ Some t → told.Numbers t ≡ toldOf (numbersOr o l)
+pub numbers-told : (o : Option (List ℕ)) (l : TextLine) {t : Tally} → talliedOf noTally o ≡ Some t → told.Numbers t ≡ toldOf (numbersOr o l)
 unfolding talliedOf toldOf
 numbers-told none l e = not-both e refl
 numbers-told (some []) l e = not-both e tally-empty
 numbers-told (some (x ∷ xs)) l {t} e = sym (ap toldNumbers e)
 
-pub numbers-not : (o : Option (List ℕ)) (l : Line) → talliedOf noTally o ≡ Nothing → toldOf l ≡ toldOf (numbersOr o l)
+pub numbers-not : (o : Option (List ℕ)) (l : TextLine) → talliedOf noTally o ≡ Nothing → toldOf l ≡ toldOf (numbersOr o l)
 numbers-not none l e = refl
 numbers-not (some []) l e = refl
 numbers-not (some (x ∷ xs)) l e = not-both (tally-some x xs) e
@@ -107,7 +107,7 @@ colon-first (b ∷ p) s h = step (eqb b colon) h (colon-first p s)
     step true h f = let z : _≡_ {A = ℕ} 0 1 = cc in absurd (omega arith)
     step false h f = ap (withByte b) (f h)
 
-module _ {text : List ℕ} {r : ℕ} (f : Found text 0 colon r) where
+module _ {text : List ℕ} {r : ℕ} (f : FoundByte text 0 colon r) where
   front : free colon (take r text) ≡ true
   front = let k : r - 0 ≡ r = omega arith in rw k at (f .passed)
 
@@ -128,7 +128,7 @@ module _ {text : List ℕ} {r : ℕ} (f : Found text 0 colon r) where
       at (inr e) = e
 
 -- the ways out of `word_line` and `read_line`
-pub whole-line : (text : List ℕ) {x : code.Line} → atColon text ≡ whole → x ≡ toldOf (sectionOf text) → x ≡ toldOf (partsLine (atColon text) text)
+pub whole-line : (text : List ℕ) {x : code.TalliedLine} → atColon text ≡ whole → x ≡ toldOf (sectionOf text) → x ≡ toldOf (partsLine (atColon text) text)
 unfolding partsLine
 whole-line text e f = f ∙ sym (ap (λ (p : Parts). toldOf (partsLine p text)) e)
 
@@ -136,7 +136,7 @@ whole-line text e f = f ∙ sym (ap (λ (p : Parts). toldOf (partsLine p text)) 
 pub part-end : (k : ℕ) (text : List ℕ) → take (length text - k) (drop k text) ≡ drop k text
 part-end k text = take-all (length text - k) (drop k text) (omega (arith, length-drop k text))
 
-pub keyword-line : (text : List ℕ) {k v w : List ℕ} {key : Keyword} {x : code.Line} → atColon text ≡ parts k v → key ≡ keywordOf k → w ≡ v → x ≡ toldOf (valued key w)
+pub keyword-line : (text : List ℕ) {k v w : List ℕ} {key : Keyword} {x : code.TalliedLine} → atColon text ≡ parts k v → key ≡ keywordOf k → w ≡ v → x ≡ toldOf (valued key w)
     → x ≡ toldOf (partsLine (atColon text) text)
 unfolding partsLine
 keyword-line text {k} {v} {w} {key} e g h f =
@@ -146,14 +146,14 @@ pub number-line-told : (text : List ℕ) {t : Tally} → talliedOf noTally (numb
 unfolding lineOf
 number-line-told text e = numbers-told (numbersIn text) (partsLine (atColon text) text) e
 
-pub word-line-told : (text : List ℕ) {x : code.Line} → talliedOf noTally (numbersIn text) ≡ Nothing → x ≡ toldOf (partsLine (atColon text) text) → x ≡ toldOf (lineOf text)
+pub word-line-told : (text : List ℕ) {x : code.TalliedLine} → talliedOf noTally (numbersIn text) ≡ Nothing → x ≡ toldOf (partsLine (atColon text) text) → x ≡ toldOf (lineOf text)
 unfolding lineOf
 word-line-told text e f = f ∙ numbers-not (numbersIn text) (partsLine (atColon text) text) e
 
 -- the ways out of `valued_line`
-pub valued-as : {key named : Keyword} (v : List ℕ) {x : code.Line} → key ≡ named → x ≡ toldOf (valued named v) → x ≡ toldOf (valued key v)
+pub valued-as : {key named : Keyword} (v : List ℕ) {x : code.TalliedLine} → key ≡ named → x ≡ toldOf (valued named v) → x ≡ toldOf (valued key v)
 valued-as v e f = f ∙ sym (ap (λ (k : Keyword). toldOf (valued k v)) e)
 
-pub only-told : (word v : List ℕ) (l : Line) {x y : code.Line} → y ≡ toldOf l → x ≡ onlyAs word v y → x ≡ toldOf (when (isSole word v) l other-line)
+pub only-told : (word v : List ℕ) (l : TextLine) {x y : code.TalliedLine} → y ≡ toldOf l → x ≡ onlyAs word v y → x ≡ toldOf (when (isSole word v) l other-line)
 unfolding onlyAs
-only-told word v l e f = f ∙ ap (λ (y : code.Line). when (isSole word v) y told.Other) e ∙ told-when (isSole word v) l
+only-told word v l e f = f ∙ ap (λ (y : code.TalliedLine). when (isSole word v) y told.Other) e ∙ told-when (isSole word v) l

@@ -10,20 +10,20 @@ use borrow.Author.Tests.{eqb-true}
 use Rattle.text.specs.Words.{blank, blanks}
 use Rattle.tsplib_lines.specs.Words.{colon, Sole, wordThenBlanks, isSole, free, nameWord, commentWord, typeWord, tspWord, dimensionWord, weightTypeWord, euc2dWord, ceil2dWord, attWord, man2dWord, max2dWord, explicitWord, formatWord, upperRowWord, nodeSectionWord, weightSectionWord, eofWord}
 use Rattle.tsplib_lines.specs.Numbers.{isDigit, numbersIn}
-use Rattle.tsplib_lines.specs.Line.{Line, type-line, format-line, node-section, weight-section, eof-line, other-line, number-line, Names, explicit, euc2d, ceil2d, att, man2d, max2d, Reads, name, comment, type-tsp, dimension, weight-type, format, nodes, weights, eof, numbers, Parts, whole, parts, withByte, atColon, when, keywordOf, weighingOf, sectionOf, dimensionOf, weighingLine, valued, partsLine, numbersOr, lineOf}
-use Rattle.tsplib_lines.specs.declared.line.Weighing.{Weighing}
-use Rattle.tsplib_lines.specs.declared.line.Weighing.the-variants as weighing
-use Rattle.tsplib_lines.specs.declared.line.Keyword.{Keyword}
-use Rattle.tsplib_lines.specs.declared.line.Keyword.the-variants as keyword
-use Rattle.tsplib_lines.specs.declared.line.NamedWeighing.{NamedWeighing}
-use Rattle.tsplib_lines.specs.declared.line.NamedWeighing.the-variants as named
+use Rattle.tsplib_lines.specs.TextLine.{TextLine, type-line, format-line, node-section, weight-section, eof-line, other-line, number-line, Names, explicit, euc2d, ceil2d, att, man2d, max2d, Reads, name, comment, type-tsp, dimension, weight-type, format, nodes, weights, eof, numbers, Parts, whole, parts, withByte, atColon, when, keywordOf, weighingOf, sectionOf, dimensionOf, weighingLine, valued, partsLine, numbersOr, lineOf}
+use Rattle.tsplib_lines.specs.declared.text_line.Weighing.{Weighing}
+use Rattle.tsplib_lines.specs.declared.text_line.Weighing.the-variants as weighing
+use Rattle.tsplib_lines.specs.declared.text_line.Keyword.{Keyword}
+use Rattle.tsplib_lines.specs.declared.text_line.Keyword.the-variants as keyword
+use Rattle.tsplib_lines.specs.declared.text_line.NamedWeighing.{NamedWeighing}
+use Rattle.tsplib_lines.specs.declared.text_line.NamedWeighing.the-variants as named
 use Rattle.tsplib_lines.proofs.LineReading.{colon-none, colon-first}
 use Rattle.tsplib_lines.proofs.NumbersExact.{numbers-stand, numbers-found, numbers-some, letter-first}
 use Rattle.tsplib_lines.proofs.WordsExact.{is-sole, then-blanks, found, when-found, sole-free}
 
 -- what a computed line comes from: the bytes that it stands for, or nothing
-pub data LineRead (t : List ℕ) : Line → Type 0 where
-  is : {l : Line} → Reads t l → LineRead t l
+pub data LineRead (t : List ℕ) : TextLine → Type 0 where
+  is : {l : TextLine} → Reads t l → LineRead t l
   other : LineRead t other-line
 
 -- a cascade of tests, one after the other
@@ -138,7 +138,7 @@ word-line {c} {w} {k} rest h g s =
     ∙ ap numbersIn (append-assoc (blanks (s .before)) ((c ∷ w) ++ blanks (s .after)) rest)
     ∙ letter-first (s .before) c ((w ++ blanks (s .after)) ++ rest) h g
 
-keyed : {c : ℕ} {w k : List ℕ} (v : List ℕ) {key : Keyword} {l : Line} → eqb c blank ≡ false → isDigit c ≡ false → free colon (c ∷ w) ≡ true → Sole (c ∷ w) k → keywordOf k ≡ key → valued key v ≡ l
+keyed : {c : ℕ} {w k : List ℕ} (v : List ℕ) {key : Keyword} {l : TextLine} → eqb c blank ≡ false → isDigit c ≡ false → free colon (c ∷ w) ≡ true → Sole (c ∷ w) k → keywordOf k ≡ key → valued key v ≡ l
     → lineOf (k ++ colon ∷ v) ≡ l
 unfolding lineOf partsLine
 keyed {k = k} v {key} h g f s e r =
@@ -166,7 +166,7 @@ weighingAt s =
     (when (wordThenBlanks man2dWord s) (named.Known (weighing.Rule 4))
     (when (wordThenBlanks max2dWord s) (named.Known (weighing.Rule 5)) named.Unknown)))))
 
-sectionAt : List ℕ → Line
+sectionAt : List ℕ → TextLine
 sectionAt s =
     when (wordThenBlanks nodeSectionWord s) node-section
     (when (wordThenBlanks weightSectionWord s) weight-section
@@ -213,7 +213,7 @@ tested {c} {w} h s = found (wordThenBlanks (c ∷ w)) h s (then-blanks (c ∷ w)
 when-is : {A : Type 0} {b : Bool} (x y : A) → b ≡ true → when b x y ≡ x
 when-is x y e = ap (λ (c : Bool). when c x y) e
 
-alone : {c : ℕ} {w t : List ℕ} {l : Line} → eqb c blank ≡ false → isDigit c ≡ false → free colon (c ∷ w) ≡ true → Sole (c ∷ w) t → sectionOf t ≡ l → lineOf t ≡ l
+alone : {c : ℕ} {w t : List ℕ} {l : TextLine} → eqb c blank ≡ false → isDigit c ≡ false → free colon (c ∷ w) ≡ true → Sole (c ∷ w) t → sectionOf t ≡ l → lineOf t ≡ l
 unfolding lineOf partsLine
 alone {c} {w} {t} h g f s e =
     ap (λ (o : Option (List ℕ)). numbersOr o (partsLine (atColon t) t)) (ap numbersIn (sym (append-nil t)) ∙ word-line [] h g s)
@@ -226,7 +226,7 @@ number-line-is t xs x ys e f =
     ap (λ (o : Option (List ℕ)). numbersOr o (partsLine (atColon t) t)) (f ∙ ap {B = Option (List ℕ)} some e) ∙ ap number-line (sym e)
 
 -- what stands there is computed
-pub reads-line : {t : List ℕ} {l : Line} → Reads t l → lineOf t ≡ l
+pub reads-line : {t : List ℕ} {l : TextLine} → Reads t l → lineOf t ≡ l
 unfolding valued isDigit free sectionOf isSole wordThenBlanks sectionAt dimensionOf lineOf
 reads-line (name s v) = keyed v refl refl refl s (name-found s) refl
 reads-line (comment s v) = keyed v refl refl refl s (comment-found s) refl

@@ -13,8 +13,8 @@ use borrow.Author.Tests.{eq-eqb, ne-eqb, lt-ltb, le-ltb, le-leb, lt-leb}
 use Rattle.text.specs.Words.{blank}
 use Rattle.tsplib_lines.specs.Numbers.{numberLimit, withNumber, atBlank, atDigit, isDigit, numbersFrom, numbersIn, counted, countedAll, noTally, totalOf, talliedOf, sweptBlank, sweptDigit, sweptByte, ended}
 use Rattle.tsplib_lines.specs.asks.Numbers.{openOf, Countable, Sweepable}
-use Rattle.tsplib_lines.specs.declared.numbers.Place.{Place}
-use Rattle.tsplib_lines.specs.declared.numbers.Place.the-variants.{Between, Within}
+use Rattle.tsplib_lines.specs.declared.numbers.Partial.{Partial}
+use Rattle.tsplib_lines.specs.declared.numbers.Partial.the-variants.{Between, Within}
 use Rattle.tsplib_lines.specs.declared.numbers.Tally.{Tally}
 use Rattle.tsplib_lines.specs.declared.numbers.Numbers.{Numbers}
 use Rattle.tsplib_lines.specs.declared.numbers.Numbers.the-variants.{Some, Nothing}
@@ -32,12 +32,12 @@ unfolding talliedOf countedAll
 number-ends t v none = refl
 number-ends t v (some xs) = refl
 
-at-blank : (p : Place) (t : Tally) (rest : List ℕ) → talliedOf t (atBlank p (λ (q : Place). numbersFrom q rest)) ≡ afterSwept (sweptBlank p t) rest
+at-blank : (p : Partial) (t : Tally) (rest : List ℕ) → talliedOf t (atBlank p (λ (q : Partial). numbersFrom q rest)) ≡ afterSwept (sweptBlank p t) rest
 unfolding sweptBlank
 at-blank Between t rest = refl
 at-blank (Within v) t rest = number-ends t v (numbersFrom Between rest)
 
-at-digit : (d : ℕ) (p : Place) (t : Tally) (rest : List ℕ) → talliedOf t (atDigit d p (λ (q : Place). numbersFrom q rest)) ≡ afterSwept (sweptDigit d p t) rest
+at-digit : (d : ℕ) (p : Partial) (t : Tally) (rest : List ℕ) → talliedOf t (atDigit d p (λ (q : Partial). numbersFrom q rest)) ≡ afterSwept (sweptDigit d p t) rest
 unfolding sweptDigit talliedOf
 at-digit d Between t rest = refl
 at-digit d (Within v) t rest = go (ltb (10 * v + d) numberLimit)
@@ -47,15 +47,15 @@ at-digit d (Within v) t rest = go (ltb (10 * v + d) numberLimit)
     go true = refl
     go false = refl
 
-swept-step : (b : ℕ) (p : Place) (t : Tally) (rest : List ℕ) → talliedOf t (numbersFrom p (b ∷ rest)) ≡ afterSwept (sweptByte b p t) rest
+swept-step : (b : ℕ) (p : Partial) (t : Tally) (rest : List ℕ) → talliedOf t (numbersFrom p (b ∷ rest)) ≡ afterSwept (sweptByte b p t) rest
 unfolding sweptByte numbersFrom talliedOf
 swept-step b p t rest = go (eqb b blank) (isDigit b)
   where
     go : (x y : Bool)
         → talliedOf t
         (elim x [
-          | true ↦ atBlank p (λ (q : Place). numbersFrom q rest)
-          | false ↦ elim y [ true ↦ atDigit (b - 48) p (λ (q : Place). numbersFrom q rest) | false ↦ none ]
+          | true ↦ atBlank p (λ (q : Partial). numbersFrom q rest)
+          | false ↦ elim y [ true ↦ atDigit (b - 48) p (λ (q : Partial). numbersFrom q rest) | false ↦ none ]
         ])
         ≡ afterSwept (elim x [ true ↦ sweptBlank p t | false ↦ elim y [ true ↦ sweptDigit (b - 48) p t | false ↦ Stray ] ]) rest
     go true y = at-blank p t rest
@@ -67,12 +67,12 @@ abbrev Few : ℕ → Swept → Type 0
 Few k (On s) = s .tally .count + openOf (s .place) ≤ k + 1
 Few k Stray = Unit {0}
 
-few-blank : (p : Place) (t : Tally) → Few (t .count + openOf p) (sweptBlank p t)
+few-blank : (p : Partial) (t : Tally) → Few (t .count + openOf p) (sweptBlank p t)
 unfolding sweptBlank counted
 few-blank Between t = omega arith
 few-blank (Within v) t = omega arith
 
-few-digit : (d : ℕ) (p : Place) (t : Tally) → Few (t .count + openOf p) (sweptDigit d p t)
+few-digit : (d : ℕ) (p : Partial) (t : Tally) → Few (t .count + openOf p) (sweptDigit d p t)
 unfolding sweptDigit
 few-digit d Between t = omega arith
 few-digit d (Within v) t = go (ltb (10 * v + d) numberLimit)
@@ -81,7 +81,7 @@ few-digit d (Within v) t = go (ltb (10 * v + d) numberLimit)
     go true = omega arith
     go false = tt
 
-few-swept : (b : ℕ) (p : Place) (t : Tally) → Few (t .count + openOf p) (sweptByte b p t)
+few-swept : (b : ℕ) (p : Partial) (t : Tally) → Few (t .count + openOf p) (sweptByte b p t)
 unfolding sweptByte
 few-swept b p t = go (eqb b blank) (isDigit b)
   where
@@ -100,7 +100,7 @@ pub sweep-start : (text : List ℕ) → Sweeping text (record { place = Between;
 unfolding numbersIn
 sweep-start text = record { inside = omega arith; few = omega arith; same = refl }
 
-at-end : (p : Place) (t : Tally) → talliedOf t (numbersFrom p []) ≡ totalOf (ended p t)
+at-end : (p : Partial) (t : Tally) → talliedOf t (numbersFrom p []) ≡ totalOf (ended p t)
 unfolding talliedOf countedAll numbersFrom ended
 at-end Between t = refl
 at-end (Within v) t = refl
@@ -131,22 +131,22 @@ module _ {text : List ℕ} {s : Sweep} {i : ℕ} (w : Sweeping text s i) where
   sweep-some {t} h e z = sym (sweep-total h e ∙ rw (totalOf, ne-eqb (t .count) 0 z))
 
 -- the code's cases
-module _ {p : Place} (t : Tally) where
+module _ {p : Partial} (t : Tally) where
   pub blank-between : p ≡ Between → On (record { place = Between; tally = t }) ≡ sweptBlank p t
   unfolding sweptBlank
-  blank-between e = sym (ap (λ (q : Place). sweptBlank q t) e)
+  blank-between e = sym (ap (λ (q : Partial). sweptBlank q t) e)
 
   pub blank-within : {v : ℕ} {u : Tally} → p ≡ Within v → u ≡ counted t v → On (record { place = Between; tally = u }) ≡ sweptBlank p t
   unfolding sweptBlank
-  blank-within {v} {u} e f = ap (λ (x : Tally). On (record { place = Between; tally = x })) f ∙ sym (ap (λ (q : Place). sweptBlank q t) e)
+  blank-within {v} {u} e f = ap (λ (x : Tally). On (record { place = Between; tally = x })) f ∙ sym (ap (λ (q : Partial). sweptBlank q t) e)
 
   pub end-between : p ≡ Between → t ≡ ended p t
   unfolding ended
-  end-between e = sym (ap (λ (q : Place). ended q t) e)
+  end-between e = sym (ap (λ (q : Partial). ended q t) e)
 
   pub end-within : {v : ℕ} {u : Tally} → p ≡ Within v → u ≡ counted t v → u ≡ ended p t
   unfolding ended
-  end-within e f = f ∙ sym (ap (λ (q : Place). ended q t) e)
+  end-within e f = f ∙ sym (ap (λ (q : Partial). ended q t) e)
 
   pub countable : {v : ℕ} → p ≡ Within v → Sweepable p t → Countable t
   countable {v} e w = record { room = let k : openOf p ≡ 1 = ap openOf e in omega (arith, w .room) }
@@ -154,18 +154,18 @@ module _ {p : Place} (t : Tally) where
   module _ (d : ℕ) where
     pub digit-between : p ≡ Between → On (record { place = Within d; tally = t }) ≡ sweptDigit d p t
     unfolding sweptDigit
-    digit-between e = sym (ap (λ (q : Place). sweptDigit d q t) e)
+    digit-between e = sym (ap (λ (q : Partial). sweptDigit d q t) e)
 
     module _ {v : ℕ} (e : p ≡ Within v) where
       pub digit-within : 10 * v + d < numberLimit → On (record { place = Within (10 * v + d); tally = t }) ≡ sweptDigit d p t
       unfolding sweptDigit
-      digit-within h = sym (ap (λ (q : Place). sweptDigit d q t) e ∙ rw (sweptDigit, lt-ltb (10 * v + d) numberLimit h))
+      digit-within h = sym (ap (λ (q : Partial). sweptDigit d q t) e ∙ rw (sweptDigit, lt-ltb (10 * v + d) numberLimit h))
 
       pub digit-large : numberLimit ≤ 10 * v + d → Stray ≡ sweptDigit d p t
       unfolding sweptDigit
-      digit-large h = sym (ap (λ (q : Place). sweptDigit d q t) e ∙ rw (sweptDigit, le-ltb (10 * v + d) numberLimit h))
+      digit-large h = sym (ap (λ (q : Partial). sweptDigit d q t) e ∙ rw (sweptDigit, le-ltb (10 * v + d) numberLimit h))
 
-module _ {b : ℕ} (p : Place) (t : Tally) where
+module _ {b : ℕ} (p : Partial) (t : Tally) where
   pub byte-blank : b ≡ blank → {r : Swept} → r ≡ sweptBlank p t → r ≡ sweptByte b p t
   unfolding sweptByte
   byte-blank e f = f ∙ sym (rw (sweptByte, eq-eqb b blank e))
@@ -182,6 +182,6 @@ module _ {b : ℕ} (p : Place) (t : Tally) where
   unfolding sweptByte isDigit
   byte-digit e h g f = f ∙ sym (rw (sweptByte, ne-eqb b blank e, isDigit, le-leb 48 b h, le-leb b 57 g))
 
-pub counted-is : (t : Tally) (n : ℕ) {f m : ℕ} → f ≡ cond (eqb (t .count) 0) n (t .first) → m ≡ max (t .most) n → record { count = t .count + 1; first = f; most = m } ≡ counted t n
+pub counted-is : (t : Tally) (n : ℕ) {f m : ℕ} → f ≡ cond (eqb (t .count) 0) n (t .first) → m ≡ max (t .maximum) n → record { count = t .count + 1; first = f; maximum = m } ≡ counted t n
 unfolding counted
-counted-is t n a b = ap₂ (λ (x y : ℕ). record { count = t .count + 1; first = x; most = y }) a b
+counted-is t n a b = ap₂ (λ (x y : ℕ). record { count = t .count + 1; first = x; maximum = y }) a b

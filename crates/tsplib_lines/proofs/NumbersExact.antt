@@ -12,8 +12,8 @@ use Rattle.lists.proofs.Bools.{and-left, and-right}
 use Rattle.text.specs.Decimal.{valueFrom}
 use Rattle.text.specs.Words.{blank, blanks}
 use Rattle.tsplib_lines.specs.Numbers.{numberLimit, Digits, end, digit, Number, NumberText, padded, last, more, withNumber, atBlank, atDigit, isDigit, numbersFrom, numbersIn}
-use Rattle.tsplib_lines.specs.declared.numbers.Place.{Place}
-use Rattle.tsplib_lines.specs.declared.numbers.Place.the-variants.{Between, Within}
+use Rattle.tsplib_lines.specs.declared.numbers.Partial.{Partial}
+use Rattle.tsplib_lines.specs.declared.numbers.Partial.the-variants.{Between, Within}
 
 pub some-is : {xs ys : List ℕ} → some xs ≡ some ys → xs ≡ ys
 some-is e = cc
@@ -43,7 +43,7 @@ pub record Inside (v : ℕ) (t xs : List ℕ) : Type 0 where
   pub tail : Tail rest others
   pub all : value ∷ others ≡ xs
 
-pub data From : Place → List ℕ → List ℕ → Type 0 where
+pub data From : Partial → List ℕ → List ℕ → Type 0 where
   nothing-but-blanks : (k : ℕ) → From Between (blanks k) []
   numbers : {t xs : List ℕ} → NumberText t xs → From Between t xs
   inside : {v : ℕ} {t xs : List ℕ} → Inside v t xs → From (Within v) t xs
@@ -94,12 +94,12 @@ blank-tail : {t xs : List ℕ} → From Between t xs → Tail (blank ∷ t) xs
 blank-tail (nothing-but-blanks k) = at-end (suc k)
 blank-tail (numbers n) = go-on n
 
-abbrev pub Small : Place → Type 0
+abbrev pub Small : Partial → Type 0
 Small Between = Unit {0}
 Small (Within v) = v < numberLimit
 
-from-blank : (p : Place) (t xs : List ℕ) → Small p → ((q : Place) (ys : List ℕ) → Small q → numbersFrom q t ≡ some ys → From q t ys)
-    → atBlank p (λ (q : Place). numbersFrom q t) ≡ some xs → From p (blank ∷ t) xs
+from-blank : (p : Partial) (t xs : List ℕ) → Small p → ((q : Partial) (ys : List ℕ) → Small q → numbersFrom q t ≡ some ys → From q t ys)
+    → atBlank p (λ (q : Partial). numbersFrom q t) ≡ some xs → From p (blank ∷ t) xs
 from-blank Between t xs s ih e = blank-between (ih Between xs tt e)
 from-blank (Within v) t xs s ih e =
     with-some v (numbersFrom Between t) e
@@ -108,8 +108,8 @@ from-blank (Within v) t xs s ih e =
 inside-of : {v : ℕ} {t xs : List ℕ} → From (Within v) t xs → Inside v t xs
 inside-of (inside i) = i
 
-from-digit : (d : ℕ) (p : Place) (t xs : List ℕ) → d < 10 → ((q : Place) (ys : List ℕ) → Small q → numbersFrom q t ≡ some ys → From q t ys)
-    → atDigit d p (λ (q : Place). numbersFrom q t) ≡ some xs → From p ((48 + d) ∷ t) xs
+from-digit : (d : ℕ) (p : Partial) (t xs : List ℕ) → d < 10 → ((q : Partial) (ys : List ℕ) → Small q → numbersFrom q t ≡ some ys → From q t ys)
+    → atDigit d p (λ (q : Partial). numbersFrom q t) ≡ some xs → From p ((48 + d) ∷ t) xs
 from-digit d Between t xs h ih e = numbers (first-digit h (inside-of (ih (Within d) xs (omega arith) e)))
 from-digit d (Within v) t xs h ih e = go (ltb (10 * v + d) numberLimit) refl e
   where
@@ -129,17 +129,17 @@ digit-is b h =
     record { small = omega arith; is = omega arith }
 
 -- what is found stands there
-pub numbers-from : (t : List ℕ) (p : Place) (xs : List ℕ) → Small p → numbersFrom p t ≡ some xs → From p t xs
+pub numbers-from : (t : List ℕ) (p : Partial) (xs : List ℕ) → Small p → numbersFrom p t ≡ some xs → From p t xs
 unfolding numbersFrom
 numbers-from [] Between xs s e = subst (λ (ys : List ℕ). From Between [] ys) (some-is e) (nothing-but-blanks 0)
 numbers-from [] (Within v) xs s e =
     inside (record { digits = []; rest = []; value = v; others = []; split = refl; reads = end; counts = value-end v; fits = s; tail = at-end 0; all = some-is e })
 numbers-from (b ∷ t) p xs s e = go (eqb b blank) (isDigit b) refl refl (numbers-from t) e
   where
-    go : (x y : Bool) → eqb b blank ≡ x → isDigit b ≡ y → ((q : Place) (ys : List ℕ) → Small q → numbersFrom q t ≡ some ys → From q t ys)
+    go : (x y : Bool) → eqb b blank ≡ x → isDigit b ≡ y → ((q : Partial) (ys : List ℕ) → Small q → numbersFrom q t ≡ some ys → From q t ys)
         → (elim x [
-          | true ↦ atBlank p (λ (q : Place). numbersFrom q t)
-          | false ↦ elim y [ true ↦ atDigit (b - 48) p (λ (q : Place). numbersFrom q t) | false ↦ none ]
+          | true ↦ atBlank p (λ (q : Partial). numbersFrom q t)
+          | false ↦ elim y [ true ↦ atDigit (b - 48) p (λ (q : Partial). numbersFrom q t) | false ↦ none ]
         ]) ≡ some xs
         → From p (b ∷ t) xs
     go true y f g ih e = subst (λ (c : ℕ). From p (c ∷ t) xs) (sym (eqb-true b blank f)) (from-blank p t xs s ih e)
@@ -154,7 +154,7 @@ unfolding numbersIn
 numbers-stand t x xs e = text-of (numbers-from t Between (x ∷ xs) tt e)
 
 -- what stands there is found
-from-is-blank : (p : Place) (t : List ℕ) → numbersFrom p (blank ∷ t) ≡ atBlank p (λ (q : Place). numbersFrom q t)
+from-is-blank : (p : Partial) (t : List ℕ) → numbersFrom p (blank ∷ t) ≡ atBlank p (λ (q : Partial). numbersFrom q t)
 unfolding numbersFrom
 from-is-blank p t = refl
 
@@ -165,7 +165,7 @@ digit-tested : (d : ℕ) → d < 10 → isDigit (48 + d) ≡ true
 unfolding isDigit
 digit-tested d h = rw (isDigit, le-leb 48 (48 + d) (omega arith), le-leb (48 + d) 57 (omega arith))
 
-from-is-digit : (p : Place) (d : ℕ) (t : List ℕ) → d < 10 → numbersFrom p ((48 + d) ∷ t) ≡ atDigit d p (λ (q : Place). numbersFrom q t)
+from-is-digit : (p : Partial) (d : ℕ) (t : List ℕ) → d < 10 → numbersFrom p ((48 + d) ∷ t) ≡ atDigit d p (λ (q : Partial). numbersFrom q t)
 unfolding numbersFrom
 from-is-digit p d t h =
     let k : 48 + d - 48 ≡ d = omega arith in

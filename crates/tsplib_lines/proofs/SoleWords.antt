@@ -13,7 +13,7 @@ use lib.Seq.{drop-cons, take-suc, getD-drop}
 use borrow.Author.Tests.{eq-eqb, ne-eqb}
 use Rattle.text.specs.Words.{blank}
 use Rattle.tsplib_lines.specs.Words.{afterBlanks, onlyBlanks, wordThenBlanks, isSole, free}
-use Rattle.tsplib_lines.specs.asks.Words.{Skipped, Found}
+use Rattle.tsplib_lines.specs.asks.Words.{Skipped, FoundByte}
 
 -- the loop over blanks
 pub record Skipping (text : List ℕ) (at i : ℕ) : Type 0 where
@@ -65,10 +65,10 @@ module _ {text : List ℕ} {at c i : ℕ} (s : Finding text at c i) where
       let g : getD (drop at text) (i - at) 0 ≡ getD text i 0 = getD-drop at text (i - at) 0 ∙ ap (λ (j : ℕ). getD text j 0) (omega (arith, s .low)) in
       record { low = omega (arith, s .low); high = omega arith; passed = rw (k, take-suc (drop at text) (i - at) 0 l) (free-snoc c (getD (drop at text) (i - at) 0) (take (i - at) (drop at text)) (s .passed) (λ q. e (sym g ∙ q))) }
 
-  pub find-stop : getD text i 0 ≡ c → Found text at c i
+  pub find-stop : getD text i 0 ≡ c → FoundByte text at c i
   find-stop e = record { low = s .low; high = s .high; passed = s .passed; stops = inr e }
 
-  pub find-end : length text ≤ i → Found text at c i
+  pub find-end : length text ≤ i → FoundByte text at c i
   find-end h = record { low = s .low; high = s .high; passed = s .passed; stops = inl (omega (arith, s .high)) }
 
 -- the loop over a word

@@ -9,7 +9,7 @@ use borrow.Author.Tests.{eqb-true, eq-eqb}
 use Rattle.lists.proofs.Bools.{and-left, and-right, and-both}
 use Rattle.text.specs.Words.{blank, blanks}
 use Rattle.tsplib_lines.specs.Words.{Sole, afterBlanks, onlyBlanks, wordThenBlanks, isSole, free}
-use Rattle.tsplib_lines.specs.Line.{when}
+use Rattle.tsplib_lines.specs.TextLine.{when}
 
 -- so many blanks, and then something
 pub record Led (t s : List ℕ) : Type 0 where

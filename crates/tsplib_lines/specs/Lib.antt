@@ -1,4 +1,4 @@
 pub mod asks
-pub mod Line
+pub mod TextLine
 pub mod Numbers
 pub mod Words

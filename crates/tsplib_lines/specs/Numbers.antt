@@ -8,8 +8,8 @@ use lib.Dec.{eqb, leb, ltb}
 use lib.ListN.{length}
 use Rattle.text.specs.Decimal.{valueFrom}
 use Rattle.text.specs.Words.{blank, blanks}
-use Rattle.tsplib_lines.specs.declared.numbers.Place.{Place}
-use Rattle.tsplib_lines.specs.declared.numbers.Place.the-variants.{Between, Within}
+use Rattle.tsplib_lines.specs.declared.numbers.Partial.{Partial}
+use Rattle.tsplib_lines.specs.declared.numbers.Partial.the-variants.{Between, Within}
 use Rattle.tsplib_lines.specs.declared.numbers.Tally.{Tally}
 use Rattle.tsplib_lines.specs.declared.numbers.Numbers.{Numbers}
 use Rattle.tsplib_lines.specs.declared.numbers.Numbers.the-variants.{Some, Nothing}
@@ -43,24 +43,24 @@ abbrev pub withNumber : ℕ → Option (List ℕ) → Option (List ℕ)
 withNumber n none = none
 withNumber n (some xs) = some (n ∷ xs)
 
-abbrev pub atBlank : Place → (Place → Option (List ℕ)) → Option (List ℕ)
+abbrev pub atBlank : Partial → (Partial → Option (List ℕ)) → Option (List ℕ)
 atBlank Between rest = rest Between
 atBlank (Within v) rest = withNumber v (rest Between)
 
-abbrev pub atDigit : ℕ → Place → (Place → Option (List ℕ)) → Option (List ℕ)
+abbrev pub atDigit : ℕ → Partial → (Partial → Option (List ℕ)) → Option (List ℕ)
 atDigit d Between rest = rest (Within d)
 atDigit d (Within v) rest = elim (ltb (10 * v + d) numberLimit) [ true ↦ rest (Within (10 * v + d)) | false ↦ none ]
 
 unfoldable pub isDigit : ℕ → Bool
 isDigit b = leb 48 b && leb b 57
 
-unfoldable pub numbersFrom : Place → List ℕ → Option (List ℕ)
+unfoldable pub numbersFrom : Partial → List ℕ → Option (List ℕ)
 numbersFrom Between [] = some []
 numbersFrom (Within v) [] = some (v ∷ [])
 numbersFrom p (b ∷ t) =
     elim (eqb b blank) [
-      | true ↦ atBlank p (λ (q : Place). numbersFrom q t)
-      | false ↦ elim (isDigit b) [ true ↦ atDigit (b - 48) p (λ (q : Place). numbersFrom q t) | false ↦ none ]
+      | true ↦ atBlank p (λ (q : Partial). numbersFrom q t)
+      | false ↦ elim (isDigit b) [ true ↦ atDigit (b - 48) p (λ (q : Partial). numbersFrom q t) | false ↦ none ]
     ]
 
 unfoldable pub numbersIn : List ℕ → Option (List ℕ)
@@ -68,14 +68,14 @@ numbersIn text = numbersFrom Between text
 
 -- what the judge of lines wants to know of numbers: how many, the first and the largest
 unfoldable pub counted : Tally → ℕ → Tally
-counted t n = record { count = t .count + 1; first = cond (eqb (t .count) 0) n (t .first); most = max (t .most) n }
+counted t n = record { count = t .count + 1; first = cond (eqb (t .count) 0) n (t .first); maximum = max (t .maximum) n }
 
 unfoldable pub countedAll : Tally → List ℕ → Tally
 countedAll t [] = t
 countedAll t (n ∷ ns) = countedAll (counted t n) ns
 
 abbrev pub noTally : Tally
-noTally = record { count = 0; first = 0; most = 0 }
+noTally = record { count = 0; first = 0; maximum = 0 }
 
 unfoldable pub totalOf : Tally → Numbers
 totalOf t = cond (eqb (t .count) 0) Nothing (Some t)
@@ -85,22 +85,22 @@ talliedOf t none = Nothing
 talliedOf t (some xs) = totalOf (countedAll t xs)
 
 -- one byte, and the end of the text
-unfoldable pub sweptBlank : Place → Tally → Swept
+unfoldable pub sweptBlank : Partial → Tally → Swept
 sweptBlank Between t = On (record { place = Between; tally = t })
 sweptBlank (Within v) t = On (record { place = Between; tally = counted t v })
 
-unfoldable pub sweptDigit : ℕ → Place → Tally → Swept
+unfoldable pub sweptDigit : ℕ → Partial → Tally → Swept
 sweptDigit d Between t = On (record { place = Within d; tally = t })
 sweptDigit d (Within v) t =
     elim (ltb (10 * v + d) numberLimit) [ true ↦ On (record { place = Within (10 * v + d); tally = t }) | false ↦ Stray ]
 
-unfoldable pub sweptByte : ℕ → Place → Tally → Swept
+unfoldable pub sweptByte : ℕ → Partial → Tally → Swept
 sweptByte b p t =
     elim (eqb b blank) [
       | true ↦ sweptBlank p t
       | false ↦ elim (isDigit b) [ true ↦ sweptDigit (b - 48) p t | false ↦ Stray ]
     ]
 
-unfoldable pub ended : Place → Tally → Tally
+unfoldable pub ended : Partial → Tally → Tally
 ended Between t = t
 ended (Within v) t = counted t v

@@ -1,4 +1,4 @@
 // The lines of a TSPLIB text: what one line says.
-pub mod line;
 pub mod numbers;
+pub mod text_line;
 pub mod words;

@@ -11,11 +11,11 @@ ghost use Rattle.tsplib_lines.specs.asks.Numbers.{Countable, Sweepable};
 pub struct Tally {
     pub count: u64,
     pub first: u32,
-    pub most: u32,
+    pub maximum: u32,
 }
 
 // Between two numbers, or within one that is so large so far.
-pub enum Place {
+pub enum Partial {
     Between,
     Within(u32),
 }
@@ -28,7 +28,7 @@ pub enum Numbers {
 
 // The place after some bytes and the numbers before it.
 pub struct Sweep {
-    pub place: Place,
+    pub place: Partial,
     pub tally: Tally,
 }
 
@@ -68,41 +68,41 @@ fn count_number(t: Tally, n: u32) -> Tally
     Tally {
         count: t.count + 1,
         first: first_of(t, n),
-        most: larger(t.most, n),
+        maximum: larger(t.maximum, n),
     }
 }
 
 // A blank: a number before it is at its end.
-fn sweep_blank(place: Place, tally: Tally) -> Swept
+fn sweep_blank(place: Partial, tally: Tally) -> Swept
     requires { ⌜ Sweepable place tally ⌝ }
     ensures { λ r. ⌜ r ≡ sweptBlank place tally ⌝ }
 {
     match place {
-        Place::Between => Swept::On(Sweep {
-            place: Place::Between,
+        Partial::Between => Swept::On(Sweep {
+            place: Partial::Between,
             tally: tally,
         }),
-        Place::Within(v) => Swept::On(Sweep {
-            place: Place::Between,
+        Partial::Within(v) => Swept::On(Sweep {
+            place: Partial::Between,
             tally: count_number(tally, v),
         }),
     }
 }
 
 // A digit: of a new number, or behind the digits before it, as long as the number fits 32 bits.
-fn sweep_digit(d: u8, place: Place, tally: Tally) -> Swept
+fn sweep_digit(d: u8, place: Partial, tally: Tally) -> Swept
     ensures { λ r. ⌜ r ≡ sweptDigit d place tally ⌝ }
 {
     match place {
-        Place::Between => Swept::On(Sweep {
-            place: Place::Within(d as u32),
+        Partial::Between => Swept::On(Sweep {
+            place: Partial::Within(d as u32),
             tally: tally,
         }),
-        Place::Within(v) => {
+        Partial::Within(v) => {
             let value = 10 * (v as u64) + d as u64;
             if value < LIMIT {
                 return Swept::On(Sweep {
-                    place: Place::Within(value as u32),
+                    place: Partial::Within(value as u32),
                     tally: tally,
                 });
             }
@@ -112,7 +112,7 @@ fn sweep_digit(d: u8, place: Place, tally: Tally) -> Swept
 }
 
 // One byte.
-fn sweep_byte(b: u8, place: Place, tally: Tally) -> Swept
+fn sweep_byte(b: u8, place: Partial, tally: Tally) -> Swept
     requires { ⌜ Sweepable place tally ⌝ }
     ensures { λ r. ⌜ r ≡ sweptByte b place tally ⌝ }
 {
@@ -129,13 +129,13 @@ fn sweep_byte(b: u8, place: Place, tally: Tally) -> Swept
 }
 
 // The end of a text: a number before it is at its end.
-fn end(place: Place, tally: Tally) -> Tally
+fn end(place: Partial, tally: Tally) -> Tally
     requires { ⌜ Sweepable place tally ⌝ }
     ensures { λ r. ⌜ r ≡ ended place tally ⌝ }
 {
     match place {
-        Place::Between => tally,
-        Place::Within(v) => count_number(tally, v),
+        Partial::Between => tally,
+        Partial::Within(v) => count_number(tally, v),
     }
 }
 
@@ -144,11 +144,11 @@ pub fn numbers_of(text: &[u8]) -> Numbers
     ensures { λ r. ⌜ r ≡ talliedOf noTally (numbersIn (now (text .entry))) ⌝ }
 {
     let mut sweep = Sweep {
-        place: Place::Between,
+        place: Partial::Between,
         tally: Tally {
             count: 0,
             first: 0,
-            most: 0,
+            maximum: 0,
         },
     };
     let mut i: usize = 0;

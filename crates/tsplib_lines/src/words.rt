@@ -3,7 +3,7 @@ ghost use mathlib.Core.Path.{_≡_};
 ghost use Prim.Native.Nat.{_≤_};
 ghost use lib.ListN.{length};
 ghost use Rattle.tsplib_lines.specs.Words.{isSole};
-ghost use Rattle.tsplib_lines.specs.asks.Words.{Skipped, Found};
+ghost use Rattle.tsplib_lines.specs.asks.Words.{Skipped, FoundByte};
 
 pub const BLANK: u8 = b' ';
 
@@ -29,7 +29,7 @@ fn after_blanks(text: &[u8], at: usize) -> usize
 // The first place of a byte from a place on, or the text's end.
 pub fn find(text: &[u8], at: usize, byte: u8) -> usize
     requires { ⌜ at ≤ length (now text) ⌝ }
-    ensures { λ r. ⌜ Found (now (text .entry)) at byte r ⌝ }
+    ensures { λ r. ⌜ FoundByte (now (text .entry)) at byte r ⌝ }
 {
     let mut i = at;
     while i < text.len() {

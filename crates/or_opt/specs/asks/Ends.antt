@@ -12,7 +12,7 @@ use Rattle.sets.specs.asks.Stored.{edgeList, Held}
 use Rattle.sets.specs.declared.edge_set.EdgeSet.{EdgeSet}
 use Rattle.rules.specs.PairTest.{every, stays?, endAt?, endStays?}
 use Rattle.rules.specs.asks.Legs.{LegList, RowsLent}
-use Rattle.or_opt.specs.asks.Settled.{Further}
+use Rattle.or_opt.specs.asks.DegreeTwo.{Further}
 
 -- the rows
 pub record Lent (n : ℕ) (out put : List ℕ) : Type 0 where

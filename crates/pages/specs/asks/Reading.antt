@@ -7,10 +7,10 @@ use lib.ListN.{length}
 use Rattle.lengths.specs.Edge.{edgeCount}
 use Rattle.lengths.specs.Instance.{mostEdges}
 use Rattle.marks.specs.Packed.{wellPacked, marksOf}
-use Rattle.pages.specs.Line.{lineBytes}
+use Rattle.pages.specs.PageLine.{lineBytes}
 use Rattle.pages.specs.Page.{mostLines}
 use Rattle.pages.specs.Reading.{marksRead, overlay}
-use Rattle.pages.specs.asks.Line.{ShortPoints}
+use Rattle.pages.specs.asks.PageLine.{ShortPoints}
 
 -- a line of a page
 pub record LineOfAsked (a b k : ℕ) : Type 0 where

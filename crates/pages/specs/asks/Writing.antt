@@ -5,7 +5,7 @@ use mathlib.Core.List.{List}
 use lib.ListN.{length}
 use Rattle.lengths.specs.Edge.{edgeCount}
 use Rattle.lengths.specs.Table.{Lengths}
-use Rattle.pages.specs.Line.{lineBytes}
+use Rattle.pages.specs.PageLine.{lineBytes}
 use Rattle.pages.specs.Page.{placeLine, joined}
 use Rattle.pages.specs.asks.Page.{PartAsked}
 

@@ -14,8 +14,8 @@ use Rattle.sentences.specs.asks.Sentence.{reasonOf}
 use Rattle.reasons.specs.PairReason.{PairOutcome, pairOutcome}
 use Rattle.reasons.specs.Telling.{reasonAt, caseBehind, reasonsFrom}
 use Rattle.reasons.specs.asks.PairReason.{SplitAsked}
-use Rattle.reasons.specs.declared.line_text.Told.{Told}
-use Rattle.reasons.specs.declared.line_text.Spot.{Spot}
+use Rattle.reasons.specs.declared.line_text.ToldPair.{ToldPair}
+use Rattle.reasons.specs.declared.line_text.TextPosition.{TextPosition}
 
 -- a text is written from a place on where the buffer has room for it; r is the next place in any case
 pub record Fitted (out : List ℕ) (at : ℕ) (text : List ℕ) (r : ℕ) (left : List ℕ) : Type 0 where
@@ -33,7 +33,7 @@ abbrev pub mostText : ℕ
 mostText = sentenceBytes * mostEdges
 
 -- what is told of a pair with this outcome, where record i is the case of the next standing pair
-pub record ToldAt (o : PairOutcome) (s : List ℕ) (i : ℕ) (r : Told) : Type 0 where
+pub record ToldAt (o : PairOutcome) (s : List ℕ) (i : ℕ) (r : ToldPair) : Type 0 where
   pub reason-is : reasonOf (r .reason) ≡ reasonAt o s i
   pub case-is : r .case ≡ caseBehind o s i
 
@@ -58,7 +58,7 @@ pub record EdgeAsked (n : ℕ) (table marks : List ℕ) (a b c x y at : ℕ) : T
 
 -- what telling the pair xy leaves, or passing by an edge of c: the sentence, if there is one, and what is then still to
 -- be told
-pub record EdgeTold (outcome : ℕ → ℕ → PairOutcome) (s : List ℕ) (c i x y : ℕ) (out : List ℕ) (at : ℕ) (r : Spot) (left : List ℕ)
+pub record EdgeTold (outcome : ℕ → ℕ → PairOutcome) (s : List ℕ) (c i x y : ℕ) (out : List ℕ) (at : ℕ) (r : TextPosition) (left : List ℕ)
     : Type 0 where
   pub piece : List ℕ
   pub put : FittedWithin sentenceBytes out at piece (r .at) left

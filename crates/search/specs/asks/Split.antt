@@ -7,7 +7,7 @@ use lib.ListN.{length, getD}
 use Rattle.lengths.specs.Edge.{Edge, edge, Point, edgeCount}
 use Rattle.lengths.specs.Instance.{pointPlaces}
 use Rattle.lengths.specs.asks.Rows.{RowAt, Rows}
-use Rattle.lengths.specs.Table.{lengthOf, Limits}
+use Rattle.lengths.specs.Table.{lengthOf, Intervals}
 use Rattle.marks.specs.Mark.{openUpTo, openIn, unstruckIn}
 use Rattle.sets.specs.asks.Stored.{edgeList, Held}
 use Rattle.sets.specs.declared.edge_set.EdgeSet.{EdgeSet}
@@ -33,7 +33,7 @@ pub record Bounded (legs : List ℕ) (bound : ℕ) : Type 0 where
 
 -- what the legs are asked about: the two tables, the marks, and the split point
 pub record LegsAsked (n : ℕ) (out put marks : List ℕ) (c : ℕ) : Type 0 where
-  pub limits : Limits n out put
+  pub intervals : Intervals n out put
   pub marked : length marks ≡ edgeCount n
   pub centre : Point n c
 
@@ -54,24 +54,24 @@ pub record TriangleIn (n : ℕ) (out put : List ℕ) (c p q : ℕ) (t : Triangle
   pub is-cq : t .cq ≡ getD put ((n + 1) * c + q) 0
 
 -- what a split is prepared from: the two tables, their rows, the marks, the split point, and K
-pub record SplitAsked (n : ℕ) (out put outs puts marks : List ℕ) (k : EdgeSet) (c : ℕ) : Type 0 where
+pub record SplitAsked (n : ℕ) (out put outrows putrows marks : List ℕ) (k : EdgeSet) (c : ℕ) : Type 0 where
   pub legs : LegsAsked n out put marks c
-  pub in-out : Rows n out outs
-  pub in-put : Rows n put puts
+  pub in-out : Rows n out outrows
+  pub in-put : Rows n put putrows
   pub held : Held n k
 
 -- what the legs and the bound of K = {ab} are asked about
 pub record EdgeAsked (n : ℕ) (out put : List ℕ) (a b c : ℕ) : Type 0 where
-  pub limits : Limits n out put
+  pub intervals : Intervals n out put
   pub centre : Point n c
   pub from : Point n a
   pub to : Point n b
 
 -- what taking in the edge uv of K is asked about: the same, the rows of the tables, and legs and a bound of them
-pub record TakeAsked (n : ℕ) (out put outs puts : List ℕ) (c u v : ℕ) (legs : List ℕ) (bound : ℕ) : Type 0 where
+pub record TakeAsked (n : ℕ) (out put outrows putrows : List ℕ) (c u v : ℕ) (legs : List ℕ) (bound : ℕ) : Type 0 where
   pub asked : EdgeAsked n out put u v c
-  pub in-out : Rows n out outs
-  pub in-put : Rows n put puts
+  pub in-out : Rows n out outrows
+  pub in-put : Rows n put putrows
   pub bounded : Bounded legs bound
 
 -- what it leaves: where the legs were those of K, they are those of K with uv, and so is the bound

@@ -21,14 +21,14 @@ judgedOf (judged.Strikes a b next high) = accepted (strikes a b next high)
 judgedOf (judged.Refused number rec) = refused number rec
 
 -- what is asked of a line that was entered as record i
-pub record LineAsked (n : ℕ) (out put outs puts marks sheet : List ℕ) (count i : ℕ) : Type 0 where
-  pub tried : Tried n out put outs puts marks sheet count
+pub record LineAsked (n : ℕ) (out put outrows putrows marks sheet : List ℕ) (count i : ℕ) : Type 0 where
+  pub tried : Tried n out put outrows putrows marks sheet count
   pub readable : Readable sheet i
 
--- what is asked of the lines of a sheet, which write the mark `by`
-pub record MarkingAsked (by n : ℕ) (out put outs puts marks sheet : List ℕ) (count : ℕ) : Type 0 where
-  pub tried : Tried n out put outs puts marks sheet count
-  pub is-mark : by ≤ pendingMark
+-- what is asked of the lines of a sheet, which write the mark `mark`
+pub record MarkingAsked (mark n : ℕ) (out put outrows putrows marks sheet : List ℕ) (count : ℕ) : Type 0 where
+  pub tried : Tried n out put outrows putrows marks sheet count
+  pub is-mark : mark ≤ pendingMark
 
 -- where the lines stand: the marks, the lines accepted, the record that has the index, the index, the
 -- highest record entered
@@ -47,11 +47,11 @@ marksAfter p (accepted over) = p .marks
 marksAfter p (accepted (onward q)) = q .marks
 marksAfter p (refused number rec) = p .marks
 
--- what `mark_line` ensures, which writes the mark `by`, however many lines were accepted before
-pub record SteppedAs (by n : ℕ) (out put marks sheet : List ℕ) (last index high : ℕ) (r : Stepped) (left : List ℕ) : Type 0 where
+-- what `mark_line` ensures, which writes the mark `mark`, however many lines were accepted before
+pub record SteppedAs (mark n : ℕ) (out put marks sheet : List ℕ) (last index high : ℕ) (r : Stepped) (left : List ℕ) : Type 0 where
   pub answered : (lines : ℕ) → steppedOf (placeOf marks lines last index high) r left
-      ≡ lineStep (markingBetween by n out put) sheet (placeOf marks lines last index high)
+      ≡ lineStep (markingBetween mark n out put) sheet (placeOf marks lines last index high)
   pub size : length left ≡ length marks
   pub marks-left : (lines : ℕ) → left
       ≡ marksAfter (placeOf marks lines last index high)
-      (lineStep (markingBetween by n out put) sheet (placeOf marks lines last index high))
+      (lineStep (markingBetween mark n out put) sheet (placeOf marks lines last index high))

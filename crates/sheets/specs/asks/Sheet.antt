@@ -16,13 +16,13 @@ unfoldable pub sheetAdmission : ℕ → SheetAdmission
 sheetAdmission numbers = elim (wholeSheet numbers) [ true ↦ Admitted (record { records = numbers / recordSize }) | false ↦ Refused ]
 
 -- the declared closing and record, as the argument's layer has them
-abbrev pub howOf : Closing → R.How
-howOf (Split point first) = R.splits point first
-howOf (ThreeOpt p q r s) = R.threeOpts p q r s
-howOf (Reorder u v first) = R.reorders u v first
+abbrev pub closingOf : Closing → R.CaseClosing
+closingOf (Split point first) = R.splits point first
+closingOf (ThreeOpt p q r s) = R.threeOpts p q r s
+closingOf (Reorder u v first) = R.reorders u v first
 
 abbrev pub recordOf : Record → R.Record
 recordOf (Line l) = R.line (l .a) (l .b) (l .point) (l .first) (l .next)
-recordOf (Case c) = R.case (c .a) (c .b) (howOf (c .closing)) (c .next)
+recordOf (Case c) = R.case (c .a) (c .b) (closingOf (c .closing)) (c .next)
 recordOf (Visit v next) = R.visit v next
 recordOf Other = R.other

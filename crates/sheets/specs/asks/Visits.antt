@@ -3,7 +3,7 @@ use Prim.Native.Nat.{ℕ}
 use mathlib.Core.Path.{_≡_}
 use mathlib.Core.List.{List, []}
 use Rattle.lengths.specs.Edge.{Point}
-use Rattle.lengths.specs.Table.{Limits}
+use Rattle.lengths.specs.Table.{Intervals}
 use Rattle.sets.specs.asks.Stored.{Held}
 use Rattle.sets.specs.declared.edge_set.EdgeSet.{EdgeSet}
 use Rattle.segments.specs.asks.Reorder.{orderList, kept}
@@ -38,7 +38,7 @@ pub record VisitedAs (n : ℕ) (s : List ℕ) (i first : ℕ) (r : Visited) : Ty
 
 -- what a new order is asked about: its ends are points, and so are those of K
 pub record OrderAsked (n : ℕ) (out put sheet : List ℕ) (count : ℕ) (k : EdgeSet) (u v : ℕ) : Type 0 where
-  pub limits : Limits n out put
+  pub intervals : Intervals n out put
   pub whole : WholeRecords sheet count
   pub held : Held n k
   pub first : Point n u

@@ -27,10 +27,10 @@ pub record CoordinatesRead (text : List ℕ) (n rule : ℕ) (table : List ℕ) (
   pub answered : answer ≡ ofMeasured n (measured n rule (coordinatesOf (linesOf text)) (length (whole32 table)))
   pub table-left : left ≡ tableAfter n rule (coordinatesOf (linesOf text)) table
 
--- the text has the weights of n points, of which `most` is the largest
-pub record WeightsAsked (text : List ℕ) (n most : ℕ) : Type 0 where
+-- the text has the weights of n points, of which `maximum` is the largest
+pub record WeightsAsked (text : List ℕ) (n maximum : ℕ) : Type 0 where
   pub all : length (weightsOf (linesOf text)) ≡ edgeCount n
-  pub largest : (limit : ℕ) → allAtMost limit (weightsOf (linesOf text)) ≡ leb most limit
+  pub largest : (limit : ℕ) → allAtMost limit (weightsOf (linesOf text)) ≡ leb maximum limit
 
 pub record WeightsRead (text : List ℕ) (n : ℕ) (table : List ℕ) (answer : Read) (left : List ℕ) : Type 0 where
   pub answered : answer ≡ ofWeights n (weightsOf (linesOf text)) (length (whole32 table))

@@ -14,7 +14,7 @@ pub record Skipped (text : List ℕ) (at r : ℕ) : Type 0 where
   pub rest : drop r text ≡ afterBlanks (drop at text)
 
 -- r is the first place of a byte from a place on, or the text's end
-pub record Found (text : List ℕ) (at c r : ℕ) : Type 0 where
+pub record FoundByte (text : List ℕ) (at c r : ℕ) : Type 0 where
   pub low : at ≤ r
   pub high : r ≤ length text
   pub passed : free c (take (r - at) (drop at text)) ≡ true

@@ -13,7 +13,7 @@ turn-by-rows-requires c κs = turn-room fewPoints (c .before .before .before .be
 
 turn-by-rows-requires-2 : tie.Need-turn-by-rows-requires-2
 turn-by-rows-requires-2 c κs = turn-room mostPoints (c .before .before .before .before .before .before .pre)
-    (c .before .before .before .before .before .before .pre .admitted .admitted .limits .out-lengths .few)
+    (c .before .before .before .before .before .before .pre .admitted .admitted .intervals .out-lengths .few)
     (length-replicate {A = ℕ} (pointPlaces * pointPlaces) 0)
 
 pub turn-admitted-spec : {M : Type 1} → statement M

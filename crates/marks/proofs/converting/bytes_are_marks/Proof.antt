@@ -5,25 +5,25 @@ use native.Mathlib.Omega.{arith}
 use mathlib.Core.Path.{refl}
 use lib.ListN.{length}
 use borrow.Author.Needs.{needs}
-use Rattle.lengths.proofs.Limits.{Limiting, limiting-start, limiting-on, limiting-done}
+use Rattle.lengths.proofs.AtMostTests.{AtMostLoop, at-most-start, at-most-on, at-most-done}
 use Rattle.marks.specs.Mark.{pendingMark}
 use Rattle.marks.proofs.converting.bytes_are_marks.Statement.{statement}
 use Rattle.marks.proofs.converting.bytes_are_marks.Tie as tie
 
 abbrev Inv-loop : tie.InvT-loop
-Inv-loop bytes are₀ i₀ are i = Limiting pendingMark bytes are i
+Inv-loop bytes are₀ i₀ are i = AtMostLoop pendingMark bytes are i
 
 abbrev μ-loop : tie.MeasureT-loop
 μ-loop bytes are₀ i₀ are i = length bytes - i
 
 loop-holds : tie.Need-loop-holds Inv-loop μ-loop
-loop-holds c = limiting-start _ _
+loop-holds c = at-most-start _ _
 
 loop-again : tie.Need-loop-again Inv-loop μ-loop
-loop-again c = limiting-on (c .before .before .before .loop .inv) (c .before .before .loop-test .taken) refl (λ w. omega (arith, w .taken)) (λ w. w .left) (c .if1 .came)
+loop-again c = at-most-on (c .before .before .before .loop .inv) (c .before .before .loop-test .taken) refl (λ w. omega (arith, w .taken)) (λ w. w .left) (c .if1 .came)
 
 returns : tie.Need-returns Inv-loop μ-loop
-returns c = limiting-done (c .before .loop .inv) (c .loop-test .left)
+returns c = at-most-done (c .before .loop .inv) (c .loop-test .left)
 
 pub bytes-are-marks-spec : {M : Type 1} → statement M
 bytes-are-marks-spec =

@@ -1,7 +1,7 @@
 -- `pages::reading::has_line` meets its contract: a line that is not there as a whole is none. Assumes nothing.
 use mathlib.Core.Path.{_∙_, ap}
 use Rattle.pages.proofs.Seeking.{line-part, missing-line}
-use Rattle.pages.specs.Line.{isLine}
+use Rattle.pages.specs.PageLine.{isLine}
 use borrow.Author.Needs.{needs}
 use Rattle.pages.proofs.reading.has_line.Statement.{statement}
 use Rattle.pages.proofs.reading.has_line.Tie as tie

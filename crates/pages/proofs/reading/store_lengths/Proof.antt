@@ -2,7 +2,7 @@
 use native.Mathlib.Omega.{arith}
 use Prim.Native.Nat.{_-_}
 use mathlib.Core.Path.{_∙_, ap}
-use Rattle.pages.specs.Line.{lengthRead}
+use Rattle.pages.specs.PageLine.{lengthRead}
 use Rattle.pages.proofs.Seeking.{line-part}
 use Rattle.pages.proofs.Storing.{StoringLengths, stored-line, lengths-start, entry-there, lengths-on, lengths-done}
 use borrow.Author.Needs.{needs}

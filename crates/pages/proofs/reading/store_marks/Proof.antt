@@ -3,7 +3,7 @@ use native.Mathlib.Omega.{arith}
 use Prim.Native.Nat.{ℕ, _-_}
 use mathlib.Core.Path.{subst}
 use mathlib.Core.List.{List}
-use Rattle.pages.specs.asks.Line.{MarkReadIs}
+use Rattle.pages.specs.asks.PageLine.{MarkReadIs}
 use Rattle.pages.proofs.Seeking.{line-part}
 use Rattle.pages.proofs.Storing.{StoringMarks, stored-line, marks-start, mark-inside, marks-on, marks-done}
 use borrow.Author.Needs.{needs}

@@ -15,7 +15,7 @@ judge-by-rows-requires c κs =
 judge-by-rows-requires-2 : tie.Need-judge-by-rows-requires-2
 judge-by-rows-requires-2 c κs =
     let p = c .before .before .before .before .before .pre in
-    judge-room mostPoints p (p .admitted .limits .out-lengths .few) (length-replicate {A = ℕ} (pointPlaces * pointPlaces) 0)
+    judge-room mostPoints p (p .admitted .intervals .out-lengths .few) (length-replicate {A = ℕ} (pointPlaces * pointPlaces) 0)
 
 pub judge-record-spec : {M : Type 1} → statement M
 judge-record-spec =

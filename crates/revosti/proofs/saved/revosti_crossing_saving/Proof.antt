@@ -7,7 +7,7 @@ use Rattle.revosti.proofs.saved.revosti_crossing_saving.Statement.{stat
 use Rattle.revosti.proofs.saved.revosti_crossing_saving.Tie as tie
 
 returns : tie.Need-returns
-returns c = kept (c .saved-number .ok) ∙ c .saved-number .ensures ∙ ap savedNumber (c .before .saved-by-crossing .ensures .answered)
+returns c = kept (c .saved-number .ok) ∙ c .saved-number .ensures ∙ ap savedNumber (c .before .saved-by-three-opt .ensures .answered)
 
 pub revosti-crossing-saving-spec : {M : Type 1} → statement M
 revosti-crossing-saving-spec =

@@ -10,11 +10,11 @@ use Rattle.search.proofs.split.take_in_all.Statement.{statement}
 use Rattle.search.proofs.split.take_in_all.Tie as tie
 
 abbrev Inv-loop : tie.InvT-loop
-Inv-loop n out put outs puts marks c legs₀ from to count at bound₀ i₀ legs bound i =
-    Taking n (whole32 out) (whole32 put) outs puts (marksOf n marks) (record { from = from; to = to; count = count }) c legs bound i
+Inv-loop n out put outrows putrows marks c legs₀ from to count at bound₀ i₀ legs bound i =
+    Taking n (whole32 out) (whole32 put) outrows putrows (marksOf n marks) (record { from = from; to = to; count = count }) c legs bound i
 
 abbrev μ-loop : tie.MeasureT-loop
-μ-loop n out put outs puts marks c legs₀ from to count at bound₀ i₀ legs bound i = count - i
+μ-loop n out put outrows putrows marks c legs₀ from to count at bound₀ i₀ legs bound i = count - i
 
 loop-holds : tie.Need-loop-holds Inv-loop μ-loop
 loop-holds c = take-start (c .before .before .before .before .before .before .before .before .before .before .pre .0) (c .before .before .row-start .ensures) (c .open-legs .ensures)

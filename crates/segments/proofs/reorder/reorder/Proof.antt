@@ -5,7 +5,7 @@ use borrow.Author.Needs.{needs}
 use borrow.Author.Tests.{not-true, not-false}
 use Rattle.segments.specs.asks.Reorder.{orderList}
 use Rattle.segments.specs.asks.Segment.{innerPoints}
-use Rattle.segments.proofs.Orders.{answers-other, answers-settled, answers-long}
+use Rattle.segments.proofs.Orders.{answers-other, answers-closed, answers-long}
 use Rattle.segments.proofs.reorder.reorder.Statement.{statement}
 use Rattle.segments.proofs.reorder.reorder.Tie as tie
 
@@ -16,7 +16,7 @@ returns-2 : tie.Need-returns-2
 unfolding innerPoints orderList
 returns-2 c =
     let e = c .before .before .before .before .before in
-    answers-settled _ _ _ _ _ _ (sym (e .before .same-points .ensures) ∙ not-false _ (e .if1 .left))
+    answers-closed _ _ _ _ _ _ (sym (e .before .same-points .ensures) ∙ not-false _ (e .if1 .left))
     (omega (arith, c .before .before .path-length .ensures, c .before .path-length2 .ensures))
 
 returns-3 : tie.Need-returns-3

@@ -13,11 +13,11 @@ use Rattle.sheet_lines.proofs.line.mark_lines.Statement.{statement}
 use Rattle.sheet_lines.proofs.line.mark_lines.Tie as tie
 
 abbrev Inv-loop : tie.InvT-loop
-Inv-loop n by out put outs puts marks₀ sheet count lines₀ last₀ index₀ high₀ marks lines last index high =
-    Proceeding by n (whole32 out) (whole32 put) outs puts (marksOf n marks₀) (whole16 sheet) count (marksOf n marks) lines last index high × (length marks ≡ length marks₀)
+Inv-loop n mark out put outrows putrows marks₀ sheet count lines₀ last₀ index₀ high₀ marks lines last index high =
+    Proceeding mark n (whole32 out) (whole32 put) outrows putrows (marksOf n marks₀) (whole16 sheet) count (marksOf n marks) lines last index high × (length marks ≡ length marks₀)
 
 abbrev μ-loop : tie.MeasureT-loop
-μ-loop n by out put outs puts marks₀ sheet count lines₀ last₀ index₀ high₀ marks lines last index high = records (whole16 sheet) - high
+μ-loop n mark out put outrows putrows marks₀ sheet count lines₀ last₀ index₀ high₀ marks lines last index high = records (whole16 sheet) - high
 
 loop-holds : tie.Need-loop-holds Inv-loop μ-loop
 loop-holds c = (lines-start (c .before .before .before .before .before .before .pre .tried), refl)

@@ -1,6 +1,6 @@
 -- `sheets::visits::close_by_order` meets its contract: each return is a way out of `closeByOrder`. Assumes nothing.
 use borrow.Author.Needs.{needs}
-use Rattle.sheets.proofs.Visiting.{order-none, order-refused, order-asked, order-settled, order-other, order-long}
+use Rattle.sheets.proofs.Visiting.{order-none, order-refused, order-asked, order-closed, order-other, order-long}
 use Rattle.sheets.proofs.visits.close_by_order.Statement.{statement}
 use Rattle.sheets.proofs.visits.close_by_order.Tie as tie
 
@@ -23,7 +23,7 @@ returns-3 : tie.Need-returns-3
 returns-3 c =
     let o = c .before .before .before .before .before .before .before in
     let r = o .before .before .before in
-    order-settled (r .before .before .before .before .pre) (r .segment-of .ensures) _ _ (o .before .if1 .left) (o .visit-all .ensures) (c .before .before .before .before .end2 .given .1) (c .before .before .reorder .ensures) (c .enum-told .given .1)
+    order-closed (r .before .before .before .before .pre) (r .segment-of .ensures) _ _ (o .before .if1 .left) (o .visit-all .ensures) (c .before .before .before .before .end2 .given .1) (c .before .before .reorder .ensures) (c .enum-told .given .1)
 
 returns-4 : tie.Need-returns-4
 returns-4 c =

@@ -10,7 +10,7 @@ use borrow.Fn.PlainCycle.{Measures, is, falls, and}
 use Rattle.endian.specs.Bytes.{whole16, whole32}
 use Rattle.argument.specs.Record.{records}
 use Rattle.marks.specs.Packed.{marksOf}
-use Rattle.sheets.proofs.Walking.{Following, chain-split, follow-start, follow-search, follow-few, follow-ends, follow-stops, follow-case, follow-case-stops, follow-falls, follow-on, close-too-deep, close-chain, close-walks, close-three-opt-asked, close-settled, close-no-moves, close-no-saving, close-order-asked, close-by-orders}
+use Rattle.sheets.proofs.Walking.{Following, chain-split, follow-start, follow-search, follow-few, follow-ends, follow-stops, follow-case, follow-case-stops, follow-falls, follow-on, close-too-deep, close-chain, close-walks, close-three-opt-asked, close-closed, close-no-moves, close-no-saving, close-order-asked, close-by-orders}
 use Rattle.sheets.proofs.walk.chain.Reads as chain
 use Rattle.sheets.proofs.walk.chain.Kinds as chain-kinds
 use Rattle.sheets.proofs.walk.+chain+close_case.Lts-chain as chain-lts
@@ -56,11 +56,11 @@ abbrev close-case-calls : ℕ → close-case-lts.Claims
 close-case-calls t = (chain-below t, chain.Post, close-by-three-opt-reads.Asked, close-by-three-opt-reads.Learnt, close-by-order-reads.Asked, close-by-order-reads.Learnt)
 
 abbrev chain-Inv-loop : chain-lts.InvT-loop
-chain-Inv-loop n out put outs puts marks sheet count k left i c first legs bound centre candidates rank x₀ y₀ last₀ index₀ high₀ x y last index high =
-    Following n (whole32 out) (whole32 put) outs puts (marksOf n marks) (whole16 sheet) count k left i c first legs candidates rank bound centre x y last index high
+chain-Inv-loop n out put outrows putrows marks sheet count k left i c first legs bound centre candidates rank x₀ y₀ last₀ index₀ high₀ x y last index high =
+    Following n (whole32 out) (whole32 put) outrows putrows (marksOf n marks) (whole16 sheet) count k left i c first legs candidates rank bound centre x y last index high
 
 abbrev chain-μ-loop : chain-lts.MeasureT-loop
-chain-μ-loop n out put outs puts marks sheet count k left i c first legs bound centre candidates rank x₀ y₀ last₀ index₀ high₀ x y last index high =
+chain-μ-loop n out put outrows putrows marks sheet count k left i c first legs bound centre candidates rank x₀ y₀ last₀ index₀ high₀ x y last index high =
     records (whole16 sheet) - high
 
 chain-prepare-requires : (t : ℕ) → chain-lts.Need-prepare-requires (chain-calls t) (chain-at t) chain.Post chain-Inv-loop chain-μ-loop
@@ -70,7 +70,7 @@ chain-neighbours-of-requires : (t : ℕ) → chain-lts.Need-neighbours-of-requir
 chain-neighbours-of-requires t c κs = c .before .before .before .before .before .before .before .before .pre .1 .held .stored
 
 chain-list-candidates-requires : (t : ℕ) → chain-lts.Need-list-candidates-requires (chain-calls t) (chain-at t) chain.Post chain-Inv-loop chain-μ-loop
-chain-list-candidates-requires t c κs = record { few = c .before .before .before .before .before .before .before .before .before .before .before .before .pre .1 .tried .admitted .limits .out-lengths .few; candidates-room = refl; rank-room = refl }
+chain-list-candidates-requires t c κs = record { few = c .before .before .before .before .before .before .before .before .before .before .before .before .pre .1 .tried .admitted .intervals .out-lengths .few; candidates-room = refl; rank-room = refl }
 
 chain-loop-holds : (t : ℕ) → chain-lts.Need-loop-holds (chain-calls t) (chain-at t) chain.Post chain-Inv-loop chain-μ-loop
 chain-loop-holds t c = follow-start (c .before .before .before .before .before .before .before .before .before .before .before .before .before .pre .1) _ _ (c .before .before .before .before .before .prepare .ensures) (c .before .before .before .before .neighbours-of .ensures) (c .list-candidates .ensures)
@@ -154,7 +154,7 @@ close-case-returns-2 : (t : ℕ) → close-case-lts.Need-returns-2 (close-case-c
 close-case-returns-2 t c = close-walks (c .before .before .before .before .before .before .before .before .before .before .before .pre .1) (c .before .before .before .closing .given .1) _ (c .before .if1 .left) (c .chain .ensures)
 
 close-case-returns-3 : (t : ℕ) → close-case-lts.Need-returns-3 (close-case-calls t) (close-case-at t) close-case.Post
-close-case-returns-3 t c = close-settled (c .before .before .before .before .before .before .before .before .before .before .before .before .pre .1) (c .before .before .before .before .closing2 .given .1) _ (c .before .before .close-by-three-opt .ensures) (c .enum-told .given .1)
+close-case-returns-3 t c = close-closed (c .before .before .before .before .before .before .before .before .before .before .before .before .pre .1) (c .before .before .before .before .closing2 .given .1) _ (c .before .before .close-by-three-opt .ensures) (c .enum-told .given .1)
 
 close-case-returns-4 : (t : ℕ) → close-case-lts.Need-returns-4 (close-case-calls t) (close-case-at t) close-case.Post
 close-case-returns-4 t c = close-no-moves (c .before .before .before .before .before .before .before .before .before .before .before .before .pre .1) (c .before .before .before .before .closing2 .given .1) _ (c .before .before .close-by-three-opt .ensures) (c .enum-told2 .given .1)

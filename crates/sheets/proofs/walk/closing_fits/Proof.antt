@@ -1,4 +1,4 @@
--- `sheets::walk::closing_fits` meets its contract: each return is a way out of `howFits`. Assumes nothing.
+-- `sheets::walk::closing_fits` meets its contract: each return is a way out of `closingFits`. Assumes nothing.
 use mathlib.Core.Path.{sym, _∙_}
 use borrow.Author.Tests.{not-true, not-false}
 use Rattle.sheets.proofs.Looking.{split-fits, three-opt-p, three-opt-q, three-opt-r, three-opt-s, order-u, order-v}

@@ -2,7 +2,7 @@
 -- Assumes nothing.
 use mathlib.Core.Path.{sym}
 use native.Mathlib.Omega.{arith}
-use Rattle.argument.proofs.Steps.{looks-end, refuse-end, refuse-above, refuse-low}
+use Rattle.argument.proofs.ChainSteps.{looks-end, refuse-end, refuse-above, refuse-low}
 use Rattle.argument.proofs.Tests.{none-left}
 use Rattle.sheets.proofs.Looking.{above-all, not-above, entered, none-at-end, some-at-pair, look-case, look-line, look-visit, look-other}
 use borrow.Author.Needs.{needs}

@@ -1,7 +1,7 @@
 -- `sheets::walk::points_fit` meets its contract: each return is a way out of `fits`. Assumes nothing.
 use mathlib.Core.Path.{sym, _∙_}
 use borrow.Author.Tests.{not-true, not-false}
-use Rattle.sheets.proofs.Looking.{fits-not-a, fits-not-b, fits-not-apart, fits-how}
+use Rattle.sheets.proofs.Looking.{fits-not-a, fits-not-b, fits-not-apart, fits-closing}
 use borrow.Author.Needs.{needs}
 use Rattle.sheets.proofs.walk.points_fit.Statement.{statement}
 use Rattle.sheets.proofs.walk.points_fit.Tie as tie
@@ -16,7 +16,7 @@ returns-3 : tie.Need-returns-3
 returns-3 c = let b = c .before in let a = b .before .before in fits-not-apart _ _ _ _ (sym (a .before .is-point .ensures) ∙ not-false _ (a .if1 .left)) (sym (b .before .is-point2 .ensures) ∙ not-false _ (b .if2 .left)) (c .if3 .taken)
 
 returns-4 : tie.Need-returns-4
-returns-4 c = let b = c .before .before in let a = b .before .before in c .closing-fits .ensures ∙ fits-how _ _ _ _ (sym (a .before .is-point .ensures) ∙ not-false _ (a .if1 .left)) (sym (b .before .is-point2 .ensures) ∙ not-false _ (b .if2 .left)) (c .before .if3 .left)
+returns-4 c = let b = c .before .before in let a = b .before .before in c .closing-fits .ensures ∙ fits-closing _ _ _ _ (sym (a .before .is-point .ensures) ∙ not-false _ (a .if1 .left)) (sym (b .before .is-point2 .ensures) ∙ not-false _ (b .if2 .left)) (c .before .if3 .left)
 
 pub points-fit-spec : {M : Type 1} → statement M
 points-fit-spec =

@@ -4,17 +4,17 @@ use Prim.Native.Nat.{_-_, max}
 use native.Mathlib.Omega.{arith}
 use lib.ListN.{length}
 use Rattle.tsplib.specs.State.{stepOf}
-use Rattle.tsplib.specs.Judging.{mostOf}
+use Rattle.tsplib.specs.Judging.{maximumOf}
 use Rattle.tsplib.proofs.Judgement.{Judging, judging-start, judging-on, judging-fault, judging-unfinished, judging-ends}
 use borrow.Author.Needs.{needs}
 use Rattle.tsplib.proofs.judging.judge.Statement.{statement}
 use Rattle.tsplib.proofs.judging.judge.Tie as tie
 
 abbrev Inv-loop : tie.InvT-loop
-Inv-loop text state₀ at₀ passed₀ most₀ state at passed most = Judging text state at passed most
+Inv-loop text state₀ at₀ passed₀ maximum₀ state at passed maximum = Judging text state at passed maximum
 
 abbrev μ-loop : tie.MeasureT-loop
-μ-loop text state₀ at₀ passed₀ most₀ state at passed most = length text - at
+μ-loop text state₀ at₀ passed₀ maximum₀ state at passed maximum = length text - at
 
 loop-holds : tie.Need-loop-holds Inv-loop μ-loop
 loop-holds c = judging-start _
@@ -53,7 +53,7 @@ loop-less : tie.Need-loop-less Inv-loop μ-loop
 loop-less c = omega (arith, c .before .before .before .before .before .before .before .before .before .find .ensures .low, c .before .before .before .before .before .before .before .before .before .before .loop-test .taken)
 
 loop-again : tie.Need-loop-again Inv-loop μ-loop
-loop-again c = judging-on (c .before .before .before .before .before .before .before .before .before .before .before .loop .inv) (c .before .before .before .before .before .before .before .before .before .find .ensures) (c .before .before .before .before .before .before .before .before .if1 .left) (ap (stepOf _) (sym (c .before .before .before .before .before .before .read-line .ensures)) ∙ sym (c .before .before .before .before .before .step .ensures) ∙ c .before .before .before .next .given .1) (c .larger .ensures ∙ ap (max _) (c .before .most-of .ensures ∙ ap mostOf (c .before .before .before .before .before .before .read-line .ensures)))
+loop-again c = judging-on (c .before .before .before .before .before .before .before .before .before .before .before .loop .inv) (c .before .before .before .before .before .before .before .before .before .find .ensures) (c .before .before .before .before .before .before .before .before .if1 .left) (ap (stepOf _) (sym (c .before .before .before .before .before .before .read-line .ensures)) ∙ sym (c .before .before .before .before .before .step .ensures) ∙ c .before .before .before .next .given .1) (c .larger .ensures ∙ ap (max _) (c .before .maximum-of .ensures ∙ ap maximumOf (c .before .before .before .before .before .before .read-line .ensures)))
 
 judge-end-requires : tie.Need-judge-end-requires Inv-loop μ-loop
 judge-end-requires c κs = omega (arith, c .before .loop .inv .few, c .before .loop .inv .inside)

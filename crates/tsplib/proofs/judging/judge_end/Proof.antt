@@ -10,19 +10,19 @@ use Rattle.tsplib.proofs.judging.judge_end.Tie as tie
 
 returns : tie.Need-returns
 unfolding judgedEnd
-returns c = at (λ (s : State). judgedEnd s (c .before .before .args .passed) (c .before .before .args .most) []) (c .enum-told .given .1) refl
+returns c = at (λ (s : State). judgedEnd s (c .before .before .args .passed) (c .before .before .args .maximum) []) (c .enum-told .given .1) refl
 
 returns-2 : tie.Need-returns-2
 unfolding judgedEnd
-returns-2 c = at (λ (s : State). judgedEnd s (c .before .before .args .passed) (c .before .before .args .most) []) (c .enum-told2 .given .1) refl
+returns-2 c = at (λ (s : State). judgedEnd s (c .before .before .args .passed) (c .before .before .args .maximum) []) (c .enum-told2 .given .1) refl
 
 returns-3 : tie.Need-returns-3
 unfolding judgedEnd
-returns-3 c = at (λ (s : State). judgedEnd s (c .before .before .args .passed) (c .before .before .args .most) []) (c .enum-told3 .given .1) refl
+returns-3 c = at (λ (s : State). judgedEnd s (c .before .before .args .passed) (c .before .before .args .maximum) []) (c .enum-told3 .given .1) refl
 
 returns-4 : tie.Need-returns-4
 unfolding judgedEnd
-returns-4 c = at (λ (s : State). judgedEnd s (c .before .before .before .args .passed) (c .before .before .before .args .most) []) (c .before .state .given .1) refl
+returns-4 c = at (λ (s : State). judgedEnd s (c .before .before .before .args .passed) (c .before .before .before .args .maximum) []) (c .before .state .given .1) refl
 
 pub judge-end-spec : {M : Type 1} → statement M
 judge-end-spec =

@@ -9,7 +9,7 @@ use Rattle.tsplib.proofs.state.step.Tie as tie
 
 returns : tie.Need-returns
 unfolding stepOf
-returns c = at (λ (s : State). stepOf s (c .before .before .before .before .args .line)) (c .before .before .state .given .1) (c .on-header .ensures)
+returns c = at (λ (s : State). stepOf s (c .before .before .before .before .args .line)) (c .before .before .state .given .1) (c .on-specification .ensures)
 
 returns-2 : tie.Need-returns-2
 unfolding stepOf

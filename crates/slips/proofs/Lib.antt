@@ -1,3 +1,0 @@
-pub mod Slips
-pub mod ViewAnswers
-pub mod Views

@@ -1,2 +1,0 @@
-pub mod Slip
-pub mod View

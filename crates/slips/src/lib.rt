@@ -1,3 +1,0 @@
-// Slips: what a marked sheet came to, as the examiner and the candidate see it.
-pub mod slip;
-pub mod view;
