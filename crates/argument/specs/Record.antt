@@ -1,5 +1,5 @@
--- The records of a sheet (01, "The sheet"): `recordAt` says by one equation what a record is.
--- A further form of closing is one more constructor of `CaseClosing`, with its kind in `content` and its points in `closingFits`.
+-- The records of a sheet (01, "The sheet"): `recordAt` says by one equation what a record is. A further form of closing
+-- is one more constructor of `CaseClosing`, with its kind in `content` and its points in `closingFits`.
 use Prim.Native.Nat.{ℕ, _+_, _-_, _*_, _/_, _≤_}
 use mathlib.Core.Bool.{Bool, true, false, not, _&&_}
 use mathlib.Core.List.{List}

@@ -1,5 +1,5 @@
--- The saving of a 3-opt closing is the best of its four labellings, and does not depend on the names of its points, where
--- lengths do not depend on the order of an edge's points: p and q, x and y, z and w may be swapped, and the
+-- The saving of a 3-opt closing is the best of its four labellings, and does not depend on the names of its points,
+-- where lengths do not depend on the order of an edge's points: p and q, x and y, z and w may be swapped, and the
 -- centres with their ends. Assumes nothing.
 use Prim.Native.Nat.{ℕ, _+_}
 use mathlib.Core.Path.{_≡_, _∙_, ap, ap₂}

@@ -1,5 +1,5 @@
--- The savings of a 3-opt closing, as 01's inequalities: a labelling saves exactly when both moves shorten, and the best of
--- the four saves exactly when one does. Assumes nothing.
+-- The savings of a 3-opt closing, as 01's inequalities: a labelling saves exactly when both moves shorten, and the best
+-- of the four saves exactly when one does. Assumes nothing.
 use Prim.Native.Nat.{ℕ, _+_, _<_}
 use mathlib.Core.Path.{_≡_, sym, _∙_, ap, ap₂}
 use mathlib.Core.Bool.{Bool, true, false, _&&_, _||_}

@@ -1,5 +1,5 @@
--- AGREEMENT (02, Paper 11): "Where low and high agree everywhere, verdicts are those of one table". Over the same table twice each operation is the one-table
--- operation: what it answers, and what it leaves. Assumes nothing.
+-- AGREEMENT (02, Paper 11): "Where low and high agree everywhere, verdicts are those of one table". Over the same table
+-- twice each operation is the one-table operation: what it answers, and what it leaves. Assumes nothing.
 use Prim.Native.Nat.{ℕ}
 use mathlib.Core.Path.{_≡_, refl, _∙_, ap}
 use mathlib.Core.Bool.{Bool, true, false, false≢true}
@@ -48,7 +48,8 @@ module _ (n : ℕ) (table marks : List ℕ) where
   unfolding readyBetween ready
   ready-agrees = ap (λ (t : Tested). untilPending t marks) tested-agrees
 
-  -- MARKING: the verdict, the lines and the marks left. Behind the same tests it is the same sheet under the same rules.
+  -- MARKING: the verdict, the lines and the marks left. Behind the same tests it is the same sheet under the same
+  -- rules.
   pub mark-agrees : (s : List ℕ) → markBetween n table table marks s ≡ markSheet n table marks s
   unfolding markBetween markBy
   mark-agrees s = ap (λ (t : Tested). markTested struckMark t table table marks s) ready-agrees

@@ -1,6 +1,7 @@
--- REFUSALS ARE THOSE OF THE RULES, of the operations that mark: a call that passes the tests answers what its lines come to by any lists of pairs which name exactly the feasible
--- ones (`FeasiblePair`), rising, on the sets that an argument comes to: verdict, number and record of a refusal, lines and marks. So 14 is told by `FeasiblePair`, and how the
--- list is computed has no part in it. Assumes nothing.
+-- REFUSALS ARE THOSE OF THE RULES, of the operations that mark: a call that passes the tests answers what its lines
+-- come to by any lists of pairs which name exactly the feasible ones (`FeasiblePair`), rising, on the sets that an
+-- argument comes to: verdict, number and record of a refusal, lines and marks. So 14 is told by `FeasiblePair`, and how
+-- the list is computed has no part in it. Assumes nothing.
 use Prim.Native.Nat.{ℕ}
 use mathlib.Core.Path.{_≡_, sym, _∙_, ap}
 use mathlib.Core.List.{List}

@@ -1,6 +1,6 @@
--- Asking against marking (02, Paper 3): the verdict and the lines are the same, and confirming behind asking leaves the marks of marking. The two
--- walk through the same lines with marks that correspond: those of marking are those of asking, confirmed. Withdrawing behind asking leaves the marks as
--- they were. Assumes nothing.
+-- Asking against marking (02, Paper 3): the verdict and the lines are the same, and confirming behind asking leaves the
+-- marks of marking. The two walk through the same lines with marks that correspond: those of marking are those of
+-- asking, confirmed. Withdrawing behind asking leaves the marks as they were. Assumes nothing.
 use Prim.Native.Nat.{ℕ}
 use mathlib.Core.Path.{_≡_, refl, sym, _∙_, ap, fun-ext}
 use mathlib.Core.Bool.{Bool, true, false}
@@ -88,18 +88,20 @@ module _ (n : ℕ) (table marks s : List ℕ) where
   unfolding markBy
   asked = agrees (ready n table marks) refl
 
-  -- ASK-VERDICT: asking a sheet answers what marking it directly answers, the verdict and the number of lines. Where something is pending both are
-  -- refused alike, so nothing is asked of the marks.
-  -- Both make the same tests. Behind them nothing is pending, so the marks correspond at the first line; and at each line they are open at the same
-  -- edges, since a pending edge counts as struck: the line is judged alike, and what it writes corresponds again (`sheet-maps`).
+  -- ASK-VERDICT: asking a sheet answers what marking it directly answers, the verdict and the number of lines. Where
+  -- something is pending both are refused alike, so nothing is asked of the marks. Both make the same tests. Behind
+  -- them nothing is pending, so the marks correspond at the first line; and at each line they are open at the same
+  -- edges, since a pending edge counts as struck: the line is judged alike, and what it writes corresponds again
+  -- (`sheet-maps`).
   pub ask-verdict : askSheet n table marks s .verdict ≡ markSheet n table marks s .verdict
   ask-verdict = asked .verdict
 
   pub ask-lines : askSheet n table marks s .lines ≡ markSheet n table marks s .lines
   ask-lines = asked .lines
 
-  -- ASK-CONFIRM: from marks with nothing pending, asking and then confirming, with the same n, leave exactly the marks of direct marking. So it is
-  -- for a call that is refused or stops among its lines; where asking struck nothing, confirming is refused by 21 and the marks agree.
+  -- ASK-CONFIRM: from marks with nothing pending, asking and then confirming, with the same n, leave exactly the marks
+  -- of direct marking. So it is for a call that is refused or stops among its lines; where asking struck nothing,
+  -- confirming is refused by 21 and the marks agree.
   pub ask-confirm : nonePending marks ≡ true → resolvedLeft (resolvedAnswer n (askSheet n table marks s .marks)) struckMark (askSheet n table marks s .marks) ≡ markSheet n table marks s .marks
   ask-confirm = asked .confirmed
 
@@ -108,7 +110,8 @@ mark-again : (marks : List ℕ) (i : ℕ) → setMark marks i (markAt marks i) �
 unfolding setMark markAt
 mark-again marks i = set-getD marks i 0
 
--- Withdrawing gives back the marks from before: m′ are marks of n points, and withdrawn they are the marks at the start.
+-- Withdrawing gives back the marks from before: m′ are marks of n points, and withdrawn they are the marks at the
+-- start.
 record Back (n : ℕ) (marks m m′ : List ℕ) : Type 0 where
   pub same : m ≡ m′
   pub withdrawn : resolvedMarks openMark m′ ≡ marks
@@ -137,7 +140,8 @@ module _ (n : ℕ) (table marks : List ℕ) where
           ∙ mark-again (resolvedMarks openMark m′) i
           ∙ k .withdrawn
 
--- ASK-WITHDRAW: from marks with nothing pending, asking and then withdrawing, with the same n, leave the marks as they were.
+-- ASK-WITHDRAW: from marks with nothing pending, asking and then withdrawing, with the same n, leave the marks as they
+-- were.
 pub ask-withdraw : (n : ℕ) (table marks s : List ℕ) → nonePending marks ≡ true → resolvedLeft (resolvedAnswer n (askSheet n table marks s .marks)) openMark (askSheet n table marks s .marks) ≡ marks
 unfolding markBy
 ask-withdraw n table marks s none = tests (ready n table marks) refl

@@ -1,5 +1,5 @@
--- Asking against marking (02, Paper 3), of packed sets, and of the functions for C: a set that is not well packed stays as it is, and of one that is `Asked`
--- says it of the marks that it holds. Assumes nothing.
+-- Asking against marking (02, Paper 3), of packed sets, and of the functions for C: a set that is not well packed stays
+-- as it is, and of one that is `Asked` says it of the marks that it holds. Assumes nothing.
 use Prim.Native.Nat.{ℕ, _+_, _*_}
 use mathlib.Core.Path.{_≡_, refl, sym, _∙_, ap, ap₂}
 use mathlib.Core.Bool.{Bool, true, false}

@@ -1,6 +1,5 @@
--- What a call of *mark a sheet* or *ask a sheet* changes: as many marks as it answers lines, each from open to the mark that its lines write, those
--- of the edges that they strike.
--- Assumes nothing.
+-- What a call of *mark a sheet* or *ask a sheet* changes: as many marks as it answers lines, each from open to the mark
+-- that its lines write, those of the edges that they strike. Assumes nothing.
 use Prim.Native.Nat.{ℕ, suc, _<_}
 use mathlib.Core.Path.{_≡_, refl, sym, _∙_, ap, subst}
 use mathlib.Core.Bool.{true, false, false≢true}

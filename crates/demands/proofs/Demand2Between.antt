@@ -1,5 +1,6 @@
--- DEMAND 2 for lines and sheets over two tables (02, Paper 11): what *mark a sheet* accepts, answers and changes, by the rules over low and high alone: "whatever a rule
--- takes out counts low, whatever it puts in counts high". Lists are in `Listed`. Assumes nothing.
+-- DEMAND 2 for lines and sheets over two tables (02, Paper 11): what *mark a sheet* accepts, answers and changes, by
+-- the rules over low and high alone: "whatever a rule takes out counts low, whatever it puts in counts high". Lists are
+-- in `Listed`. Assumes nothing.
 use Prim.Native.Nat.{ℕ}
 use mathlib.Core.Path.{_≡_, _∙_, ap}
 use mathlib.Core.Logic.{_↔_}
@@ -20,10 +21,11 @@ use Rattle.demands.specs.Marked.{PassesBetween, struckEdges, Changes}
 use Rattle.demands.proofs.Changed.{chain-changes}
 use Rattle.demands.proofs.SheetLines.{judged-exact, lines-marked, answers, answers-whole, answers-refusal, tested-changes}
 
--- DEMAND 2 over two tables: a line, entered as record i, is accepted exactly when it is a complete line by the rules over low and high: it names two different
--- points, their edge is open, and a complete argument for it is laid out behind the record, at most six splits deep, whose cases are the pairs that are feasible
--- over low and high and whose closings close over low and high.
--- The walk accepts exactly the complete arguments laid out there (`judged-exact`), since these rules are lawful like those over one table.
+-- DEMAND 2 over two tables: a line, entered as record i, is accepted exactly when it is a complete line by the rules
+-- over low and high: it names two different points, their edge is open, and a complete argument for it is laid out
+-- behind the record, at most six splits deep, whose cases are the pairs that are feasible over low and high and whose
+-- closings close over low and high. The walk accepts exactly the complete arguments laid out there (`judged-exact`),
+-- since these rules are lawful like those over one table.
 pub demand-2-between :
     (n : ℕ) (low high marks sheet : List ℕ) (i a b next highest : ℕ) →
     (judge (rulesBetween n low high marks) (openIn n marks) sheet i ≡ accepted (strikes a b next highest)) ↔ CompleteLine (rulesBetween n low high marks) (openIn n marks) sheet i a b next highest
@@ -38,9 +40,10 @@ module _ (n : ℕ) (low high marks s : List ℕ) where
   unfolding markBetween
   marked-lines p = lines-marked struckMark n low high marks s (readyBetween n low high marks) (p .points) (p .whole)
 
-  -- DEMAND 2 for a sheet over two tables: a call that passes the tests up to 7 answers r exactly when a chain of complete lines from record 1 on, each complete
-  -- by the rules over low and high under the marks that the lines before it leave, leads to a place where it stops with r's verdict, marks and number of lines.
-  -- Each line is judged as `demand-2-between` says, one after the other.
+  -- DEMAND 2 for a sheet over two tables: a call that passes the tests up to 7 answers r exactly when a chain of
+  -- complete lines from record 1 on, each complete by the rules over low and high under the marks that the lines before
+  -- it leave, leads to a place where it stops with r's verdict, marks and number of lines. Each line is judged as
+  -- `demand-2-between` says, one after the other.
   pub demand-2-sheet-between : PassesBetween n low high marks s → (r : Result (List ℕ)) → (markBetween n low high marks s ≡ r) ↔ Answers (markingBetween struckMark n low high) s (start marks) r
   demand-2-sheet-between p = answers struckMark n low high marks s (markBetween n low high marks s) (marked-lines p)
 
@@ -54,7 +57,8 @@ module _ (n : ℕ) (low high marks s : List ℕ) where
   pub demand-2-refusal-between : PassesBetween n low high marks s → (number rec : ℕ) → markBetween n low high marks s .verdict ≡ refused number rec → RefusedAt s number rec
   demand-2-refusal-between p = answers-refusal struckMark n low high marks s (markBetween n low high marks s) (marked-lines p) (p .whole)
 
-  -- The marks that a call changes are those of the edges that its accepted lines strike, as many as the lines that it answers, each open before and struck now.
+  -- The marks that a call changes are those of the edges that its accepted lines strike, as many as the lines that it
+  -- answers, each open before and struck now.
   pub demand-2-struck-between : PassesBetween n low high marks s → (r : Result (List ℕ)) (m : Answers (markingBetween struckMark n low high) s (start marks) r) →
       Changes struckMark n marks (r .marks) (struckEdges (m .lines)) (r .lines)
   demand-2-struck-between p r m = chain-changes struckMark struck-not-open n low high s marks (passed-ready (p .points) .listable .marked) r m

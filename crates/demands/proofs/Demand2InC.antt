@@ -1,5 +1,6 @@
--- DEMAND 2 for sheets, of the functions for C: what `revosti_mark_sheet`, `revosti_ask_sheet` and `revosti_mark_between` answer, leave and change, by 01's rules alone, from their
--- contracts (`MarkedInC`, `MarkedBetweenInC`). Refusal, record and lines are read from the answer's bits (`receiptIn`). Assumes nothing.
+-- DEMAND 2 for sheets, of the functions for C: what `revosti_mark_sheet`, `revosti_ask_sheet` and
+-- `revosti_mark_between` answer, leave and change, by 01's rules alone, from their contracts (`MarkedInC`,
+-- `MarkedBetweenInC`). Refusal, record and lines are read from the answer's bits (`receiptIn`). Assumes nothing.
 use Prim.Native.Nat.{ℕ, _+_, _*_, _≤_}
 use mathlib.Core.Path.{_≡_, refl, sym, _∙_, ap, subst}
 use mathlib.Core.Logic.{_↔_}
@@ -78,9 +79,11 @@ whole-number left lines = omega arith
 -- `revosti_mark_sheet` (`mark` struck) and `revosti_ask_sheet` (`mark` pending)
 module _ (mark n : ℕ) (table set s : List ℕ) where
   module _ (p : Passes n (whole32 table) (marksOf n set) (whole16 s)) where
-    -- DEMAND 2 in C: a call that passes the tests up to 7 answers r and leaves the set `left` exactly when a chain of complete lines from record 1 on, each complete under the marks that
-    -- the lines before it leave, leads to a place where the sheet stops; r is the number of that verdict and those lines, and `left` the packed set of that place's marks.
-    -- The contract says that r and `left` are those of `markInC`, and that is `markPackedBy` over the numbers that the bytes are, of which `demand-2-sheet-packed` says it.
+    -- DEMAND 2 in C: a call that passes the tests up to 7 answers r and leaves the set `left` exactly when a chain of
+    -- complete lines from record 1 on, each complete under the marks that the lines before it leave, leads to a place
+    -- where the sheet stops; r is the number of that verdict and those lines, and `left` the packed set of that place's
+    -- marks. The contract says that r and `left` are those of `markInC`, and that is `markPackedBy` over the numbers
+    -- that the bytes are, of which `demand-2-sheet-packed` says it.
     pub demand-2-sheet-in-C : (r : ℕ) (left : List ℕ) → MarkedInC mark n table set s r left ↔ AnswersInC (markingBy mark n (whole32 table)) (whole16 s) (marksOf n set) r left
     demand-2-sheet-in-C r left = (there, back)
       where

@@ -1,5 +1,6 @@
--- DEMAND 2 for sheets over packed sets (02, Paper 4): what `mark_sheet`, `ask_sheet` and `mark_between` answer, leave and change, by 01's rules alone. A set whose call passes the
--- tests is well packed, so what is left is the packed set of the marks that the lines leave; the theorems are those of `Demand2` and `Demand2Between`. Assumes nothing.
+-- DEMAND 2 for sheets over packed sets (02, Paper 4): what `mark_sheet`, `ask_sheet` and `mark_between` answer, leave
+-- and change, by 01's rules alone. A set whose call passes the tests is well packed, so what is left is the packed set
+-- of the marks that the lines leave; the theorems are those of `Demand2` and `Demand2Between`. Assumes nothing.
 use Prim.Native.Nat.{ℕ, _≤_}
 use mathlib.Core.Path.{_≡_, refl, sym, _∙_, ap, subst}
 use mathlib.Core.Bool.{Bool, true, false, cond}
@@ -54,7 +55,8 @@ module _ (mark n : ℕ) (out put set s : List ℕ) (well : wellPacked n set ≡ 
       held : marksOf n (packed (m .result .marks)) ≡ m .result .marks
       held = marks-packed (subst (λ (a : Result (List ℕ)). ByteSet n (a .marks)) (exact (m .result) .1 (m .answers)) kept)
 
--- what a call leaves, whatever its tests come to, holds the marks that are left: a set that is not well packed is refused and stays
+-- what a call leaves, whatever its tests come to, holds the marks that are left: a set that is not well packed is
+-- refused and stays
 module _ (mark n : ℕ) (out put set s : List ℕ) where
   held-left : mark ≤ pendingMark → (t : Tested) → ((p : ℕ) → t ≡ Points p → wellPacked n set ≡ true) →
       marksOf n (repack n set (markTested mark t out put (marksOf n set) s) .marks) ≡ markTested mark t out put (marksOf n set) s .marks
@@ -69,8 +71,9 @@ module _ (mark n : ℕ) (table set s : List ℕ) where
   well-passed e = passed-well set (both-passed (passed (ready-tested e .tests)))
 
   module _ (p : Passes n table (marksOf n set) s) where
-    -- DEMAND 2 for a sheet over a packed set: a call that passes the tests up to 7 answers and leaves q exactly when a chain of complete lines from record 1 on leads to a place
-    -- where the sheet stops, with the verdict and the number of lines of that place, and q has the packed set of its marks
+    -- DEMAND 2 for a sheet over a packed set: a call that passes the tests up to 7 answers and leaves q exactly when a
+    -- chain of complete lines from record 1 on leads to a place where the sheet stops, with the verdict and the number
+    -- of lines of that place, and q has the packed set of its marks
     pub demand-2-sheet-packed : (q : Result (List ℕ)) → (markPackedBy mark n table set s ≡ q) ↔ AnswersPacked (markingBy mark n table) s (marksOf n set) q
     unfolding markPackedBy
     demand-2-sheet-packed = answers-packed mark n table table set s (well-passed (p .points)) (markBy mark n table (marksOf n set) s) (demand-2-sheet mark n table (marksOf n set) s p)
@@ -93,7 +96,8 @@ module _ (mark n : ℕ) (table set s : List ℕ) where
         (mark-byte-set mark n table s l (held-set set (well-passed (p .points)))) q m (struckEdges (m .answers .lines))
         (demand-2-struck mark other n table (marksOf n set) s p (m .result) (m .answers))
 
-  -- for every call, refused ones too: the marks that the set holds change at as many edges as lines are accepted, each from open to `mark`, and at no other
+  -- for every call, refused ones too: the marks that the set holds change at as many edges as lines are accepted, each
+  -- from open to `mark`, and at no other
   pub demand-2-changes-packed : (mark ≡ openMark → ⊥) → mark ≤ pendingMark →
       (struck : List Edge) × Changes mark n (marksOf n set) (marksOf n (markPackedBy mark n table set s .marks)) struck (markPackedBy mark n table set s .lines)
   unfolding markPackedBy markBy

@@ -1,5 +1,6 @@
--- DEMAND 3: no run of sheets strikes an edge of a shortest tour. First what a program calls, the functions for C; then the same of the marks of the edges, as 01 has
--- it. All are the one run (`Runs`, `PackedRuns`) with what it keeps (`OpenEdges`). Assumes nothing.
+-- DEMAND 3: no run of sheets strikes an edge of a shortest tour. First what a program calls, the functions for C; then
+-- the same of the marks of the edges, as 01 has it. All are the one run (`Runs`, `PackedRuns`) with what it keeps
+-- (`OpenEdges`). Assumes nothing.
 use Prim.Native.Nat.{ℕ, _≤_, _<_}
 use mathlib.Core.Path.{_≡_, refl, ap, subst}
 use mathlib.Core.Bool.{true}
@@ -52,7 +53,8 @@ low-serves {n} {low} {high} whole = record { whole = whole; between = ordered-be
 
 module _ (n : ℕ) (some : leastPoints ≤ n) (most : n ≤ mostPoints) (before : List ℕ) (sized : length before ≡ packedSize n) where
   module _ (T : Tables) (low-whole : length (whole32 (T .low)) ≡ edgeCount n) (steps : List Step) where
-    -- PAPER 9 in C, where the marks serve some table: the board's own (`one-serves`), one between low and high (`intervals-serve`), or the low one (`low-serves`)
+    -- PAPER 9 in C, where the marks serve some table: the board's own (`one-serves`), one between low and high
+    -- (`intervals-serve`), or the low one (`low-serves`)
     module _ {table : List ℕ} (served : Serves n (lengthsIn T) table) where
       pub two-open-edges-in-C : (v : ℕ) → Point n v → 2 ≤ openDegree n (marksOf n (stepsInC T steps (freshIn n before))) v
       two-open-edges-in-C = keeps-degree n (lengthsIn T) _ some served (shortest-open-in-C n some most before sized T low-whole steps)
@@ -60,9 +62,10 @@ module _ (n : ℕ) (some : leastPoints ≤ n) (most : n ≤ mostPoints) (before 
       pub n-open-edges-in-C : n ≤ openCount (marksOf n (stepsInC T steps (freshIn n before)))
       n-open-edges-in-C = keeps-count n (lengthsIn T) _ some served (shortest-open-in-C n some most before sized T low-whole steps)
 
-  -- THE RUN OVER TWO TABLES in C (02, Paper 11): "One set of marks must then serve whichever board is cut: for every table whose lengths lie between the two, ends
-  -- included, each of its shortest tours has all its edges open after any run of such sheets". The run stands before the table, so one set serves all; and it
-  -- holds of 3-optimal tours. It is the run whose board is not known.
+  -- THE RUN OVER TWO TABLES in C (02, Paper 11): "One set of marks must then serve whichever board is cut: for every
+  -- table whose lengths lie between the two, ends included, each of its shortest tours has all its edges open after any
+  -- run of such sheets". The run stands before the table, so one set serves all; and it holds of 3-optimal tours. It is
+  -- the run whose board is not known.
   module _ (low high : List ℕ) (low-whole : length (whole32 low) ≡ edgeCount n) (calls : List Call) where
     pub three-optimal-open-between-in-C : OrderFree (map stepIn (map marking-between calls)) → (table : List ℕ) → length table ≡ edgeCount n → Between (whole32 low) (whole32 high) table →
         (t : List ℕ) → ThreeOptimal n (lengthOf n table) t → (a b : ℕ) → Uses t a b →
@@ -78,16 +81,18 @@ module _ (n : ℕ) (some : leastPoints ≤ n) (most : n ≤ mostPoints) (before 
     shortest-open-between-in-C table whole intervals =
         shortest-open-in-C n some most before sized (intervalsAlone low high) low-whole (map marking-between calls) table (intervals-serve whole intervals)
 
-  -- DEMAND 3 in C: for every n from 4 to 180, every table of n(n - 1)/2 lengths, every list of calls of `revosti_mark_sheet` and every shortest tour, each
-  -- edge of the tour is open after the run that starts from the set that `revosti_fresh_marks` left in a buffer for this n. Table and sheets are bytes.
+  -- DEMAND 3 in C: for every n from 4 to 180, every table of n(n - 1)/2 lengths, every list of calls of
+  -- `revosti_mark_sheet` and every shortest tour, each edge of the tour is open after the run that starts from the set
+  -- that `revosti_fresh_marks` left in a buffer for this n. Table and sheets are bytes.
   pub demand-3-in-C : (table : List ℕ) → length (whole32 table) ≡ edgeCount n → (calls : List Call) (t : List ℕ) → Shortest n (lengthOf n (whole32 table)) t →
       (a b : ℕ) → Uses t a b → openIn n (marksOf n (stepsInC (oneTable table) (map marking calls) (freshIn n before))) a b ≡ true
   unfolding openUpTo
   demand-3-in-C table whole calls t best a b u =
       ap (opens openMark) (shortest-open-in-C n some most before sized (oneTable table) whole (map marking calls) (whole32 table) (one-serves whole) t best a b u)
 
--- DEMAND 3: for every n from 4 to 180, every table of n(n - 1)/2 lengths, every list of calls of *mark a sheet* and every shortest tour, each
--- edge of the tour is open after the run that starts from the marks that *fresh marks* left in a buffer for this n.
+-- DEMAND 3: for every n from 4 to 180, every table of n(n - 1)/2 lengths, every list of calls of *mark a sheet* and
+-- every shortest tour, each edge of the tour is open after the run that starts from the marks that *fresh marks* left
+-- in a buffer for this n.
 pub demand-3 :
     (n : ℕ) → leastPoints ≤ n → n ≤ mostPoints → (table : List ℕ) → length table ≡ edgeCount n → (before : List ℕ) → length before ≡ edgeCount n →
     (calls : List Call) (t : List ℕ) → Shortest n (lengthOf n table) t → (a b : ℕ) → Uses t a b →

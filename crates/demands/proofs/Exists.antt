@@ -1,6 +1,6 @@
 -- Some shortest tour exists, for every number of points and all lengths: demand 3 speaks of something. Assumes nothing.
--- A tour of n points is a word of n letters from 1 to n. Words of a given length that pass a test have a least one by any cost, or there is
--- none of them: letter by letter, the least of those that begin with 1, 2, .., n.
+-- A tour of n points is a word of n letters from 1 to n. Words of a given length that pass a test have a least one by
+-- any cost, or there is none of them: letter by letter, the least of those that begin with 1, 2, .., n.
 use Prim.Native.Nat.{ℕ, zero, suc, _≤_}
 use mathlib.Core.Path.{_≡_, refl, sym, _∙_, subst}
 use mathlib.Core.Bool.{Bool, true, false, false≢true}

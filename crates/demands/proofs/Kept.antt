@@ -1,6 +1,7 @@
--- A 3-optimal tour whose edges are open keeps them open, whatever sheets are marked: the tour meets what `argument` asks of a tour in
--- question (`Guarded`), so no accepted line strikes one of its edges, and nothing else changes a mark. The lengths by which the tour is 3-optimal
--- lie between those of low and high, over which the sheets are marked (02, Paper 11); one table is all three. Assumes nothing.
+-- A 3-optimal tour whose edges are open keeps them open, whatever sheets are marked: the tour meets what `argument`
+-- asks of a tour in question (`Guarded`), so no accepted line strikes one of its edges, and nothing else changes a
+-- mark. The lengths by which the tour is 3-optimal lie between those of low and high, over which the sheets are marked
+-- (02, Paper 11); one table is all three. Assumes nothing.
 use Prim.Native.Nat.{ℕ, _≤_}
 use mathlib.Core.Path.{_≡_, refl, sym, _∙_, subst}
 use mathlib.Core.Bool.{Bool, true, false}
@@ -49,7 +50,8 @@ pub record Kept (n : ℕ) (t marks : List ℕ) : Type 0 where
 pub fresh-kept : {n : ℕ} {t : List ℕ} → leastPoints ≤ n → Tour n t → Kept n t (freshMarks n)
 fresh-kept {n} some tour = record { whole = fresh-size n; all-open = λ a b u. fresh-open (tour-edge tour (omega arith) a b u) }
 
--- `Orders` says whether new orders of segments may occur (02, Paper 10): where it does, none closes edges that the tour uses, over lengths between which the table's lie
+-- `Orders` says whether new orders of segments may occur (02, Paper 10): where it does, none closes edges that the tour
+-- uses, over lengths between which the table's lie
 abbrev pub OutOfReach : (n : ℕ) (table t : List ℕ) (Orders : Type 0) → Type 0
 OutOfReach n table t Orders =
     (out put : List ℕ) → LengthsBetween n out put table → Orders → (K : List Edge) (u v : ℕ) (vs : List ℕ) → InTour t K → Reorders (lengthOf n out) (lengthOf n put) K u v vs → ⊥

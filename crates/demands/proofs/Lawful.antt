@@ -1,5 +1,6 @@
--- The rules of an instance are lawful, whatever the marks and lengths: what `argument` asks of rules. The tests that compute agree with the
--- rules on every set that an argument comes to, since {ab} has the shape that they go by and a feasible pair keeps it. Assumes nothing.
+-- The rules of an instance are lawful, whatever the marks and lengths: what `argument` asks of rules. The tests that
+-- compute agree with the rules on every set that an argument comes to, since {ab} has the shape that they go by and a
+-- feasible pair keeps it. Assumes nothing.
 use Prim.Native.Nat.{ℕ, _≤_}
 use mathlib.Core.Bool.{Bool}
 use mathlib.Core.Path.{_≡_, refl, _∙_, ap}

@@ -1,4 +1,5 @@
--- DEMAND 2 for *list pairs*, over one table and over two (02, Paper 11): what a call that answers a count leaves. Assumes nothing.
+-- DEMAND 2 for *list pairs*, over one table and over two (02, Paper 11): what a call that answers a count leaves.
+-- Assumes nothing.
 use Prim.Native.Nat.{ℕ, _*_, _≤_}
 use mathlib.Core.Path.{_≡_, refl, sym, _∙_, ap, subst}
 use mathlib.Core.Bool.{true}
@@ -92,16 +93,16 @@ module _ (n : ℕ) (out put marks : List ℕ) (a b c : ℕ) where
       rw (f, o, e)
 
 module _ (n : ℕ) (table marks : List ℕ) (a b c : ℕ) where
-  -- DEMAND 2 for *list pairs*: where a call answers a count, its list begins with the pairs that are feasible under {ab} at c, each once,
-  -- rising, x then y for each, and nothing past them changed. What the search finds is the list of the feasible pairs, since {ab} is a set
-  -- that an argument comes to.
+  -- DEMAND 2 for *list pairs*: where a call answers a count, its list begins with the pairs that are feasible under
+  -- {ab} at c, each once, rising, x then y for each, and nothing past them changed. What the search finds is the list
+  -- of the feasible pairs, since {ab} is a set that an argument comes to.
   pub demand-2-list : (list : List ℕ) (count : ℕ) → listed n table marks a b c (placesOf list) ≡ listing.Pairs count →
       ListsFeasible n table marks a b c list (listLeft (listed n table marks a b c (placesOf list)) n table table marks a b c list) count
   unfolding listed
   demand-2-list = tested-list n table table marks a b c (tested n table marks) (λ m e. passed e .same)
 
-  -- and what a call answers that passes tests 1 to 12: 18 where the list has fewer than twice as many places as there are feasible pairs, else
-  -- their number. Only one list has exactly the feasible pairs, rising (`named-list`).
+  -- and what a call answers that passes tests 1 to 12: 18 where the list has fewer than twice as many places as there
+  -- are feasible pairs, else their number. Only one list has exactly the feasible pairs, rising (`named-list`).
   pub demand-2-count : tested n table marks ≡ Points n → fits n a b (splits c 0) ≡ true → unstruckIn n marks a b ≡ true → (pairs : List Edge) → NamesFeasible (rulesWhere n table table (unstruckIn n marks)) (edge a b ∷ []) c pairs →
       (size : ℕ) → listed n table marks a b c size ≡ unless (leb (2 * length pairs) size) (listing.Refused 18 0) (listing.Pairs (length pairs))
   unfolding listed
@@ -110,15 +111,17 @@ module _ (n : ℕ) (table marks : List ℕ) (a b c : ℕ) where
 
 -- and over two tables: the pairs are those that are feasible over low and high
 module _ (n : ℕ) (low high marks : List ℕ) (a b c : ℕ) where
-  -- DEMAND 2 for *list pairs* over two tables: where a call answers a count, its list begins with the pairs that are feasible under {ab} at c where what is
-  -- taken out counts low and what is put in counts high, each once, rising, x then y for each, and nothing past them changed. The rules over two tables are lawful
-  -- like those over one, and what the search finds is the list of their feasible pairs.
+  -- DEMAND 2 for *list pairs* over two tables: where a call answers a count, its list begins with the pairs that are
+  -- feasible under {ab} at c where what is taken out counts low and what is put in counts high, each once, rising, x
+  -- then y for each, and nothing past them changed. The rules over two tables are lawful like those over one, and what
+  -- the search finds is the list of their feasible pairs.
   pub demand-2-list-between : (list : List ℕ) (count : ℕ) → listedBetween n low high marks a b c (placesOf list) ≡ listing.Pairs count →
       ListsBetween n low high marks a b c list (listLeft (listedBetween n low high marks a b c (placesOf list)) n low high marks a b c list) count
   unfolding listedBetween
   demand-2-list-between = tested-list n low high marks a b c (testedBetween n low high marks) (λ m e. passed-between e .same)
 
-  -- and what a call answers that passes tests 1 to 12, 25 among them: 18 where the list has fewer than twice as many places as there are such pairs, else their number
+  -- and what a call answers that passes tests 1 to 12, 25 among them: 18 where the list has fewer than twice as many
+  -- places as there are such pairs, else their number
   pub demand-2-count-between : testedBetween n low high marks ≡ Points n → fits n a b (splits c 0) ≡ true → unstruckIn n marks a b ≡ true →
       (pairs : List Edge) → NamesFeasible (rulesWhere n low high (unstruckIn n marks)) (edge a b ∷ []) c pairs →
       (size : ℕ) → listedBetween n low high marks a b c size ≡ unless (leb (2 * length pairs) size) (listing.Refused 18 0) (listing.Pairs (length pairs))

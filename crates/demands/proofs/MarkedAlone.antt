@@ -47,7 +47,8 @@ use Rattle.demands.proofs.Receipts.{marked-receipt}
 use Rattle.demands.proofs.OwnTurns.{sheet-passed, Going, Gone, going-line, goes, going-start}
 use Rattle.demands.proofs.TestNumbers.{ready-number}
 
--- the desk d with its n, the table and the sheet as bytes, the packed set at handing in, and that the sheet passed its tests
+-- the desk d with its n, the table and the sheet as bytes, the packed set at handing in, and that the sheet passed its
+-- tests
 module _ (d n : ℕ) (table set₀ s : List ℕ) (tests-passed : ready n (whole32 table) (marksOf n set₀) ≡ tests.Points n)
     (whole : wholeSheet (length (whole16 s)) ≡ true) where
   abbrev Goes : ℕ → Seen → Type 0

@@ -126,8 +126,9 @@ module _ (n : ℕ) (cs : List ℕ) (p : Surveyed n cs) where
         only = λ a b d pa pb is. only-distance (sum-small a b) rule d is ∙ sym (length-is rule a b pa pb);
       }
 
--- DEMAND 2 for *measure*: in the table whose bytes a call leaves where it refuses nothing, the length between any two points is the d that 01's rule of
--- this number gives for their coordinates, and nothing else is. The tests on n and the coordinates keep S within the limit that the rules' theorems ask.
+-- DEMAND 2 for *measure*: in the table whose bytes a call leaves where it refuses nothing, the length between any two
+-- points is the d that 01's rule of this number gives for their coordinates, and nothing else is. The tests on n and
+-- the coordinates keep S within the limit that the rules' theorems ask.
 pub demand-2-measure : (n rule : ℕ) (cs table : List ℕ) → measured n rule cs (length (whole32 table)) ≡ Done → Measures n rule cs (whole32 (tableAfter n rule cs table))
 unfolding measured tableAfter
 demand-2-measure n rule cs table h =

@@ -1,5 +1,6 @@
--- Lengths between low and high ones (02, Paper 11): a pair that is feasible under them is feasible over low and high, and a closing that closes over low and
--- high closes under them. So over low and high there are no fewer pairs to argue about, and no more closings. Assumes nothing.
+-- Lengths between low and high ones (02, Paper 11): a pair that is feasible under them is feasible over low and high,
+-- and a closing that closes over low and high closes under them. So over low and high there are no fewer pairs to argue
+-- about, and no more closings. Assumes nothing.
 use Prim.Native.Nat.{ℕ, _≤_}
 use mathlib.Core.Path.{_≡_, refl}
 use mathlib.Core.Bool.{Bool, true, false}
@@ -37,9 +38,9 @@ module _ {l m h : ℕ → ℕ → ℕ} (low : NoLonger l m) (high : NoLonger m h
         omega (arith, sums .1, low p q, low r y, low s z, high r s, high p z, high q y),
       )
 
-  -- MONOTONE: for lengths l ≤ m ≤ h, a pair that is feasible under m is feasible over l and h.
-  -- Conditions 1 to 3 are not about lengths. In 4 and 5 an exchange that would save over l and h saves under m: what it takes out is no shorter there, and
-  -- what it puts in no longer.
+  -- MONOTONE: for lengths l ≤ m ≤ h, a pair that is feasible under m is feasible over l and h. Conditions 1 to 3 are
+  -- not about lengths. In 4 and 5 an exchange that would save over l and h saves under m: what it takes out is no
+  -- shorter there, and what it puts in no longer.
   pub feasible-over : {n : ℕ} {open? : ℕ → ℕ → Bool} {K : List Edge} {c x y : ℕ} → FeasiblePair n m m open? K c x y → FeasiblePair n l h open? K c x y
   feasible-over {c = c} {x} {y} f =
       record {

@@ -1,5 +1,6 @@
--- PAPER 4: each operation on the packed set of a byte set answers what it answers on the byte set, and leaves the packed set of what that leaves,
--- whatever number of points the call states; and converting there and back, and back and there, changes nothing. Assumes nothing.
+-- PAPER 4: each operation on the packed set of a byte set answers what it answers on the byte set, and leaves the
+-- packed set of what that leaves, whatever number of points the call states; and converting there and back, and back
+-- and there, changes nothing. Assumes nothing.
 use Prim.Native.Nat.{ℕ, suc, _≤_, _<_}
 use mathlib.Core.Path.{_≡_, refl, sym, _∙_, ap, subst}
 use mathlib.Core.Bool.{Bool, true, false, true≢false}
@@ -58,7 +59,8 @@ packed-size-injective m n h g e =
     (⊎-elim (λ l. absurd (omega (arith, packed-size-rises n m g l))) (λ q. q))
     (three-way m n)
 
--- how a call that states n meets the packed set of marks: n is out of the limits, or the set's own, or another, for which both sets have a wrong size
+-- how a call that states n meets the packed set of marks: n is out of the limits, or the set's own, or another, for
+-- which both sets have a wrong size
 data Meeting (n : ℕ) (bytes : List ℕ) : Type 0 where
   outside : inRange n ≡ false → Meeting n bytes
   stated : wellPacked n (packed bytes) ≡ true → marksOf n (packed bytes) ≡ bytes → Meeting n bytes
@@ -86,7 +88,8 @@ meet {p} {bytes} some b n = by (inRange n) refl (ℕ-discrete n p)
         (ne-eqb 0 (edgeCount n) (λ e. omega (arith, some-edges n least)))
         (marks-none n (packed bytes) (rw wrong))
 
--- tests in front of the marks' own: they refuse n out of the limits, and marks of a wrong number alike, whatever they are
+-- tests in front of the marks' own: they refuse n out of the limits, and marks of a wrong number alike, whatever they
+-- are
 record Shared (tests : List ℕ → Tested) (n : ℕ) : Type 0 where
   pub outside : inRange n ≡ false → (marks : List ℕ) → tests marks ≡ Refused 1
   pub number : ℕ
@@ -295,7 +298,8 @@ module _ {p : ℕ} {bytes : List ℕ} (some : leastPoints ≤ p) (b : ByteSet p 
       by outcome.Done = refl
       by (outcome.Refused k rec) = refl
 
--- CONVERTING, with n within the limits and buffers of the right sizes: packing a byte set gives its packed set, and unpacking that gives the old bytes
+-- CONVERTING, with n within the limits and buffers of the right sizes: packing a byte set gives its packed set, and
+-- unpacking that gives the old bytes
 module _ (n : ℕ) (range : inRange n ≡ true) where
   pub there-and-back : (bytes set back : List ℕ) → ByteSet n bytes → length set ≡ packedSize n → length back ≡ edgeCount n
       → unpackLeft (unpackAnswer n (packLeft (packAnswer n bytes (length set)) bytes set) (length back)) n (packLeft (packAnswer n bytes (length set)) bytes set) back ≡ bytes

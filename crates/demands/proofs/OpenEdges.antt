@@ -1,5 +1,6 @@
--- What marks that keep shortest tours keep besides (02, Paper 9): at least two open edges at every point, and at least n open edges. A shortest tour exists
--- under every table, and a tour has two edges at each point and n different edges. Assumes nothing.
+-- What marks that keep shortest tours keep besides (02, Paper 9): at least two open edges at every point, and at least
+-- n open edges. A shortest tour exists under every table, and a tour has two edges at each point and n different edges.
+-- Assumes nothing.
 use Prim.Native.Nat.{ℕ, _≤_}
 use mathlib.Core.Path.{_≡_, refl, _∙_, ap}
 use mathlib.Core.Bool.{true}
@@ -23,8 +24,8 @@ use Rattle.demands.specs.Run.{Tables}
 use Rattle.demands.proofs.Exists.{shortest-exists}
 use Rattle.demands.proofs.Strikes.{struck-count, marked-other}
 
--- Edges of n points, none of them twice and all of them open, are no more than the open marks. Strike the first: one open mark is gone, and
--- the others are as they were, so that the rest are no more than the open marks left.
+-- Edges of n points, none of them twice and all of them open, are no more than the open marks. Strike the first: one
+-- open mark is gone, and the others are as they were, so that the rest are no more than the open marks left.
 open-few :
     {n : ℕ} (es : List Edge) (marks : List ℕ) → ((a b : ℕ) → Has es a b → IsEdge n a b) → ((a b : ℕ) → Has es a b → total (mark a b) es ≡ 1) →
     ((a b : ℕ) → Has es a b → openIn n marks a b ≡ true) → total one es ≤ openCount marks
@@ -73,11 +74,12 @@ module _ (n : ℕ) (T : Tables) (marks : List ℕ) where
     all-open a b u = let s = shortest-exists n (lengthOf n table) in ap (opens openMark) (keeps table served (s .0) (s .1) a b u)
 
     -- PAPER 9: where marks keep shortest tours, every point has at least two open edges, and at least n edges are open.
-    -- Some tour is shortest under a table that the marks serve, and all its edges are open. A point v stands in it once, and n is
-    -- at least 3, so the points before and after v are two, neither of them v: two open edges at v. The tour has n edges and none of them
-    -- twice: without v it is a path that does not come by v, so an edge at v is one of the two that join v to the path's ends, and these differ.
-    -- An edge has one mark, and different edges have different ones. Strike the n edges one after the other: each was open until then, so each takes
-    -- one open mark away. So at least n were open.
+    -- Some tour is shortest under a table that the marks serve, and all its edges are open. A point v stands in it
+    -- once, and n is at least 3, so the points before and after v are two, neither of them v: two open edges at v. The
+    -- tour has n edges and none of them twice: without v it is a path that does not come by v, so an edge at v is one
+    -- of the two that join v to the path's ends, and these differ. An edge has one mark, and different edges have
+    -- different ones. Strike the n edges one after the other: each was open until then, so each takes one open mark
+    -- away. So at least n were open.
     pub keeps-degree : (v : ℕ) → Point n v → 2 ≤ openDegree n marks v
     keeps-degree = tour-degree some (shortest-exists n (lengthOf n table) .1 .tour) marks all-open
 

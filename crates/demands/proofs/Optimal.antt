@@ -1,5 +1,5 @@
--- A 3-optimal tour keeps to the rules: its edges are compatible, its two edges at a point are a feasible pair, and no closing closes edges
--- that it uses. Assumes nothing.
+-- A 3-optimal tour keeps to the rules: its edges are compatible, its two edges at a point are a feasible pair, and no
+-- closing closes edges that it uses. Assumes nothing.
 use Prim.Native.Nat.{ℕ, _≤_, _<_}
 use mathlib.Core.Path.{_≡_, sym, ap, ap₂, subst}
 use mathlib.Core.Bool.{Bool, true}
@@ -24,9 +24,10 @@ use Rattle.tours.proofs.OrOpt.{or-opt}
 use Rattle.tours.proofs.ThreeOpt.{three-opt}
 use Rattle.tours.proofs.ThreeOptimal.{no-gain}
 
--- If pq and xy are one edge, one of the two sums is that edge's length twice, which is l(pq) + l(xy). Otherwise one of the two exchanges of
--- pq and xy makes a tour (`two-opt`), by px and qy or by py and qx. That tour is no shorter than t, so what was put in is no shorter
--- than what was taken out: that sum is at least l(pq) + l(xy), and so is the larger of the two. Edges that touch are no special case.
+-- If pq and xy are one edge, one of the two sums is that edge's length twice, which is l(pq) + l(xy). Otherwise one of
+-- the two exchanges of pq and xy makes a tour (`two-opt`), by px and qy or by py and qx. That tour is no shorter than
+-- t, so what was put in is no shorter than what was taken out: that sum is at least l(pq) + l(xy), and so is the larger
+-- of the two. Edges that touch are no special case.
 pub optimal-compatible : {n : ℕ} {l : ℕ → ℕ → ℕ} {t : List ℕ} → ThreeOptimal n l t → Symmetric l → (p q x y : ℕ) → Uses t p q → Uses t x y → Compatible l l p q x y
 unfolding total
 optimal-compatible {n} {l} {t} O s p q x y hp hx = go (joins-dec p q x y)
@@ -90,7 +91,8 @@ module _
               no-gain O s (omega arith) (or-opt (O .tour) w p q u v (with-pair w p (d .has-x)) (with-pair w q (d .has-y)) (d .apart) (with-pair u v h) uw vw),
             )
 
-    -- The tour has three points or more, so c has two different neighbours in it: name them x < y. They are points, and not c.
+    -- The tour has three points or more, so c has two different neighbours in it: name them x < y. They are points, and
+    -- not c.
     --   1. cx and cy are edges of t, and those are open.
     --   2. K with cx and cy is a set of edges of t, and no point has three edges in t (`at-most-two`).
     --   3. A cycle of edges of t has all n points (`no-short-cycle`).
@@ -108,10 +110,10 @@ module _
         go (yes h) = own-pair c (N .x) (N .y) (omega (arith, N .apart)) (N .uses-x) (N .uses-y) (N .point-x) (N .point-y) (N .apart-x) (N .apart-y)
         go (no h) = own-pair c (N .y) (N .x) (omega arith) (N .uses-y) (N .uses-x) (N .point-y) (N .point-x) (N .apart-y) (N .apart-x)
 
--- t uses K, so the two ends x and y of r in K are the two neighbours of r in t, and z and w those of s. If t used rs, s would be x or y,
--- and rs an edge of K, which it is not. So `three-opt` applies, and one of its two moves makes a tour: pq, rx and sw give way to rs, px and
--- qw, or pq, ry and sz to rs, pz and qy. Which one it is depends on the tour, but a closing saves on both, so that tour is shorter than
--- t by an exchange of three edges; and t is 3-optimal.
+-- t uses K, so the two ends x and y of r in K are the two neighbours of r in t, and z and w those of s. If t used rs, s
+-- would be x or y, and rs an edge of K, which it is not. So `three-opt` applies, and one of its two moves makes a tour:
+-- pq, rx and sw give way to rs, px and qw, or pq, ry and sz to rs, pz and qy. Which one it is depends on the tour, but
+-- a closing saves on both, so that tour is shorter than t by an exchange of three edges; and t is 3-optimal.
 pub optimal-not-closed :
     {n : ℕ} {l : ℕ → ℕ → ℕ} {t : List ℕ} → ThreeOptimal n l t → Symmetric l → (K : List Edge) → ((a b : ℕ) → Has K a b → Uses t a b) → (p q r s : ℕ) → Closes l l K p q r s → ⊥
 unfolding total

@@ -1,5 +1,5 @@
--- A DESK'S OWN TURNS (02, Paper 14): where its sheet stands between two turns, and that one turn of the functions for C is
--- one line more of marking the sheet alone, or its end. Assumes nothing.
+-- A DESK'S OWN TURNS (02, Paper 14): where its sheet stands between two turns, and that one turn of the functions for C
+-- is one line more of marking the sheet alone, or its end. Assumes nothing.
 use Prim.Native.Nat.{ℕ, suc, _+_, _-_, _*_, _≤_, _<_}
 use mathlib.Core.Path.{_≡_, refl, sym, _∙_, ap, ap₂, subst}
 use mathlib.Core.Bool.{true, false}

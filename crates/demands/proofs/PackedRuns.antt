@@ -1,5 +1,6 @@
--- THE RUN of packed sets (02, Paper 4) and of the functions for C, with tables and sheets in bytes. A run over packed sets leaves the packed set of what the run over the
--- marks leaves (`run-on-packed`), so each is a corollary. Assumes nothing.
+-- THE RUN of packed sets (02, Paper 4) and of the functions for C, with tables and sheets in bytes. A run over packed
+-- sets leaves the packed set of what the run over the marks leaves (`run-on-packed`), so each is a corollary. Assumes
+-- nothing.
 use Prim.Native.Nat.{ℕ, _≤_}
 use mathlib.Core.Path.{_≡_, refl, sym, _∙_, ap, subst}
 use mathlib.Core.List.{List, [], _∷_, map}
@@ -85,8 +86,9 @@ module _ (n : ℕ) (some : leastPoints ≤ n) (most : n ≤ mostPoints) (before 
       ap (λ (s : List ℕ). marksOf n (stepsPacked T steps s)) (fresh-set-left n before (in-limits some most) sized)
       ∙ run-held some T steps (freshMarks n) (fresh-byte-set n)
 
-  -- THE RUN of packed sets, from the set that *fresh marks* left in a buffer for this n: each edge of a tour that is shortest under a table which the marks serve has mark 1, and
-  -- of one that is 3-optimal where no sheet has a record of kind 4
+  -- THE RUN of packed sets, from the set that *fresh marks* left in a buffer for this n: each edge of a tour that is
+  -- shortest under a table which the marks serve has mark 1, and of one that is 3-optimal where no sheet has a record
+  -- of kind 4
   module _ (T : Tables) (low-whole : length (T .low) ≡ edgeCount n) (steps : List Step) where
     pub three-optimal-open-packed : OrderFree steps → KeepsTours ThreeOptimal n T (marksOf n (stepsPacked T steps (freshIn n before)))
     three-optimal-open-packed free = subst (KeepsTours ThreeOptimal n T) (sym (held-after T steps)) (run-open n some T low-whole steps free)
@@ -94,7 +96,8 @@ module _ (n : ℕ) (some : leastPoints ≤ n) (most : n ≤ mostPoints) (before 
     pub shortest-open-packed : KeepsTours Shortest n T (marksOf n (stepsPacked T steps (freshIn n before)))
     shortest-open-packed = subst (KeepsTours Shortest n T) (sym (held-after T steps)) (run-shortest n some T low-whole steps)
 
-  -- THE RUN of the functions for C, from the set that `revosti_fresh_marks` left: tables and sheets are bytes, and the lengths are those that the tables' bytes are
+  -- THE RUN of the functions for C, from the set that `revosti_fresh_marks` left: tables and sheets are bytes, and the
+  -- lengths are those that the tables' bytes are
   module _ (T : Tables) (low-whole : length (whole32 (T .low)) ≡ edgeCount n) (steps : List Step) where
     pub three-optimal-open-in-C : OrderFree (map stepIn steps) → KeepsTours ThreeOptimal n (lengthsIn T) (marksOf n (stepsInC T steps (freshIn n before)))
     three-optimal-open-in-C free =

@@ -1,5 +1,6 @@
--- PAPER 12 in C: `revosti_read_page` answers 0 exactly for the page of some lengths within the limit and some marks, and 27 with its line exactly for
--- what is no such page; and what `revosti_write_page` writes it reads again, a page and all pages. From the contracts alone. Assumes nothing.
+-- PAPER 12 in C: `revosti_read_page` answers 0 exactly for the page of some lengths within the limit and some marks,
+-- and 27 with its line exactly for what is no such page; and what `revosti_write_page` writes it reads again, a page
+-- and all pages. From the contracts alone. Assumes nothing.
 use Prim.Native.Nat.{ℕ, zero, suc, _+_, _*_, _/_, _≤_, _<_}
 use mathlib.Core.Path.{_≡_, refl, sym, _∙_, ap, ap₂, subst}
 use mathlib.Core.Bool.{Bool, true, false}
@@ -145,7 +146,8 @@ copied-to {n} {from} (next {k} cs c) =
       set = copied-set c ∙ ap₂ (λ (table set : List ℕ). setAfter n (suc k) text table set) (r .table) (r .set);
     }
 
--- ROUND TRIP in C, ALL PAGES: into whatever table and marks pass the tests, they leave the board's lengths and its packed set
+-- ROUND TRIP in C, ALL PAGES: into whatever table and marks pass the tests, they leave the board's lengths and its
+-- packed set
 module _ {n : ℕ} {from into out : PageBuffers} (cs : CopiedTo n from into (pageCount n) out) (t : Passes n (into .table) (into .set)) where
   whole : Printable n (whole32 (from .table)) (marksOf n (from .set))
   whole = by (pageCount n) refl cs

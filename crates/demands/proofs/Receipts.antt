@@ -1,6 +1,7 @@
--- PAPER 13 for marked sheets: every answer of *mark a sheet*, over one table or two, and of *ask a sheet* for C is an unreleased slip, whose values are the refusal number or 0, the record and
--- the lines of what marking answers; it tells that the sheet stopped exactly where marking refuses; and the examiner's bytes tell every answer from every
--- other. Assumes nothing.
+-- PAPER 13 for marked sheets: every answer of *mark a sheet*, over one table or two, and of *ask a sheet* for C is an
+-- unreleased slip, whose values are the refusal number or 0, the record and the lines of what marking answers; it tells
+-- that the sheet stopped exactly where marking refuses; and the examiner's bytes tell every answer from every other.
+-- Assumes nothing.
 use Prim.Native.Nat.{ℕ, zero, suc, _+_, _*_, _≤_, _<_}
 use mathlib.Core.Path.{_≡_, refl, sym, _∙_, ap, subst}
 use mathlib.Core.Bool.{Bool, true, false, not, true≢false}
@@ -86,7 +87,8 @@ module _ {M : Type 0} (𝓜 : Marking M) (s : List ℕ) where
   unfolding sheet linesFrom start
   sheet-few m = omega (arith, lines-few (suc (records s)) (start m))
 
--- what marking answers has few bits: a refusal before test 8 names no record, a later one is 8 to 16 at one of the sheet's records
+-- what marking answers has few bits: a refusal before test 8 names no record, a later one is 8 to 16 at one of the
+-- sheet's records
 module _ (mark : ℕ) (out put marks s : List ℕ) where
   refused-first : (number : ℕ) → (1 ≤ number) × (number < 256) → Noted (turnedDown number marks)
   refused-first number h = record {
@@ -172,9 +174,10 @@ noted (of-marking mark n table set s) = mark-noted mark n (whole32 table) set (w
 noted (of-between n low high set s) = between-noted n (whole32 low) (whole32 high) set (whole16 s)
 
 module _ {r : Result (List ℕ)} (answer : SheetAnswer r) where
-  -- MADE FROM A MARKED SHEET'S ANSWER: the answer for C is the slip of what marking answers, its four values in their bits. Each value keeps to its bits: a refusal
-  -- before the lines is 1 to 25 and names no record, a later one is 8 to 16 and names one of at most 4,000 (`answers-refusal`), and a step of a sheet
-  -- accepts at most one line, of which there are no more steps than records and one. So reading the bits gives the values back (`receipt-read`).
+  -- MADE FROM A MARKED SHEET'S ANSWER: the answer for C is the slip of what marking answers, its four values in their
+  -- bits. Each value keeps to its bits: a refusal before the lines is 1 to 25 and names no record, a later one is 8 to
+  -- 16 and names one of at most 4,000 (`answers-refusal`), and a step of a sheet accepts at most one line, of which
+  -- there are no more steps than records and one. So reading the bits gives the values back (`receipt-read`).
   pub marked-receipt : receiptIn (resultNumber r) ≡ receiptOf r
   marked-receipt = noted-receipt (noted answer)
 
@@ -201,15 +204,17 @@ module _ {r r′ : Result (List ℕ)} (answer : SheetAnswer r) (answer′ : Shee
   two : Noted r′
   two = noted answer′
 
-  -- THE EXAMINER'S BYTES tell every answer of marking from every other: equal bytes are of equal slips (`examiner-tells`), and the answer is its slip's number.
+  -- THE EXAMINER'S BYTES tell every answer of marking from every other: equal bytes are of equal slips
+  -- (`examiner-tells`), and the answer is its slip's number.
   pub examiner-tells-sheets : examinerView (receiptIn (resultNumber r)) ≡ examinerView (receiptIn (resultNumber r′)) → resultNumber r ≡ resultNumber r′
   examiner-tells-sheets e =
       noted-number one
       ∙ ap receiptNumber (examiner-tells (noted-fits one) (noted-fits two) (ap examinerView (sym (noted-receipt one)) ∙ e ∙ ap examinerView (noted-receipt two)))
       ∙ sym (noted-number two)
 
-  -- UNRELEASED: the slips of the two calls read the same to the candidate, byte for byte, exactly when as many lines were accepted in both and both sheets were accepted or
-  -- both stopped: `unreleased-alike` of the two slips, whose lines are the lines accepted and which stopped exactly where marking refuses.
+  -- UNRELEASED: the slips of the two calls read the same to the candidate, byte for byte, exactly when as many lines
+  -- were accepted in both and both sheets were accepted or both stopped: `unreleased-alike` of the two slips, whose
+  -- lines are the lines accepted and which stopped exactly where marking refuses.
   pub candidate-alike-sheets :
       (candidateView (receiptIn (resultNumber r)) ≡ candidateView (receiptIn (resultNumber r′))) ↔ ((r .lines ≡ r′ .lines) × ((r .verdict ≡ accepted tt) ↔ (r′ .verdict ≡ accepted tt)))
   candidate-alike-sheets = (there, back)

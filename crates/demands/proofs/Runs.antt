@@ -1,6 +1,7 @@
--- THE RUN: no list of steps (marking, asking, confirming, withdrawing, marking over low and high, turns of desks) from fresh marks leaves an edge of
--- a shortest tour struck or pending, under any table that its marks serve; nor one of a 3-optimal tour, where no sheet has a record of kind 4. Here of the
--- marks of the edges; `PackedRuns` says it of packed sets and of the functions for C. Assumes nothing.
+-- THE RUN: no list of steps (marking, asking, confirming, withdrawing, marking over low and high, turns of desks) from
+-- fresh marks leaves an edge of a shortest tour struck or pending, under any table that its marks serve; nor one of a
+-- 3-optimal tour, where no sheet has a record of kind 4. Here of the marks of the edges; `PackedRuns` says it of packed
+-- sets and of the functions for C. Assumes nothing.
 use Prim.Native.Nat.{ℕ, _≤_}
 use mathlib.Core.Path.{_≡_, refl, sym, _∙_, ap, subst}
 use mathlib.Core.Logic.{_⊎_, inl, inr}
@@ -54,8 +55,9 @@ all-allowed (step ∷ steps) = (λ o. tt, all-allowed steps)
 
 module _ {n : ℕ} (T : Tables) (some : leastPoints ≤ n) (low-whole : length (T .low) ≡ edgeCount n) {table : List ℕ} (served : Serves n T table) {t : List ℕ}
     (best : ThreeOptimal n (lengthOf n table) t) {Orders : Type 0} (reach : OutOfReach n table t Orders) where
-  -- a sheet leaves the tour's edges open, marked or asked, whatever n and records it states: where its tests pass, they answer n, and the lengths by which the
-  -- tour is 3-optimal lie between those of what is taken out and of what is put in
+  -- a sheet leaves the tour's edges open, marked or asked, whatever n and records it states: where its tests pass, they
+  -- answer n, and the lengths by which the tour is 3-optimal lie between those of what is taken out and of what is put
+  -- in
   call-kept : (mark : ℕ) (out put s : List ℕ) → (HasOrder s → Orders) → (marks : List ℕ) → Kept n t marks → (r : Tested) → ((p : ℕ) → r ≡ Points p → (p ≡ n) × LengthsBetween n out put table) →
       Kept n t (markTested mark r out put marks s .marks)
   call-kept mark out put s may marks kept (Refused k) told = kept
@@ -117,21 +119,25 @@ module _ {n : ℕ} (T : Tables) (some : leastPoints ≤ n) (low-whole : length (
   unfolding openUpTo
   run-kept steps may a b u = open-mark _ (place n a b) (steps-kept steps may (freshMarks n) (fresh-kept some (best .tour)) .all-open a b u)
 
--- THE RUN: for every n from 4 to 180, all tables of a run whose low one has n(n - 1)/2 lengths, and every list of steps, each with the n it states, the marks that it
--- leaves have mark 1 at each edge of every tour that is 3-optimal under a table which they serve, if no sheet has a record of kind 4 (02, Paper 10).
--- On fresh marks all edges of the tour are open. Suppose that they are open before a step. If the step is a sheet that is refused before its
--- first line, no mark changes. If not, it states the n of the tables, since n(n - 1)/2 tells n, and its lines are judged one after the other. An
--- accepted line has a closed argument for its edge ab. If the tour used ab, its own two neighbours of each split point would be a feasible pair under the table, and
--- so over low and high (`feasible-over`): the argument would have a case for them, and a further split or a 3-opt closing that closes it; going down, some 3-opt
--- closing would close a set of edges that the tour uses, over low and high and so under the table (`closes-under`), and one of its two moves would shorten the
--- tour. So ab is no edge of the tour, and another mark for ab leaves the tour's edges open. A turn marks one such line at most. Confirming and withdrawing change
--- pending marks alone, and no edge of the tour has one.
+-- THE RUN: for every n from 4 to 180, all tables of a run whose low one has n(n - 1)/2 lengths, and every list of
+-- steps, each with the n it states, the marks that it leaves have mark 1 at each edge of every tour that is 3-optimal
+-- under a table which they serve, if no sheet has a record of kind 4 (02, Paper 10). On fresh marks all edges of the
+-- tour are open. Suppose that they are open before a step. If the step is a sheet that is refused before its first
+-- line, no mark changes. If not, it states the n of the tables, since n(n - 1)/2 tells n, and its lines are judged one
+-- after the other. An accepted line has a closed argument for its edge ab. If the tour used ab, its own two neighbours
+-- of each split point would be a feasible pair under the table, and so over low and high (`feasible-over`): the
+-- argument would have a case for them, and a further split or a 3-opt closing that closes it; going down, some 3-opt
+-- closing would close a set of edges that the tour uses, over low and high and so under the table (`closes-under`), and
+-- one of its two moves would shorten the tour. So ab is no edge of the tour, and another mark for ab leaves the tour's
+-- edges open. A turn marks one such line at most. Confirming and withdrawing change pending marks alone, and no edge of
+-- the tour has one.
 pub run-open : (n : ℕ) → leastPoints ≤ n → (T : Tables) → length (T .low) ≡ edgeCount n → (steps : List Step) → OrderFree steps →
     KeepsTours ThreeOptimal n T (stepsOf T steps (freshMarks n))
 run-open n some T low-whole steps free table served t best =
     run-kept T some low-whole served best {Orders = ⊥} (λ out put between may. absurd may) steps (free-allowed steps free)
 
--- and of every tour that is shortest, whatever records the sheets have: it is 3-optimal, and no new order closes edges that it uses (`shortest-not-reordered`)
+-- and of every tour that is shortest, whatever records the sheets have: it is 3-optimal, and no new order closes edges
+-- that it uses (`shortest-not-reordered`)
 pub run-shortest : (n : ℕ) → leastPoints ≤ n → (T : Tables) → length (T .low) ≡ edgeCount n → (steps : List Step) →
     KeepsTours Shortest n T (stepsOf T steps (freshMarks n))
 run-shortest n some T low-whole steps table served t best =

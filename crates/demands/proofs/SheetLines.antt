@@ -1,5 +1,6 @@
--- What a sheet accepts, answers and changes by the rules over the lengths of what is taken out and of what is put in: the theorems of demand 2 behind
--- any tests. `Demand2` says them of one table, `Demand2Between` of two. Assumes nothing.
+-- What a sheet accepts, answers and changes by the rules over the lengths of what is taken out and of what is put in:
+-- the theorems of demand 2 behind any tests. `Demand2` says them of one table, `Demand2Between` of two. Assumes
+-- nothing.
 use Prim.Native.Nat.{ℕ}
 use mathlib.Core.Path.{_≡_, refl, sym, _∙_, ap, subst}
 use mathlib.Core.Bool.{Bool, true, false}
@@ -27,8 +28,9 @@ use Rattle.demands.specs.Marked.{struckEdges, Changes}
 use Rattle.demands.proofs.Changed.{chain-changes, no-changes}
 use Rattle.demands.proofs.Lawful.{lawful-between}
 
--- A line is accepted exactly when it is complete. The walk accepts exactly the complete arguments laid out there (`line-sound`, `line-complete`), since the rules are
--- lawful: on every set that an argument comes to, the walk's list has exactly the feasible pairs, and its number is 0 exactly where the 3-opt closing closes.
+-- A line is accepted exactly when it is complete. The walk accepts exactly the complete arguments laid out there
+-- (`line-sound`, `line-complete`), since the rules are lawful: on every set that an argument comes to, the walk's list
+-- has exactly the feasible pairs, and its number is 0 exactly where the 3-opt closing closes.
 pub judged-exact :
     (n : ℕ) (out put marks sheet : List ℕ) (i a b next high : ℕ) →
     (judge (rulesBetween n out put marks) (openIn n marks) sheet i ≡ accepted (strikes a b next high)) ↔ CompleteLine (rulesBetween n out put marks) (openIn n marks) sheet i a b next high
@@ -50,7 +52,8 @@ module _ (mark n : ℕ) (out put marks s : List ℕ) where
         let e = sheet-exact (markingBetween mark n out put) (lawful-between n out put) s marks r in
         (λ h. e .0 (sym lines-of ∙ h), λ m. lines-of ∙ e .1 m)
 
-    -- a chain of complete lines that ends at index 0 is such an answer, and the place behind a chain has counted its lines
+    -- a chain of complete lines that ends at index 0 is such an answer, and the place behind a chain has counted its
+    -- lines
     pub answers-whole : (lines : List Struck) (q : Place (List ℕ)) → CompleteLines (markingBetween mark n out put) s (start marks) lines q → q .index ≡ 0 →
         answer ≡ record { marks = q .marks; lines = length lines; verdict = accepted tt }
     unfolding start
@@ -88,7 +91,8 @@ module _ (mark n : ℕ) (out put marks s : List ℕ) where
       tests (Refused number) e = ([], no-changes mark n marks)
       tests (Points m) e = let z = e m refl in subst (λ (k : ℕ). ChangesIn (markTested mark (Points k) out put marks s)) (sym (z .0)) (whole (z .1) (wholeSheet (length s)))
 
--- a call that accepts no line leaves the marks as they were, whatever its tests come to: a chain without a line has not left its beginning
+-- a call that accepts no line leaves the marks as they were, whatever its tests come to: a chain without a line has not
+-- left its beginning
 module _ (mark : ℕ) (out put marks s : List ℕ) where
   no-lines : (n : ℕ) (xs : List Struck) (q : Place (List ℕ)) → CompleteLines (markingBetween mark n out put) s (start marks) xs q → q .lines ≡ 0 → q .marks ≡ marks
   unfolding start CompleteLines

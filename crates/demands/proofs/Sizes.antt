@@ -1,4 +1,5 @@
--- The number of edges tells the number of points, and a number of points from 4 to 180 is within the limits. Assumes nothing.
+-- The number of edges tells the number of points, and a number of points from 4 to 180 is within the limits. Assumes
+-- nothing.
 use Prim.Native.Nat.{ℕ, suc, _≤_, _<_}
 use mathlib.Core.Path.{_≡_}
 use mathlib.Core.Bool.{true}

@@ -1,4 +1,5 @@
--- The refusals of the shared tests by their numbers: what holds of 1, 2, 5 and 6 holds of them, and so with 20 and 25. Assumes nothing.
+-- The refusals of the shared tests by their numbers: what holds of 1, 2, 5 and 6 holds of them, and so with 20 and 25.
+-- Assumes nothing.
 use Prim.Native.Nat.{ℕ}
 use mathlib.Core.Path.{_≡_}
 use mathlib.Core.List.{List}

@@ -1,5 +1,6 @@
--- DEMAND 1, its last clause, of the operations that write marks: a call of *mark a sheet*, *ask a sheet* or *mark between* that accepts no line, and one of *confirm* or *withdraw*
--- that is refused, leaves the lent set as it was, byte for byte, well packed or not. Assumes nothing.
+-- DEMAND 1, its last clause, of the operations that write marks: a call of *mark a sheet*, *ask a sheet* or *mark
+-- between* that accepts no line, and one of *confirm* or *withdraw* that is refused, leaves the lent set as it was,
+-- byte for byte, well packed or not. Assumes nothing.
 use Prim.Native.Nat.{ℕ, _<_}
 use mathlib.Core.Path.{_≡_, refl, _∙_, ap}
 use mathlib.Core.List.{List}
@@ -21,8 +22,8 @@ use Rattle.revosti.specs.Outcome.{outcomeNumber}
 use Rattle.revosti.specs.Pending.{ResolvedInC}
 use Rattle.demands.proofs.SheetLines.{tested-unmarked}
 
--- MARKING AND ASKING: where no line is accepted, the set is as it was. The marks that it holds are (`tested-unmarked`), and packing these gives the old bytes; a set that is not
--- well packed is refused, and nothing of it is written
+-- MARKING AND ASKING: where no line is accepted, the set is as it was. The marks that it holds are (`tested-unmarked`),
+-- and packing these gives the old bytes; a set that is not well packed is refused, and nothing of it is written
 pub mark-unchanged : (mark n : ℕ) (table set s : List ℕ) → markPackedBy mark n table set s .lines ≡ 0 → markPackedBy mark n table set s .marks ≡ set
 unfolding markPackedBy markBy
 mark-unchanged mark n table set s e =

@@ -1,4 +1,5 @@
--- What a run keeps (01, demand 3; 02, Papers 9 and 11): under every table that its marks serve, the edges of each tour of a kind have mark 1.
+-- What a run keeps (01, demand 3; 02, Papers 9 and 11): under every table that its marks serve, the edges of each tour
+-- of a kind have mark 1.
 use Prim.Native.Nat.{ℕ, _≤_}
 use mathlib.Core.Path.{_≡_}
 use mathlib.Core.Logic.{_⊎_}
@@ -16,7 +17,8 @@ use Rattle.demands.specs.Run.{Tables, Step, marking, asking, confirming,
 abbrev pub Ordered : ℕ → (low high : List ℕ) → Type 0
 Ordered n low high = (a b : ℕ) → lengthOf n low a b ≤ lengthOf n high a b
 
--- a table that the marks of a run serve: "every table whose lengths lie between the two, ends included", and the board's own where that is known
+-- a table that the marks of a run serve: "every table whose lengths lie between the two, ends included", and the
+-- board's own where that is known
 pub record Serves (n : ℕ) (T : Tables) (table : List ℕ) : Type 0 where
   pub whole : length table ≡ edgeCount n
   pub between : Ordered n (T .low) (T .high) → Between (T .low) (T .high) table
@@ -43,4 +45,5 @@ TourKind = ℕ → (ℕ → ℕ → ℕ) → List ℕ → Type 0
 -- each edge of every tour of the kind has mark 1, so that it is neither struck nor pending
 abbrev pub KeepsTours : TourKind → ℕ → Tables → (marks : List ℕ) → Type 0
 KeepsTours Kind n T marks =
-    (table : List ℕ) → Serves n T table → (t : List ℕ) → Kind n (lengthOf n table) t → (a b : ℕ) → Uses t a b → markAt marks (place n a b) ≡ openMark
+    (table : List ℕ) → Serves n T table → (t : List ℕ) → Kind n (lengthOf n table) t →
+    (a b : ℕ) → Uses t a b → markAt marks (place n a b) ≡ openMark

@@ -1,5 +1,6 @@
--- What a call of *mark a sheet* or *ask a sheet* answers over a packed set and for C, and what it changes (01, "Each operation and its refusals": "the number of lines accepted in this call"; "An accepted line
--- marks its edge struck"). Which lines it accepts, and where it stops, is `Answers` (argument/specs/Answers.antt).
+-- What a call of *mark a sheet* or *ask a sheet* answers over a packed set and for C, and what it changes (01, "Each
+-- operation and its refusals": "the number of lines accepted in this call"; "An accepted line marks its edge struck").
+-- Which lines it accepts, and where it stops, is `Answers` (argument/specs/Answers.antt).
 use Prim.Native.Nat.{ℕ, suc}
 use mathlib.Core.Path.{_≡_}
 use mathlib.Core.Bool.{true, false}
@@ -43,14 +44,16 @@ differences [] ys = 0
 differences (x ∷ xs) [] = 0
 differences (x ∷ xs) (y ∷ ys) = elim (eqb x y) [ true ↦ differences xs ys | false ↦ suc (differences xs ys) ]
 
--- from `marks` to `left` so many marks changed, each from open to the mark `mark`, struck or pending: those of these edges, and no other
+-- from `marks` to `left` so many marks changed, each from open to the mark `mark`, struck or pending: those of these
+-- edges, and no other
 pub record Changes (mark n : ℕ) (marks left : List ℕ) (struck : List Edge) (lines : ℕ) : Type 0 where
   pub size : length left ≡ length marks
   pub each : (i : ℕ) → (markAt left i ≡ markAt marks i) ⊎ ((markAt marks i ≡ openMark) × (markAt left i ≡ mark))
   pub counted : differences marks left ≡ lines
   pub exactly : (a b : ℕ) → IsEdge n a b → Has struck a b ↔ ((openIn n marks a b ≡ true) × (openIn n left a b ≡ false))
 
--- what a call answers and leaves over a packed set that holds `marks`: an answer of its lines (`Answers`), and the packed set of its marks
+-- what a call answers and leaves over a packed set that holds `marks`: an answer of its lines (`Answers`), and the
+-- packed set of its marks
 pub record AnswersPacked (𝓜 : Marking (List ℕ)) (s marks : List ℕ) (q : Result (List ℕ)) : Type 0 where
   pub result : Result (List ℕ)
   pub answers : Answers 𝓜 s (start marks) result
@@ -63,7 +66,8 @@ pub record AnswersInC (𝓜 : Marking (List ℕ)) (s marks : List ℕ) (r : ℕ)
   pub numbered : r ≡ resultNumber result
   pub set-left : left ≡ packed (result .marks)
 
--- lists of pairs, for the marks that a line finds, K and the split point, which name exactly the feasible pairs, rising, on every set that an argument comes to
+-- lists of pairs, for the marks that a line finds, K and the split point, which name exactly the feasible pairs,
+-- rising, on every set that an argument comes to
 abbrev pub ListsExactly : ℕ → (out put : List ℕ) → (lists : List ℕ → List Edge → ℕ → List Edge) → Type 0
 ListsExactly n out put lists =
     (m : List ℕ) (K : List Edge) (c : ℕ) → Reached (rulesBetween n out put m) K → NamesFeasible (rulesBetween n out put m) K c (lists m K c)

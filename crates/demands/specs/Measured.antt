@@ -21,4 +21,5 @@ pub record Measures (n rule : ℕ) (coordinates table : List ℕ) : Type 0 where
   pub known : (1 ≤ rule) × (rule ≤ 5)
   pub size : length table ≡ edgeCount n
   pub distance : (a b : ℕ) → Point n a → Point n b → IsDistance rule (xGap coordinates a b) (yGap coordinates a b) (lengthOf n table a b)
-  pub only : (a b d : ℕ) → Point n a → Point n b → IsDistance rule (xGap coordinates a b) (yGap coordinates a b) d → d ≡ lengthOf n table a b
+  pub only : (a b d : ℕ) → Point n a → Point n b →
+      IsDistance rule (xGap coordinates a b) (yGap coordinates a b) d → d ≡ lengthOf n table a b

@@ -1,4 +1,5 @@
--- Pages written by one function for C and read by the other (02, Paper 12): "Reading all pages of an instance yields its lengths and marks again".
+-- Pages written by one function for C and read by the other (02, Paper 12): "Reading all pages of an instance yields
+-- its lengths and marks again".
 use Prim.Native.Nat.{ℕ, zero, suc, _/_, _≤_}
 use mathlib.Core.Path.{_≡_}
 use mathlib.Core.List.{List}
@@ -10,8 +11,8 @@ use Rattle.pages.specs.Page.{firstPlace, partOf}
 use Rattle.pages.specs.Reading.{overlay}
 use Rattle.revosti.specs.Page.{WrittenInC, PageReadInC}
 
--- page p of one board, copied to another: `revosti_write_page` writes it to a text, whatever is lent, and does not refuse it; of what is left there
--- `revosti_read_page` is given as many bytes as the answer says
+-- page p of one board, copied to another: `revosti_write_page` writes it to a text, whatever is lent, and does not
+-- refuse it; of what is left there `revosti_read_page` is given as many bytes as the answer says
 pub record Copied (n p : ℕ) (from into out : PageBuffers) : Type 0 where
   pub lent : List ℕ
   pub left : List ℕ

@@ -1,5 +1,6 @@
--- Runs (01, "What the contracts and the table of examples carry"; 02, Papers 3, 11 and 14): a whole list of calls from the marks that *fresh marks* left, each handed the
--- same tables and the marks as the call before left them. Calls may differ in their sheets and in the n they state.
+-- Runs (01, "What the contracts and the table of examples carry"; 02, Papers 3, 11 and 14): a whole list of calls from
+-- the marks that *fresh marks* left, each handed the same tables and the marks as the call before left them. Calls may
+-- differ in their sheets and in the n they state.
 use Prim.Native.Nat.{ℕ}
 use mathlib.Core.List.{List, [], _∷_}
 use lib.ListN.{length}
@@ -19,8 +20,8 @@ unfoldable pub run : {M C : Type 0} → (call : C → M → M) → List C → M 
 run call [] m = m
 run call (c ∷ cs) m = run call cs (call c m)
 
--- the tables of a run, which stay: low and high lengths, and the lengths of the board itself. Where these are not known, the table of the board
--- is [], which has no lengths, and every call over it is refused.
+-- the tables of a run, which stay: low and high lengths, and the lengths of the board itself. Where these are not
+-- known, the table of the board is [], which has no lengths, and every call over it is refused.
 pub record Tables : Type 0 where
   pub low : List ℕ
   pub high : List ℕ
@@ -38,7 +39,8 @@ pub record Call : Type 0 where
   pub n : ℕ
   pub sheet : List ℕ
 
--- "any run of asking, confirming, withdrawing and direct marking", of marking over low and high, and of turns of desks whose state is any bytes (02, Paper 14)
+-- "any run of asking, confirming, withdrawing and direct marking", of marking over low and high, and of turns of desks
+-- whose state is any bytes (02, Paper 14)
 pub data Step : Type 0 where
   marking : Call → Step
   asking : Call → Step

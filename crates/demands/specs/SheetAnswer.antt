@@ -1,4 +1,5 @@
--- What a marked sheet comes to for C (02, Papers 3, 11 and 13): what a call answers and leaves, of marking over one table or two, or of asking.
+-- What a marked sheet comes to for C (02, Papers 3, 11 and 13): what a call answers and leaves, of marking over one
+-- table or two, or of asking.
 use Prim.Native.Nat.{ℕ}
 use mathlib.Core.List.{List}
 use Rattle.argument.specs.Sheet.{Result}

@@ -23,8 +23,8 @@ pub record Lengths (n : ℕ) (table : List ℕ) : Type 0 where
   pub whole : length table ≡ edgeCount n
   pub small : (i : ℕ) → getD table i 0 ≤ mostLength
 
--- two such tables, of what is taken out and of what is put in: an interval of lengths for each edge (02, Paper 11: low and high);
--- one table is both
+-- two such tables, of what is taken out and of what is put in: an interval of lengths for each edge (02, Paper 11: low
+-- and high); one table is both
 pub record Intervals (n : ℕ) (out put : List ℕ) : Type 0 where
   pub out-lengths : Lengths n out
   pub put-lengths : Lengths n put

@@ -69,7 +69,8 @@ fn gap_rule(larger: bool) -> Rule
     Rule::Man2d
 }
 
-// The same by a rule of the gaps: a loop of its own, which is short enough for the compiler to measure four edges at a time.
+// The same by a rule of the gaps: a loop of its own, which is short enough for the compiler to measure four edges at a
+// time.
 fn gap_row(n: usize, larger: bool, coordinates: &[u8], table: &mut [u8], a: usize, at: usize)
     requires { ⌜ RowToMeasure n (whole32 (now coordinates)) (now table) a at ⌝ }
     ensures { λ _. ⌜ RowMeasured n (gapRule larger) (whole32 (now (coordinates .entry))) a at (now (table .entry)) (now (table .exit)) ⌝ }
@@ -116,7 +117,8 @@ fn fill(n: u16, rule: Rule, coordinates: &[u8], table: &mut [u8])
     }
 }
 
-// Fills the table of n points with their distances by the rule, from the coordinates x and y of point 1, then of 2, and on.
+// Fills the table of n points with their distances by the rule, from the coordinates x and y of point 1, then of 2, and
+// on.
 pub fn measure(n: u32, rule: u32, coordinates: &[u8], table: &mut [u8]) -> Outcome
     ensures { λ r. ⌜ MeasuredAs n rule (whole32 (now (coordinates .entry))) (now (table .entry)) r (now (table .exit)) ⌝ }
 {

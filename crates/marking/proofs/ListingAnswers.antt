@@ -1,4 +1,5 @@
--- The answer and the list's bytes at each way out of `list_into`, `list_tested` and `list_pairs`, from the tests that led there. Assumes nothing.
+-- The answer and the list's bytes at each way out of `list_into`, `list_tested` and `list_pairs`, from the tests that
+-- led there. Assumes nothing.
 use Prim.Native.Nat.{ℕ, _*_, _≤_, _<_}
 use mathlib.Core.Path.{_≡_, sym, _∙_, ap}
 use mathlib.Core.Bool.{true, false}

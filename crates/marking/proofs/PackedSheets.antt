@@ -1,5 +1,5 @@
--- A sheet over the packed set of a byte set: it answers what the sheet over the byte set answers, and leaves the packed set of what that leaves. Assumes
--- nothing.
+-- A sheet over the packed set of a byte set: it answers what the sheet over the byte set answers, and leaves the packed
+-- set of what that leaves. Assumes nothing.
 use Prim.Native.Nat.{ℕ, _≤_}
 use mathlib.Core.Path.{_≡_, refl, _∙_, ap}
 use mathlib.Core.Bool.{Bool, true, false, cond}

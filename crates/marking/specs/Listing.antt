@@ -28,7 +28,8 @@ listTested (tests.Points n) out put marks a b c size =
 unfoldable pub listed : ℕ → List ℕ → List ℕ → ℕ → ℕ → ℕ → ℕ → Listed
 listed n table marks a b c size = listTested (tested n table marks) table table marks a b c size
 
--- the list's bytes that are left, x then y for each pair: "Places past the list keep their old numbers"; a refusal writes nothing
+-- the list's bytes that are left, x then y for each pair: "Places past the list keep their old numbers"; a refusal
+-- writes nothing
 abbrev pub listLeft : Listed → ℕ → (out put marks : List ℕ) → ℕ → ℕ → ℕ → List ℕ → List ℕ
 listLeft (Refused number rec) n out put marks a b c list = list
 listLeft (Pairs count) n out put marks a b c list = bytes16 (numbersOf (pairsAt n out put marks a b c)) ++ drop (4 * count) list

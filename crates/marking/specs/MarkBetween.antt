@@ -1,4 +1,5 @@
--- "Mark a sheet" over two tables, low and high (02, Paper 11): "whatever a rule takes out counts low, whatever it puts in counts high".
+-- "Mark a sheet" over two tables, low and high (02, Paper 11): "whatever a rule takes out counts low, whatever it puts
+-- in counts high".
 use Prim.Native.Nat.{ℕ}
 use mathlib.Core.List.{List}
 use Rattle.marks.specs.Mark.{struckMark}

@@ -1,4 +1,5 @@
--- Pending marks that are resolved: laws of `resolvedMarks` and of what confirming and withdrawing leave. Assumes nothing.
+-- Pending marks that are resolved: laws of `resolvedMarks` and of what confirming and withdrawing leave. Assumes
+-- nothing.
 use Prim.Native.Nat.{ℕ, zero, suc, _≤_}
 use mathlib.Core.Path.{_≡_, refl, sym, _∙_, ap, ap₂}
 use mathlib.Core.Bool.{Bool, true, false}

@@ -1,5 +1,5 @@
--- The text of a split, told edge by edge: at each edge, what is told so far and what the edges left come to are the whole
--- text. Assumes nothing.
+-- The text of a split, told edge by edge: at each edge, what is told so far and what the edges left come to are the
+-- whole text. Assumes nothing.
 use Prim.Native.Nat.{ℕ, suc, _+_, _-_, _*_, _^_, _≤_, _<_}
 use mathlib.Core.Path.{_≡_, refl, sym, _∙_, ap, ap₂}
 use mathlib.Core.List.{List, [], _∷_, _++_, append-nil, append-assoc}

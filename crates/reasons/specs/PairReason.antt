@@ -1,7 +1,8 @@
--- Why a pair x < y does not stand at the split point c under K = {ab}, computed (02, Paper 6): "Where several hold, the first in 01's order of tests is
--- told, and within it the lowest point or the lowest edge in edge order". With one table, and K of one edge:
--- cx stands before cy in edge order, since x < y; a third edge can only be at c; a loop is a, b and c; an exchange is of cx or cy with ab; a moved point
--- is c or an end of ab in the pair, which then saves the same.
+-- Why a pair x < y does not stand at the split point c under K = {ab}, computed (02, Paper 6): "Where several hold, the
+-- first in 01's order of tests is told, and within it the lowest point or the lowest edge in edge order". With one
+-- table, and K of one edge: cx stands before cy in edge order, since x < y; a third edge can only be at c; a loop is a,
+-- b and c; an exchange is of cx or cy with ab; a moved point is c or an end of ab in the pair, which then saves the
+-- same.
 use Prim.Native.Nat.{ℕ, min, max}
 use mathlib.Core.Bool.{Bool, true, false, not, cond, _&&_, _||_}
 use lib.Dec.{eqb, ltb}
@@ -44,7 +45,8 @@ exchangeOf len a b c z = exchange (min c z) (max c z) (min a b) (max a b) (gain 
 unfoldable pub moves? : (len : ℕ → ℕ → ℕ) (a b c x y : ℕ) → Bool
 moves? len a b c x y = not (end? a b c) && gains? (moveSaving len len c x y a b)
 
--- the lowest point that then moves: an end of ab in the pair that is below c, to between c and the pair's other point; else c
+-- the lowest point that then moves: an end of ab in the pair that is below c, to between c and the pair's other point;
+-- else c
 unfoldable pub moveOf : (len : ℕ → ℕ → ℕ) (a b c x y : ℕ) → Reason
 moveOf len a b c x y =
     cond (end? a b x && ltb x c) (move x (min c y) (max c y) (gain (moveSaving len len c x y a b)))

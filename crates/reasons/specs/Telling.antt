@@ -1,6 +1,7 @@
--- The operation "tell a line" (02, Paper 6): "a call of its own over a sheet, one line's record number (not in the sheet: 8, record 0) and the marks from before it,
--- pending read as struck; the line counts as the first entered and its next index is not read". Tests 1, 2, 5, 6, 7, 8; the line's own; "22, the buffer
--- is too short for the whole text; it is tested last and nothing is written".
+-- The operation "tell a line" (02, Paper 6): "a call of its own over a sheet, one line's record number (not in the
+-- sheet: 8, record 0) and the marks from before it, pending read as struck; the line counts as the first entered and
+-- its next index is not read". Tests 1, 2, 5, 6, 7, 8; the line's own; "22, the buffer is too short for the whole text;
+-- it is tested last and nothing is written".
 use Prim.Native.Nat.{ℕ}
 use mathlib.Core.Path.{_≡_}
 use mathlib.Core.Bool.{Bool, true, false, cond, _&&_, _||_}
@@ -50,7 +51,8 @@ reasonsFrom outcome s c i (edge x y ∷ es) =
 
 -- the reasons of all pairs at the first split of a line
 unfoldable pub lineReasons : ℕ → (table marks s : List ℕ) → Record → List ReasonedPair
-lineReasons n table marks s (line a b c first next) = reasonsFrom (pairOutcome (lengthOf n table) (openIn n marks) a b c) s c first (edges n)
+lineReasons n table marks s (line a b c first next) =
+    reasonsFrom (pairOutcome (lengthOf n table) (openIn n marks) a b c) s c first (edges n)
 lineReasons n table marks s (case a b how next) = []
 lineReasons n table marks s (visit v next) = []
 lineReasons n table marks s other = []
@@ -85,7 +87,8 @@ abbrev pub tellLeft : Telling → (text buffer : List ℕ) → List ℕ
 tellLeft (Bytes size) text buffer = text ++ drop (length text) buffer
 tellLeft (Refused number rec) text buffer = buffer
 
--- what `tell_line` ensures of the lengths that the table's bytes are, of the marks that the packed set holds and of the sheet's numbers
+-- what `tell_line` ensures of the lengths that the table's bytes are, of the marks that the packed set holds and of the
+-- sheet's numbers
 pub record ToldAs (n : ℕ) (table marks s : List ℕ) (i : ℕ) (buffer : List ℕ) (answer : Telling) (left : List ℕ) : Type 0 where
   pub answered : answer ≡ tellAnswer n table marks s i (length buffer)
   pub text-left : left ≡ tellLeft (tellAnswer n table marks s i (length buffer)) (lineText n table marks s i) buffer

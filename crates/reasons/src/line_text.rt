@@ -78,7 +78,8 @@ fn tell_pair(
 ) -> ToldPair
     requires { ⌜ PairAsked n (whole32 (now table)) (marksOf n (now marks)) a b c x y ⌝ }
     ensures { λ r.
-        ⌜ ToldAt (outcomesOf n (whole32 (now (table .entry))) (marksOf n (now (marks .entry))) a b c x y) (whole16 (now (sheet .entry))) i r ⌝ }
+        ⌜ ToldAt (outcomesOf n (whole32 (now (table .entry))) (marksOf n (now (marks .entry))) a b c x y)
+        (whole16 (now (sheet .entry))) i r ⌝ }
 {
     match pair_outcome(n, table, marks, a, b, c, x, y) {
         PairOutcome::Shut(reason) => ToldPair {

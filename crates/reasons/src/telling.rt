@@ -63,7 +63,8 @@ fn tell_split(
     Telling::Bytes(end as u32)
 }
 
-// Tells a record of a sheet that passed the tests and has so many records: 8, then what judging it answers, or its text.
+// Tells a record of a sheet that passed the tests and has so many records: 8, then what judging it answers, or its
+// text.
 fn tell_record(
     n: u16,
     table: &[u8],

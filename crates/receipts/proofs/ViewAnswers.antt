@@ -1,4 +1,5 @@
--- The ways out of the functions that write a view, and what is written: three numbers of 16 bits, the first made of two bytes. Assumes nothing.
+-- The ways out of the functions that write a view, and what is written: three numbers of 16 bits, the first made of two
+-- bytes. Assumes nothing.
 use Prim.Native.Nat.{ℕ, _+_, _*_, _/_, _%_, _≤_, _<_}
 use mathlib.Core.Path.{_≡_, sym, _∙_, ap, ap₂, subst}
 use mathlib.Core.Bool.{Bool, true, false}

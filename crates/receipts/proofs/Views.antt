@@ -1,5 +1,6 @@
--- What the two views of a slip tell (02, Paper 13): releasing changes nothing else; a released slip reads the same to both; two unreleased slips read the
--- same to the candidate exactly when they are alike in the lines and in whether the sheet stopped; and the examiner's bytes are the slip's own. Assumes nothing.
+-- What the two views of a slip tell (02, Paper 13): releasing changes nothing else; a released slip reads the same to
+-- both; two unreleased slips read the same to the candidate exactly when they are alike in the lines and in whether the
+-- sheet stopped; and the examiner's bytes are the slip's own. Assumes nothing.
 use Prim.Native.Nat.{ℕ, _/_, _%_, _≤_, _<_}
 use mathlib.Core.Path.{_≡_, refl, sym, _∙_, ap}
 use mathlib.Core.Bool.{Bool, true, false, cond}
@@ -89,8 +90,9 @@ until-release : (s : Receipt) → s .released ≡ false → shown s ≡ hidden s
 unfolding shown
 until-release s h = rw (shown, h)
 
--- UNRELEASED: two slips read the same to the candidate, byte for byte, exactly when they are alike in the lines and in whether the sheet stopped. The bytes
--- are those of what is shown until release, which is made of these two facts; and they tell both, since 0 is not 255 and two bytes are one number's.
+-- UNRELEASED: two slips read the same to the candidate, byte for byte, exactly when they are alike in the lines and in
+-- whether the sheet stopped. The bytes are those of what is shown until release, which is made of these two facts; and
+-- they tell both, since 0 is not 255 and two bytes are one number's.
 pub unreleased-alike : {s t : Receipt} → Fits s → Fits t → s .released ≡ false → t .released ≡ false
     → (candidateView s ≡ candidateView t) ↔ ((s .lines ≡ t .lines) × (stopped? s ≡ stopped? t))
 unfolding hidden

@@ -1,4 +1,5 @@
--- Slips (02, Paper 13): "A slip keeps a marked sheet's refusal number or 0, record, number of accepted lines and whether it is released".
+-- Slips (02, Paper 13): "A slip keeps a marked sheet's refusal number or 0, record, number of accepted lines and
+-- whether it is released".
 use Prim.Native.Nat.{ℕ, _<_}
 use mathlib.Core.Bool.{Bool, true, false, not, cond}
 use mathlib.Core.List.{List}

@@ -1,4 +1,5 @@
--- The views of a slip (02, Paper 13), six bytes each, and writing one to the front of a buffer: 22, the buffer is too short.
+-- The views of a slip (02, Paper 13), six bytes each, and writing one to the front of a buffer: 22, the buffer is too
+-- short.
 use Prim.Native.Nat.{ℕ}
 use mathlib.Core.Path.{_≡_}
 use mathlib.Core.Bool.{Bool, false, cond}
@@ -12,7 +13,8 @@ use Rattle.receipts.specs.declared.receipt.Receipt.{Receipt}
 use Rattle.lengths.specs.declared.outcome.Outcome.{Outcome}
 use Rattle.lengths.specs.declared.outcome.Outcome.the-variants.{Done, Refused}
 
--- "The examiner sees all of it in six little-endian bytes: refusal number, released 0 or 1, then record and lines, two each"
+-- "The examiner sees all of it in six little-endian bytes: refusal number, released 0 or 1, then record and lines, two
+-- each"
 unfoldable pub examinerView : Receipt → List ℕ
 examinerView s = s .refusal ∷ flagOf (s .released) ∷ (littleEndian 2 (s .rec) ++ littleEndian 2 (s .lines))
 

@@ -1,6 +1,7 @@
--- Slips for C (02, Paper 13), for every number: its four values have 8 and 16 bits; releasing sets bit 40 and keeps every other, and twice is once; a released
--- slip reads the same to both; two unreleased ones read the same to the candidate exactly when alike in the lines and in whether the sheet stopped; and the
--- examiner's bytes tell the bits 0 to 40. Assumes nothing.
+-- Slips for C (02, Paper 13), for every number: its four values have 8 and 16 bits; releasing sets bit 40 and keeps
+-- every other, and twice is once; a released slip reads the same to both; two unreleased ones read the same to the
+-- candidate exactly when alike in the lines and in whether the sheet stopped; and the examiner's bytes tell the bits 0
+-- to 40. Assumes nothing.
 use Prim.Native.Nat.{ℕ, zero, suc, _+_, _*_, _/_, _%_, _<_}
 use mathlib.Core.Path.{_≡_, refl, sym, _∙_, ap}
 use mathlib.Core.Bool.{Bool, true, false}

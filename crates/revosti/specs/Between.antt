@@ -1,4 +1,5 @@
--- "Mark a sheet" and "list pairs" over two tables for C (02, Paper 11): the numbers of one table's answers, and the bytes that are left.
+-- "Mark a sheet" and "list pairs" over two tables for C (02, Paper 11): the numbers of one table's answers, and the
+-- bytes that are left.
 use Prim.Native.Nat.{ℕ}
 use mathlib.Core.Path.{_≡_}
 use mathlib.Core.List.{List}
@@ -19,7 +20,8 @@ pub record MarkedBetweenInC (n : ℕ) (low high set s : List ℕ) (r : ℕ) (lef
   pub answered : r ≡ resultNumber (markBetweenInC n low high set s)
   pub set-left : left ≡ markBetweenInC n low high set s .marks
 
--- what `revosti_list_between` ensures of the lengths that the tables' bytes are and of the marks that the packed set holds: its answer, and the list's bytes that it leaves
+-- what `revosti_list_between` ensures of the lengths that the tables' bytes are and of the marks that the packed set
+-- holds: its answer, and the list's bytes that it leaves
 pub record ListedBetweenInC (n : ℕ) (low high marks : List ℕ) (a b c : ℕ) (list : List ℕ) (r : ℕ) (left : List ℕ) : Type 0 where
   pub answered : r ≡ listedNumber (listedBetween n low high marks a b c (placesOf list))
   pub list-left : left ≡ listLeft (listedBetween n low high marks a b c (placesOf list)) n low high marks a b c list

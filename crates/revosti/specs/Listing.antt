@@ -11,7 +11,8 @@ unfoldable pub listedNumber : Listed → ℕ
 listedNumber (Refused number rec) = number
 listedNumber (Pairs count) = 65536 * count
 
--- what `revosti_list_pairs` ensures of the lengths that the table's bytes are and of the marks that the packed set holds: its answer, and the list's bytes that it leaves
+-- what `revosti_list_pairs` ensures of the lengths that the table's bytes are and of the marks that the packed set
+-- holds: its answer, and the list's bytes that it leaves
 pub record ListedInC (n : ℕ) (lengths marks : List ℕ) (a b c : ℕ) (list : List ℕ) (r : ℕ) (left : List ℕ) : Type 0 where
   pub answered : r ≡ listedNumber (listed n lengths marks a b c (placesOf list))
   pub list-left : left ≡ listLeft (listed n lengths marks a b c (placesOf list)) n lengths lengths marks a b c list

@@ -20,7 +20,8 @@ resultNumber r = verdictNumber (r .verdict) + 16777216 * r .lines
 abbrev pub markInC : (mark : ℕ) → ℕ → List ℕ → List ℕ → List ℕ → Result (List ℕ)
 markInC mark n table set s = markPackedBy mark n (whole32 table) set (whole16 s)
 
--- what `revosti_mark_sheet` (with struck) and `revosti_ask_sheet` (with pending) ensure: the answer, and the packed set that is left
+-- what `revosti_mark_sheet` (with struck) and `revosti_ask_sheet` (with pending) ensure: the answer, and the packed set
+-- that is left
 pub record MarkedInC (mark n : ℕ) (table set s : List ℕ) (r : ℕ) (left : List ℕ) : Type 0 where
   pub answered : r ≡ resultNumber (markInC mark n table set s)
   pub set-left : left ≡ markInC mark n table set s .marks

@@ -21,7 +21,8 @@ unfoldable pub pageReadNumber : PageRead → ℕ
 pageReadNumber read.Done = 0
 pageReadNumber (read.Refused number line) = number + 256 * line
 
--- what `revosti_write_page` ensures of the lengths that the table's bytes are and of the marks that the packed set holds: its answer, and the text that it leaves
+-- what `revosti_write_page` ensures of the lengths that the table's bytes are and of the marks that the packed set
+-- holds: its answer, and the text that it leaves
 pub record WrittenInC (n : ℕ) (lengths marks : List ℕ) (p : ℕ) (text : List ℕ) (r : ℕ) (left : List ℕ) : Type 0 where
   pub answered : r ≡ writtenNumber (writeAnswer n lengths marks p (length text))
   pub text-left : left ≡ writeLeft (writeAnswer n lengths marks p (length text)) (pageText n p lengths marks) text

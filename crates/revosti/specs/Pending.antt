@@ -5,7 +5,8 @@ use mathlib.Core.List.{List}
 use Rattle.marks.specs.Pending.{resolvedSetAnswer, resolvedSet}
 use Rattle.revosti.specs.Outcome.{outcomeNumber}
 
--- what `revosti_confirm` (with struck) and `revosti_withdraw` (with open) ensure: the answer, and the packed set that is left
+-- what `revosti_confirm` (with struck) and `revosti_withdraw` (with open) ensure: the answer, and the packed set that
+-- is left
 pub record ResolvedInC (mark n : ℕ) (set : List ℕ) (r : ℕ) (left : List ℕ) : Type 0 where
   pub answered : r ≡ outcomeNumber (resolvedSetAnswer n set)
   pub set-left : left ≡ resolvedSet mark n set

@@ -1,4 +1,5 @@
--- Slips for C (02, Paper 13): one 64-bit number, the answer of marking, in which bit 40 is set once the slip is released. Every number is a slip.
+-- Slips for C (02, Paper 13): one 64-bit number, the answer of marking, in which bit 40 is set once the slip is
+-- released. Every number is a slip.
 use Prim.Native.Nat.{ℕ, _+_, _*_, _/_, _%_}
 use mathlib.Core.Path.{_≡_}
 use mathlib.Core.List.{List}
@@ -16,7 +17,8 @@ releasedBit = 1099511627776
 abbrev pub aboveReceipt : ℕ
 aboveReceipt = 2199023255552
 
--- the refusal number in bits 0 to 7, the record in 8 to 23, the lines in 24 to 39, as in marking's answer, and released in bit 40; bits 41 to 63 are ignored
+-- the refusal number in bits 0 to 7, the record in 8 to 23, the lines in 24 to 39, as in marking's answer, and released
+-- in bit 40; bits 41 to 63 are ignored
 unfoldable pub receiptIn : ℕ → Receipt
 receiptIn k = record { refusal = k % 256; rec = k / 256 % 65536; lines = k / 16777216 % 65536; released = eqb (k / releasedBit % 2) 1 }
 

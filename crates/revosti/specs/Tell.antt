@@ -12,8 +12,8 @@ unfoldable pub tellingNumber : Telling → ℕ
 tellingNumber (telling.Refused number rec) = number + 256 * rec
 tellingNumber (telling.Bytes size) = 65536 * size
 
--- what `revosti_tell_line` ensures of the lengths that the table's bytes are, of the marks that the packed set holds and
--- of the sheet's numbers: its answer, and the text that it leaves
+-- what `revosti_tell_line` ensures of the lengths that the table's bytes are, of the marks that the packed set holds
+-- and of the sheet's numbers: its answer, and the text that it leaves
 pub record ToldInC (n : ℕ) (table marks s : List ℕ) (i : ℕ) (buffer : List ℕ) (r : ℕ) (left : List ℕ) : Type 0 where
   pub answered : r ≡ tellingNumber (tellAnswer n table marks s i (length buffer))
   pub text-left : left ≡ tellLeft (tellAnswer n table marks s i (length buffer)) (lineText n table marks s i) buffer

@@ -3,8 +3,8 @@
 -- edges of S without c are those of K (`unmoved?`). x lies between c and the point t that K leads it on to, and the
 -- edges without x are those of K (`endStays?`) and cy; moving it there takes out cy, xc and xt and puts in ct, cx and
 -- yx, as moving c onto xt does; y likewise. Every other w has its two edges in K, where it cannot be moved to an edge
--- of K; what is left is cx and cy, each a matter of one leg (`degreeTwoStays?`, which also keeps a leg from a point that has
--- two edges in K already). Conversely each test is about a point of degree two in S. Assumes nothing.
+-- of K; what is left is cx and cy, each a matter of one leg (`degreeTwoStays?`, which also keeps a leg from a point
+-- that has two edges in K already). Conversely each test is about a point of degree two in S. Assumes nothing.
 use Prim.Native.Nat.{ℕ, _+_}
 use mathlib.Core.Path.{_≡_, refl, sym, _∙_, ap, ap₂, subst}
 use mathlib.Core.Bool.{Bool, true, false, not, _&&_, _||_, true≢false}

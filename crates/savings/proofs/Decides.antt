@@ -1,5 +1,5 @@
--- What the operations answer decides the rules: where one tells a saving, the rule that it is of shuts a case out, by the test that the marker computes, exactly when
--- that saving is above 0. Assumes nothing.
+-- What the operations answer decides the rules: where one tells a saving, the rule that it is of shuts a case out, by
+-- the test that the marker computes, exactly when that saving is above 0. Assumes nothing.
 use Prim.Native.Nat.{ℕ}
 use mathlib.Core.Path.{_≡_, subst}
 use mathlib.Core.Bool.{Bool, true, false}

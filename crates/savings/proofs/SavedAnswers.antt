@@ -1,4 +1,5 @@
--- The ways out of the operations that tell a saving, and that it has few bits: no length is above 2,000,000. Assumes nothing.
+-- The ways out of the operations that tell a saving, and that it has few bits: no length is above 2,000,000. Assumes
+-- nothing.
 use Prim.Native.Nat.{ℕ, _+_, _^_, _≤_, _<_, max}
 use mathlib.Core.Path.{_≡_, sym, _∙_, ap}
 use mathlib.Core.Bool.{Bool, true, false}

@@ -1,6 +1,6 @@
 -- The three operations answer the same whatever names points and edges have: p and q, x and y, the two edges of an
--- exchange; x and y, u and v of a move; p and q, x and y, z and w, and the centres with their ends, of a 3-opt closing. So
--- do the functions for C, whose numbers are of these answers. Assumes nothing.
+-- exchange; x and y, u and v of a move; p and q, x and y, z and w, and the centres with their ends, of a 3-opt closing.
+-- So do the functions for C, whose numbers are of these answers. Assumes nothing.
 use Prim.Native.Nat.{ℕ}
 use mathlib.Core.Path.{_≡_, refl, sym, _∙_, ap, ap₂}
 use mathlib.Core.Bool.{Bool, true, false, not, _&&_}

@@ -35,7 +35,8 @@ moveSaved n table c x y u v =
 -- a 3-opt closing by pq with the centres r and s, x and y the other ends of r, z and w those of s
 unfoldable pub threeOptSaved : ℕ → List ℕ → (p q r s x y z w : ℕ) → Saved
 threeOptSaved n table p q r s x y z w =
-    savedTested (testedTable n table) (edge p q ∷ edge r x ∷ edge s w ∷ edge r y ∷ edge s z ∷ []) (threeOptSaving (lengthOf n table) (lengthOf n table) p q r s x y z w)
+    savedTested (testedTable n table) (edge p q ∷ edge r x ∷ edge s w ∷ edge r y ∷ edge s z ∷ [])
+    (threeOptSaving (lengthOf n table) (lengthOf n table) p q r s x y z w)
 
 -- the answer's saving has few enough bits that C's number holds it
 abbrev pub Holdable : Saved → Type 0

@@ -1,5 +1,5 @@
-// The operations "how much is saved": the savings of exchanging two edges, of moving a point and of a 3-opt closing, over
-// one table.
+// The operations "how much is saved": the savings of exchanging two edges, of moving a point and of a 3-opt closing,
+// over one table.
 use crate::edges::three_edges;
 use crate::edges::two_edges;
 use admission::tested::Tested;
@@ -74,8 +74,8 @@ fn three_opt_edges(n: u16, p: u16, q: u16, r: u16, s: u16, x: u16, y: u16, z: u1
     three_edges(n, s, w, r, y, s, z)
 }
 
-// A 3-opt closing by the edge pq with the centres r and s, x and y the other ends of r, z and w those of s: the best of its
-// four labellings.
+// A 3-opt closing by the edge pq with the centres r and s, x and y the other ends of r, z and w those of s: the best of
+// its four labellings.
 pub fn saved_by_three_opt(
     n: u32,
     table: &[u8],

@@ -139,10 +139,10 @@ fn look(
     }
 }
 
-// The chain of the split at c that record i holds, under k, from the index `first` on; `left` more splits may
-// lie inside a case. What is taken out is measured by the table `out`, what is put in by the table `put`; `outrows` and
-// `putrows` are their rows, and `count` is how many records the sheet has. Ends: each record entered is above the highest
-// before, and a split inside a case leaves one split less.
+// The chain of the split at c that record i holds, under k, from the index `first` on; `left` more splits may lie
+// inside a case. What is taken out is measured by the table `out`, what is put in by the table `put`; `outrows` and
+// `putrows` are their rows, and `count` is how many records the sheet has. Ends: each record entered is above the
+// highest before, and a split inside a case leaves one split less.
 pub fn chain(
     n: u16,
     out: &[u8],

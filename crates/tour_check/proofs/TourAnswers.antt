@@ -1,4 +1,5 @@
--- `tourChecked` at each way out of `check_tour`, and that a tour's length stays below 2 ^ 40: no length is above 2,000,000. Assumes nothing.
+-- `tourChecked` at each way out of `check_tour`, and that a tour's length stays below 2 ^ 40: no length is above
+-- 2,000,000. Assumes nothing.
 use Prim.Native.Nat.{ℕ, suc, _*_, _≤_}
 use mathlib.Core.Path.{_≡_, refl, ap, ap₂, subst}
 use mathlib.Core.Bool.{Bool, true, false}

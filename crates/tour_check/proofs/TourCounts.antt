@@ -1,4 +1,5 @@
--- How often a number stands in the front of a list, and that two places of a list without repeats differ. Assumes nothing.
+-- How often a number stands in the front of a list, and that two places of a list without repeats differ. Assumes
+-- nothing.
 use Prim.Native.Nat.{ℕ, suc, _+_, _≤_, _<_}
 use mathlib.Core.Path.{_≡_, _∙_, ap}
 use mathlib.Core.List.{List, [], _∷_}

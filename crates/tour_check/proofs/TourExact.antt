@@ -1,5 +1,5 @@
--- `isTour` is true exactly of tours, and every edge of the closed list passes exactly when every edge that the tour uses is open.
--- A list of n numbers with each of 1 to n once has no place for another number. Assumes nothing.
+-- `isTour` is true exactly of tours, and every edge of the closed list passes exactly when every edge that the tour
+-- uses is open. A list of n numbers with each of 1 to n once has no place for another number. Assumes nothing.
 use Prim.Native.Nat.{ℕ, zero, suc}
 use mathlib.Core.Path.{_≡_, refl, _∙_, ap}
 use mathlib.Core.Bool.{true}
@@ -49,9 +49,9 @@ pub tour-is : (n : ℕ) (t : List ℕ) → Tour n t → isTour n t ≡ true
 unfolding isTour
 tour-is n t T = and-both (eqb (length t) n) (onceEach n t) (eq-eqb (length t) n (tour-length T)) (each-once n t (T .once))
 
--- The numbers pass exactly when they are a tour. A tour has each point once, and as many places as points, by `tour-length`.
--- The other way round each of 1 to n is counted once among n numbers. Were another number among them too, the list without it would
--- have each of 1 to n on fewer than n places. So nothing but points stands there.
+-- The numbers pass exactly when they are a tour. A tour has each point once, and as many places as points, by
+-- `tour-length`. The other way round each of 1 to n is counted once among n numbers. Were another number among them
+-- too, the list without it would have each of 1 to n on fewer than n places. So nothing but points stands there.
 pub is-tour-exact : (n : ℕ) (t : List ℕ) → (isTour n t ≡ true) ↔ Tour n t
 is-tour-exact n t = (is-tour n t, tour-is n t)
 

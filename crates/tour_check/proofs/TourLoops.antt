@@ -1,5 +1,5 @@
--- The loops of `length_of` and `all_open`: what is done and what the rest of the way round still brings make up the whole.
--- Two neighbours on a tour are different points, since none stands twice. Assumes nothing.
+-- The loops of `length_of` and `all_open`: what is done and what the rest of the way round still brings make up the
+-- whole. Two neighbours on a tour are different points, since none stands twice. Assumes nothing.
 use Prim.Native.Nat.{ℕ, _+_, _-_, _*_, _^_, _≤_, _<_}
 use mathlib.Core.Path.{_≡_, refl, sym, _∙_, ap}
 use mathlib.Core.Bool.{Bool, true, false, _&&_}

@@ -1,5 +1,5 @@
--- The loop of `each_once`: a flag is up exactly where the point stands among the numbers read, and these are points with none twice.
--- Each way out shows that the numbers are a tour, or that they cannot be one. Assumes nothing.
+-- The loop of `each_once`: a flag is up exactly where the point stands among the numbers read, and these are points
+-- with none twice. Each way out shows that the numbers are a tour, or that they cannot be one. Assumes nothing.
 use Prim.Native.Nat.{ℕ, suc, _+_, _≤_, _<_}
 use mathlib.Core.Path.{_≡_, refl, sym, _∙_, ap, subst}
 use mathlib.Core.Bool.{Bool, true, false, true≢false}

@@ -1,4 +1,5 @@
--- The operation "check a tour": 1, 2, 5, 6; 17, not n numbers, or not each point from 1 to n exactly once. A pending edge counts as open.
+-- The operation "check a tour": 1, 2, 5, 6; 17, not n numbers, or not each point from 1 to n exactly once. A pending
+-- edge counts as open.
 use Prim.Native.Nat.{ℕ, zero, suc, _<_, _^_}
 use mathlib.Core.Path.{_≡_}
 use mathlib.Core.Bool.{Bool, true, _&&_}

@@ -14,7 +14,8 @@ use Rattle.marking.specs.Listing.{listTested, listLeft, placesOf}
 -- what `list_into` ensures: the answer of test 18, and the list's bytes that it leaves
 pub record ListedInto (n : ℕ) (out put marks : List ℕ) (a b c : ℕ) (list : List ℕ) (answer : Listed) (left : List ℕ) : Type 0 where
   pub answered : answer
-      ≡ unless (leb (2 * length (pairsAt n out put marks a b c)) (placesOf list)) (Refused 18 0) (Pairs (length (pairsAt n out put marks a b c)))
+      ≡ unless (leb (2 * length (pairsAt n out put marks a b c)) (placesOf list)) (Refused 18 0)
+      (Pairs (length (pairsAt n out put marks a b c)))
   pub list-left : left ≡ listLeft answer n out put marks a b c list
 
 -- what `list_tested` ensures: the answer of tests 11, 12 and 18, and the list's bytes that it leaves

@@ -10,7 +10,8 @@ pub record AdmittedBy (mark n : ℕ) (out put marks sheet : List ℕ) (count : �
   pub admitted : Admitted n out put marks sheet count
   pub is-mark : mark ≤ pendingMark
 
--- what marking by rows that are still to be written is asked about: there is room for those of each table; one may be both
+-- what marking by rows that are still to be written is asked about: there is room for those of each table; one may be
+-- both
 pub record RowsAsked (mark n : ℕ) (out put outrows putrows marks sheet : List ℕ) (count : ℕ) : Type 0 where
   pub is-mark : mark ≤ pendingMark
   pub admitted : Admitted n out put marks sheet count

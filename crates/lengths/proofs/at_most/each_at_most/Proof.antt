@@ -1,5 +1,5 @@
--- `lengths::at_most::each_at_most` meets its contract: what is found so far and the test of what is left are the test of
--- all. Assumes nothing.
+-- `lengths::at_most::each_at_most` meets its contract: what is found so far and the test of what is left are the test
+-- of all. Assumes nothing.
 use Prim.Native.Nat.{_-_}
 use borrow.Author.Needs.{needs}
 use native.Mathlib.Omega.{arith}

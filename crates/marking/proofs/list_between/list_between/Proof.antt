@@ -1,4 +1,5 @@
--- `marking::list_between::list_between` meets its contract: each way out has its lemma in `BetweenLists`. Assumes nothing.
+-- `marking::list_between::list_between` meets its contract: each way out has its lemma in `BetweenLists`. Assumes
+-- nothing.
 use Rattle.marking.proofs.BetweenLists.{between-list-refused, between-listable, between-listed}
 use borrow.Author.Needs.{needs}
 use Rattle.marking.proofs.list_between.list_between.Statement.{statement}

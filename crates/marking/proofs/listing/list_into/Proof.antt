@@ -1,4 +1,5 @@
--- `marking::listing::list_into` meets its contract: both ways out have their lemma in `ListingAnswers`. Assumes nothing.
+-- `marking::listing::list_into` meets its contract: both ways out have their lemma in `ListingAnswers`. Assumes
+-- nothing.
 use native.Mathlib.Omega.{arith}
 use borrow.Author.Needs.{needs}
 use Rattle.marking.proofs.ListingAnswers.{found-length, encodable, into-refused, into-pairs}

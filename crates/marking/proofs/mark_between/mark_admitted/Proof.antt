@@ -1,4 +1,5 @@
--- `marking::mark_between::mark_admitted` meets its contract: either pair of arrays has room for the rows. Assumes nothing.
+-- `marking::mark_between::mark_admitted` meets its contract: either pair of arrays has room for the rows. Assumes
+-- nothing.
 use Rattle.lengths.specs.Instance.{fewPoints, mostPoints}
 use Rattle.marking.proofs.MarkingSheets.{rows-room, cleared}
 use borrow.Author.Needs.{needs}

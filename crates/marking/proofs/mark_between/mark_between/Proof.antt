@@ -1,4 +1,5 @@
--- `marking::mark_between::mark_between` meets its contract: each way out has its lemma in `BetweenSheets`. Assumes nothing.
+-- `marking::mark_between::mark_between` meets its contract: each way out has its lemma in `BetweenSheets`. Assumes
+-- nothing.
 use mathlib.Core.Path.{_∙_, ap}
 use Rattle.sheets.specs.asks.Sheet.{sheetAdmission}
 use Rattle.marking.proofs.BetweenSheets.{between-untested, between-not-whole, between-admits, between-lines}

@@ -1,5 +1,5 @@
--- `marks::pending::resolve_all` meets its contract: at the loop's head the first i bytes are resolved, the others as they
--- were. Assumes nothing.
+-- `marks::pending::resolve_all` meets its contract: at the loop's head the first i bytes are resolved, the others as
+-- they were. Assumes nothing.
 use Prim.Native.Nat.{_-_}
 use lib.ListN.{length}
 use borrow.Author.Needs.{needs}

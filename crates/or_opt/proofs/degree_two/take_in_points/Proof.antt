@@ -1,5 +1,5 @@
--- `or_opt::degree_two::take_in_points` meets its contract: the invariant is `TakingIn`, that the first i edges are taken in.
--- Assumes nothing.
+-- `or_opt::degree_two::take_in_points` meets its contract: the invariant is `TakingIn`, that the first i edges are
+-- taken in. Assumes nothing.
 use Prim.Native.Nat.{_-_}
 use mathlib.Core.Logic.{⊎-elim}
 use borrow.Author.Tests.{not-false}

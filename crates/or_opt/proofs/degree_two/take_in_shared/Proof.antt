@@ -1,4 +1,5 @@
--- `or_opt::degree_two::take_in_shared` meets its contract: the four tests of `apart?`, one after the other. Assumes nothing.
+-- `or_opt::degree_two::take_in_shared` meets its contract: the four tests of `apart?`, one after the other. Assumes
+-- nothing.
 use Rattle.or_opt.proofs.PointLegs.{meets-pu, meets-pv, meets-qu, meets-qv, two-told}
 use Rattle.or_opt.proofs.degree_two.take_in_shared.Statement.{statement}
 use Rattle.or_opt.proofs.degree_two.take_in_shared.Tie as tie

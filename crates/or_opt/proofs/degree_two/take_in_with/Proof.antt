@@ -1,5 +1,5 @@
--- `or_opt::degree_two::take_in_with` meets its contract: the invariant is `Pairing`, that edge i is taken in with the first
--- j edges. Assumes nothing.
+-- `or_opt::degree_two::take_in_with` meets its contract: the invariant is `Pairing`, that edge i is taken in with the
+-- first j edges. Assumes nothing.
 use Prim.Native.Nat.{_-_}
 use Rattle.or_opt.proofs.PointLegs.{Pairing, pairing-start, pairing-asks, pairing-on, pairing-end}
 use borrow.Author.Needs.{needs}

@@ -1,5 +1,5 @@
--- `pages::page_line::is_line` meets its contract: both ways out have their lemma in `LineTexts`. What is promised stands
--- first. Assumes nothing.
+-- `pages::page_line::is_line` meets its contract: both ways out have their lemma in `LineTexts`. What is promised
+-- stands first. Assumes nothing.
 use mathlib.Core.Path.{sym}
 use native.Mathlib.Omega.{arith}
 use Rattle.pages.proofs.LineTexts.{line-length, wrote-whole, long-line, compared}

@@ -1,4 +1,5 @@
--- `receipts::receipt::new_receipt` meets its contract: each kind of verdict has its lemma in `Receipts`. Assumes nothing.
+-- `receipts::receipt::new_receipt` meets its contract: each kind of verdict has its lemma in `Receipts`. Assumes
+-- nothing.
 use Rattle.receipts.proofs.Receipts.{accepted-receipt, refused-receipt}
 use borrow.Author.Needs.{needs}
 use Rattle.receipts.proofs.receipt.new_receipt.Statement.{statement}

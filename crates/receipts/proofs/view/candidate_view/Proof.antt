@@ -1,4 +1,5 @@
--- `receipts::view::candidate_view` meets its contract: it is the examiner's view of the slip that is shown. Assumes nothing.
+-- `receipts::view::candidate_view` meets its contract: it is the examiner's view of the slip that is shown. Assumes
+-- nothing.
 use Rattle.receipts.proofs.ViewAnswers.{view-shown}
 use borrow.Author.Needs.{needs}
 use Rattle.receipts.proofs.view.candidate_view.Statement.{statement}

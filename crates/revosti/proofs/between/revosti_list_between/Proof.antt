@@ -1,4 +1,5 @@
--- `revosti::between::revosti_list_between` meets its contract: the answer's number, and the list that listing leaves. Assumes nothing.
+-- `revosti::between::revosti_list_between` meets its contract: the answer's number, and the list that listing leaves.
+-- Assumes nothing.
 use Rattle.revosti.proofs.ListAnswers.{listed-between-in-c}
 use borrow.Author.Needs.{needs}
 use Rattle.revosti.proofs.between.revosti_list_between.Statement.{statement}

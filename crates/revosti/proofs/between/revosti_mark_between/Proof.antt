@@ -1,4 +1,5 @@
--- `revosti::between::revosti_mark_between` meets its contract: the verdict's number, and the marks that marking leaves. Assumes nothing.
+-- `revosti::between::revosti_mark_between` meets its contract: the verdict's number, and the marks that marking leaves.
+-- Assumes nothing.
 use Rattle.revosti.proofs.MarkAnswers.{marked-between-in-c}
 use borrow.Author.Needs.{needs}
 use Rattle.revosti.proofs.between.revosti_mark_between.Statement.{statement}

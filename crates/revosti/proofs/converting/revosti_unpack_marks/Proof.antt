@@ -1,4 +1,5 @@
--- `revosti::converting::revosti_unpack_marks` meets its contract: the answer's number, and the set that is left. Assumes nothing.
+-- `revosti::converting::revosti_unpack_marks` meets its contract: the answer's number, and the set that is left.
+-- Assumes nothing.
 use Rattle.revosti.proofs.OutcomeAnswers.{unpacked-in-c}
 use borrow.Author.Needs.{needs}
 use Rattle.revosti.proofs.converting.revosti_unpack_marks.Statement.{statement}

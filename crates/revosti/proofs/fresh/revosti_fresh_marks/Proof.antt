@@ -1,4 +1,5 @@
--- `revosti::fresh::revosti_fresh_marks` meets its contract: the answer's number, and the marks that are left. Assumes nothing.
+-- `revosti::fresh::revosti_fresh_marks` meets its contract: the answer's number, and the marks that are left. Assumes
+-- nothing.
 use Rattle.revosti.proofs.OutcomeAnswers.{fresh-in-c}
 use borrow.Author.Needs.{needs}
 use Rattle.revosti.proofs.fresh.revosti_fresh_marks.Statement.{statement}

@@ -1,4 +1,5 @@
--- `revosti::listing::listed_number` meets its contract: both answers have their number in `ListAnswers`. Assumes nothing.
+-- `revosti::listing::listed_number` meets its contract: both answers have their number in `ListAnswers`. Assumes
+-- nothing.
 use Rattle.revosti.proofs.ListAnswers.{pairs-number, refused-number}
 use borrow.Author.Needs.{needs}
 use Rattle.revosti.proofs.listing.listed_number.Statement.{statement}

@@ -1,4 +1,5 @@
--- `revosti::listing::revosti_list_pairs` meets its contract: the answer's number, and the list that listing leaves. Assumes nothing.
+-- `revosti::listing::revosti_list_pairs` meets its contract: the answer's number, and the list that listing leaves.
+-- Assumes nothing.
 use Rattle.revosti.proofs.ListAnswers.{listed-in-c}
 use borrow.Author.Needs.{needs}
 use Rattle.revosti.proofs.listing.revosti_list_pairs.Statement.{statement}

@@ -1,4 +1,5 @@
--- `revosti::mark::marked_number` meets its contract: each kind of verdict has its lemma in `MarkAnswers`. Assumes nothing.
+-- `revosti::mark::marked_number` meets its contract: each kind of verdict has its lemma in `MarkAnswers`. Assumes
+-- nothing.
 use Rattle.revosti.proofs.MarkAnswers.{accepted-number, refused-number}
 use native.Mathlib.Omega.{arith}
 use borrow.Author.Needs.{needs}

@@ -1,4 +1,5 @@
--- `revosti::measure::revosti_measure` meets its contract: the answer's number, and the table that is left. Assumes nothing.
+-- `revosti::measure::revosti_measure` meets its contract: the answer's number, and the table that is left. Assumes
+-- nothing.
 use Rattle.revosti.proofs.OutcomeAnswers.{measured-in-c}
 use borrow.Author.Needs.{needs}
 use Rattle.revosti.proofs.measure.revosti_measure.Statement.{statement}

@@ -1,4 +1,5 @@
--- `revosti::page::revosti_read_page` meets its contract: the answer's number, and the table and the set that are left. Assumes nothing.
+-- `revosti::page::revosti_read_page` meets its contract: the answer's number, and the table and the set that are left.
+-- Assumes nothing.
 use Rattle.revosti.proofs.PageNumbers.{page-read-in-c}
 use borrow.Author.Needs.{needs}
 use Rattle.revosti.proofs.page.revosti_read_page.Statement.{statement}

@@ -1,4 +1,5 @@
--- `revosti::page::revosti_write_page` meets its contract: the answer's number, and the text that is left. Assumes nothing.
+-- `revosti::page::revosti_write_page` meets its contract: the answer's number, and the text that is left. Assumes
+-- nothing.
 use Rattle.revosti.proofs.PageNumbers.{written-in-c}
 use borrow.Author.Needs.{needs}
 use Rattle.revosti.proofs.page.revosti_write_page.Statement.{statement}

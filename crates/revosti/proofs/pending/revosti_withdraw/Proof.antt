@@ -1,4 +1,5 @@
--- `revosti::pending::revosti_withdraw` meets its contract: the answer's number, and the marks that are left. Assumes nothing.
+-- `revosti::pending::revosti_withdraw` meets its contract: the answer's number, and the marks that are left. Assumes
+-- nothing.
 use Rattle.revosti.proofs.OutcomeAnswers.{resolved-in-c}
 use borrow.Author.Needs.{needs}
 use Rattle.revosti.proofs.pending.revosti_withdraw.Statement.{statement}

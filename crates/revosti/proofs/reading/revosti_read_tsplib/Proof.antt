@@ -1,4 +1,5 @@
--- `revosti::reading::revosti_read_tsplib` meets its contract: the answer's number, and the table that is left. Assumes nothing.
+-- `revosti::reading::revosti_read_tsplib` meets its contract: the answer's number, and the table that is left. Assumes
+-- nothing.
 use Rattle.revosti.proofs.ReadAnswers.{read-in-c}
 use borrow.Author.Needs.{needs}
 use Rattle.revosti.proofs.reading.revosti_read_tsplib.Statement.{statement}

@@ -1,4 +1,5 @@
--- `revosti::reading::revosti_tsplib_points` meets its contract: the number of what the operation answers. Assumes nothing.
+-- `revosti::reading::revosti_tsplib_points` meets its contract: the number of what the operation answers. Assumes
+-- nothing.
 use mathlib.Core.Path.{_∙_, ap}
 use Rattle.revosti.specs.Reading.{readNumber, pointsInC}
 use borrow.Author.Needs.{needs}

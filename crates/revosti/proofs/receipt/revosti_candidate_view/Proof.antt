@@ -1,4 +1,5 @@
--- `revosti::receipt::revosti_candidate_view` meets its contract: the answer's number, and the bytes that are left. Assumes nothing.
+-- `revosti::receipt::revosti_candidate_view` meets its contract: the answer's number, and the bytes that are left.
+-- Assumes nothing.
 use Rattle.receipts.specs.View.{candidateView}
 use Rattle.revosti.proofs.ReceiptAnswers.{viewed-in-c}
 use borrow.Author.Needs.{needs}

@@ -1,4 +1,5 @@
--- `revosti::receipt::revosti_release` meets its contract: the number of the slip released, and the bits above it. Assumes nothing.
+-- `revosti::receipt::revosti_release` meets its contract: the number of the slip released, and the bits above it.
+-- Assumes nothing.
 use Rattle.revosti.proofs.ReceiptAnswers.{release-in-c}
 use borrow.Author.Needs.{needs}
 use Rattle.revosti.proofs.receipt.revosti_release.Statement.{statement}

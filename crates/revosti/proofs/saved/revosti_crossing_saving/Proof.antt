@@ -1,4 +1,5 @@
--- `revosti::saved::revosti_crossing_saving` meets its contract: the number of what the operation answers. Assumes nothing.
+-- `revosti::saved::revosti_crossing_saving` meets its contract: the number of what the operation answers. Assumes
+-- nothing.
 use mathlib.Core.Path.{_∙_, ap}
 use Rattle.lengths.proofs.SignedSavings.{kept}
 use Rattle.revosti.specs.Saved.{savedNumber}

@@ -1,4 +1,5 @@
--- `savings::saved::saved_by_exchange` meets its contract: each way out has its lemma in `SavedAnswers`. Assumes nothing.
+-- `savings::saved::saved_by_exchange` meets its contract: each way out has its lemma in `SavedAnswers`. Assumes
+-- nothing.
 use Prim.Native.Nat.{ℕ}
 use mathlib.Core.Path.{_≡_, sym, _∙_}
 use denote.Ref.{now}

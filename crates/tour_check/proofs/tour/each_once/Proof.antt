@@ -1,4 +1,5 @@
--- `tour_check::tour::each_once` meets its contract: `Seeing` holds at the loop's head, and each way out has its lemma in `TourSeen`. Assumes nothing.
+-- `tour_check::tour::each_once` meets its contract: `Seeing` holds at the loop's head, and each way out has its lemma
+-- in `TourSeen`. Assumes nothing.
 use Prim.Native.Nat.{_-_, _<_}
 use mathlib.Core.Path.{_≡_, sym, _∙_}
 use mathlib.Core.Bool.{true}
