@@ -1,36 +1,22 @@
-// Examples of the operations, executed by their functions for C, for every refusal but those of a sheet's records: a line for each, with what it
-// should be.
-mod between;
-mod c;
-mod converting;
-mod desks;
-mod fresh;
-mod measure;
-mod pages;
-mod pairs;
-mod pending;
-mod receipts;
-mod savings;
-mod six;
-mod texts;
-mod tour_checks;
+// Examples of every operation, executed by its function for C, every refusal among them. They are data: a line of the
+// program's input is a call with the answer and the buffers that should come of it, and the file itself, `stdin`, says
+// how a line is written. A line that cannot be read and a line that comes out otherwise are told with their number; the
+// last line of the output counts them.
+mod arguments;
+mod calls;
+mod digits;
+mod lines;
+mod signatures;
+mod tally;
+mod values;
 
-use answers::tally::Tally;
+use lines::run;
 
 fn main() {
-    let t = measure::run(Tally::new());
-    let t = fresh::run(t);
-    let t = pairs::run(t);
-    let t = tour_checks::run(t);
-    let t = c::run(t);
-    let t = pending::run(t);
-    let t = six::run(t);
-    let t = converting::run(t);
-    let t = savings::run(t);
-    let t = receipts::run(t);
-    let t = between::run(t);
-    let t = texts::run(t);
-    let t = pages::run(t);
-    let t = desks::run(t);
-    t.print();
+    let mut input = [0u8; 262144];
+    let n = io::read_full(0, &mut input);
+    let mut memory = [0u8; 262144];
+    let mut left = [0u8; 262144];
+    let tally = run(&input[..n], &mut memory, &mut left);
+    tally.print();
 }
