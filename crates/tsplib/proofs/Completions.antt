@@ -1,5 +1,5 @@
--- From every state that lines of bytes lead to, some lines of bytes complete an instance: what is missing of the keywords, the section, as many
--- nodes or weights as are left, EOF. Assumes nothing.
+-- From every state that lines of bytes lead to, some lines of bytes complete an instance: what is missing of the
+-- keywords, the section, as many nodes or weights as are left, EOF. Assumes nothing.
 use Prim.Native.Nat.{ℕ, zero, suc, _+_, _-_, _*_, _≤_, _<_}
 use mathlib.Core.Path.{_≡_, refl, sym, _∙_, ap, subst}
 use mathlib.Core.Bool.{Bool, true, false}

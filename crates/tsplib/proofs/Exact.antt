@@ -1,5 +1,6 @@
--- The steps accept exactly the lines of an instance. From a state on, `Rest` says declaratively which lines complete an instance: it is carried back over
--- each legal step, and the lines of an instance are run forth, keyword by keyword, then the body, then EOF. Assumes nothing.
+-- The steps accept exactly the lines of an instance. From a state on, `Rest` says declaratively which lines complete an
+-- instance: it is carried back over each legal step, and the lines of an instance are run forth, keyword by keyword,
+-- then the body, then EOF. Assumes nothing.
 use Prim.Native.Nat.{ℕ, suc, _+_, _*_, _≤_}
 use mathlib.Core.Path.{_≡_, refl, sym, _∙_, ap, ap₂, subst}
 use mathlib.Core.Bool.{Bool, true, false}

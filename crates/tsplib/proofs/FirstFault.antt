@@ -1,6 +1,7 @@
--- The line that is told is the first that the language cannot hold. The lines before it lead to a state, and some lines complete an instance from
--- there; the line itself, if there is one, is a fault in that state, and then in every text that begins so. There is one such line: of two, the lines up to
--- the earlier one would begin a text, as those before the later one do, and would not. Assumes nothing.
+-- The line that is told is the first that the language cannot hold. The lines before it lead to a state, and some lines
+-- complete an instance from there; the line itself, if there is one, is a fault in that state, and then in every text
+-- that begins so. There is one such line: of two, the lines up to the earlier one would begin a text, as those before
+-- the later one do, and would not. Assumes nothing.
 use Prim.Native.Nat.{ℕ, zero, suc, _+_, _-_, _≤_, _<_, max}
 use mathlib.Core.Path.{_≡_, refl, sym, _∙_, ap, subst}
 use mathlib.Core.Logic.{_⊎_, inl, inr}

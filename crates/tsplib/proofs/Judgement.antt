@@ -1,4 +1,5 @@
--- The judge of a text, line by line: the verdict on all is that on what is left, from the state after what is passed. Assumes nothing.
+-- The judge of a text, line by line: the verdict on all is that on what is left, from the state after what is passed.
+-- Assumes nothing.
 use Prim.Native.Nat.{ℕ, suc, _+_, _-_, _*_, _≤_, _<_, max}
 use mathlib.Core.Path.{_≡_, refl, sym, _∙_, ap, ap₂}
 use mathlib.Core.Bool.{true}

@@ -1,4 +1,5 @@
--- The numbers of a text gathered line by line, and of a line byte by byte: what is written and what is left are all. Assumes nothing.
+-- The numbers of a text gathered line by line, and of a line byte by byte: what is written and what is left are all.
+-- Assumes nothing.
 use Prim.Native.Nat.{ℕ, _+_, _-_, _*_, _%_, _≤_, _<_}
 use mathlib.Core.Path.{_≡_, refl, sym, _∙_, ap, ap₂, subst}
 use mathlib.Core.Bool.{Bool, true, false}

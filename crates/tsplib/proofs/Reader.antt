@@ -1,5 +1,6 @@
--- The operations against the language: a text of it gets the answer of its n, weighing and data; any other gets 19 with the line that is told first; and
--- 19 is no answer to a text of the language; and a refused call leaves the table. Assumes nothing.
+-- The operations against the language: a text of it gets the answer of its n, weighing and data; any other gets 19 with
+-- the line that is told first; and 19 is no answer to a text of the language; and a refused call leaves the table.
+-- Assumes nothing.
 use Prim.Native.Nat.{ℕ, _*_, _≤_}
 use mathlib.Core.Path.{_≡_, refl, sym, _∙_, ap, subst}
 use mathlib.Core.Bool.{Bool, true, false}

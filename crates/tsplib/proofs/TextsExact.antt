@@ -1,5 +1,6 @@
--- Exactly the texts of the language are accepted, byte by byte, with their n, weighing and data. A text is its whole lines, each with a newline, and what is
--- unfinished; an accepted text has nothing unfinished, and each of its lines reads as what the steps take it for. Assumes nothing.
+-- Exactly the texts of the language are accepted, byte by byte, with their n, weighing and data. A text is its whole
+-- lines, each with a newline, and what is unfinished; an accepted text has nothing unfinished, and each of its lines
+-- reads as what the steps take it for. Assumes nothing.
 use Prim.Native.Nat.{ℕ}
 use mathlib.Core.Path.{_≡_, refl, sym, _∙_, ap, ap₂, subst}
 use mathlib.Core.Bool.{Bool, true, false}

@@ -1,4 +1,5 @@
--- What the judge's verdict says of the lines: an instance, with the largest of its numbers, or the place of the first line that cannot be. Assumes nothing.
+-- What the judge's verdict says of the lines: an instance, with the largest of its numbers, or the place of the first
+-- line that cannot be. Assumes nothing.
 use Prim.Native.Nat.{ℕ, _+_, max}
 use mathlib.Core.Path.{_≡_, refl, sym, _∙_, ap, ap₂}
 use mathlib.Core.Bool.{Bool, true, false, _&&_}

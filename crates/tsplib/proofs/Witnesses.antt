@@ -1,4 +1,5 @@
--- The language has texts of both kinds, and the line that is told of faults of each sort: the judge's verdicts, computed by the definitions. Assumes nothing.
+-- The language has texts of both kinds, and the line that is told of faults of each sort: the judge's verdicts,
+-- computed by the definitions. Assumes nothing.
 use Prim.Native.Nat.{ℕ}
 use mathlib.Core.Path.{_≡_, refl, subst}
 use mathlib.Core.List.{List, [], _∷_, _++_, map}
@@ -16,7 +17,8 @@ use Rattle.tsplib.specs.declared.judging.JudgedText.{JudgedText}
 use Rattle.tsplib.specs.declared.judging.JudgedText.the-variants.{Described, Fault}
 use Rattle.tsplib.proofs.TextsExact.{accepted-text}
 
--- coordinates: NAME : a:b, COMMENT: behind a blank and with no value, TYPE: TSP, DIMENSION :004, MAN_2D, the square with blanks at will
+-- coordinates: NAME : a:b, COMMENT: behind a blank and with no value, TYPE: TSP, DIMENSION :004, MAN_2D, the square
+-- with blanks at will
 unfoldable pub square : List ℕ
 square =
     joined
@@ -69,8 +71,8 @@ pub record Faulty : Type 0 where
 abbrev pub at : ℕ → List (List ℕ) → List ℕ → Faulty
 at line lines rest = record { line = line; text = joined lines rest }
 
--- no text; a second DIMENSION of the same value; UPPER_ROW with coordinates; an empty line; a tab between numbers; a number of 33 bits; a node out of its
--- place; EOF too early; a blank behind EOF; EOF without its newline
+-- no text; a second DIMENSION of the same value; UPPER_ROW with coordinates; an empty line; a tab between numbers; a
+-- number of 33 bits; a node out of its place; EOF too early; a blank behind EOF; EOF without its newline
 unfoldable pub faults : List Faulty
 faults =
     at 1 [] []

@@ -1,4 +1,5 @@
--- The line told: "The line told is the first that, after the lines before it, no such text could hold, or one past the last whole line."
+-- The line told: "The line told is the first that, after the lines before it, no such text could hold, or one past the
+-- last whole line."
 use Prim.Native.Nat.{ℕ, _+_, _-_, _≤_, _<_}
 use mathlib.Core.Path.{_≡_}
 use mathlib.Core.Bool.{true}
@@ -29,7 +30,8 @@ pub record BeginsText (bytes : List ℕ) : Type 0 where
   pub numbers : List ℕ
   pub text : Tsplib (bytes ++ rest) n weighs numbers
 
--- lines 1 to L - 1 are there and begin some text of the language; there is no whole line L, or no text of the language begins with lines 1 to L
+-- lines 1 to L - 1 are there and begin some text of the language; there is no whole line L, or no text of the language
+-- begins with lines 1 to L
 pub record ToldFirst (text : List ℕ) (line : ℕ) : Type 0 where
   pub counted : 1 ≤ line
   pub there : line ≤ length (wholeLines text) + 1

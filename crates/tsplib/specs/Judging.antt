@@ -41,7 +41,8 @@ maximumIn body.Other = 0
 unfoldable pub maximumOf : code.TalliedLine → ℕ
 maximumOf line = maximumIn (bodyOf line)
 
--- the end of the lines, after so many: "one past the last whole line" is told unless EOF was the last and nothing stands behind it
+-- the end of the lines, after so many: "one past the last whole line" is told unless EOF was the last and nothing
+-- stands behind it
 unfoldable pub judgedEnd : State → ℕ → ℕ → List ℕ → JudgedText
 judgedEnd (Specification nm ty p w) k m rest = Fault (k + 1)
 judgedEnd (Nodes n r j) k m rest = Fault (k + 1)

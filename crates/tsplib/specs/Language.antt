@@ -23,7 +23,8 @@ pub data Keywords : List TextLine → Type 0 where
   none : Keywords []
   more : {l : TextLine} {ls : List TextLine} → Keyword l → Keywords ls → Keywords (l ∷ ls)
 
--- what one line adds to each count: NAME, TYPE and EDGE_WEIGHT_FORMAT lines, the values of DIMENSION and of EDGE_WEIGHT_TYPE
+-- what one line adds to each count: NAME, TYPE and EDGE_WEIGHT_FORMAT lines, the values of DIMENSION and of
+-- EDGE_WEIGHT_TYPE
 pub record Adds : Type 0 where
   pub names : ℕ
   pub types : ℕ
@@ -78,15 +79,18 @@ pub record Specification (ls : List TextLine) (n : ℕ) (w : Weighing) : Type 0 
   pub keywords : Keywords ls
   pub counts : Counts (allAdd ls) n w
 
--- "Node lines must come in order 1 to n with whole coordinates": the lines of the nodes after the first k, and their coordinates
+-- "Node lines must come in order 1 to n with whole coordinates": the lines of the nodes after the first k, and their
+-- coordinates
 pub data Nodes : ℕ → ℕ → List TextLine → List ℕ → Type 0 where
   none : {n : ℕ} → Nodes n n [] []
-  node : {k n : ℕ} {ls : List TextLine} {cs : List ℕ} (x y : ℕ) → Nodes (suc k) n ls cs → Nodes k n (number-line (suc k ∷ x ∷ y ∷ []) ∷ ls) (x ∷ y ∷ cs)
+  node : {k n : ℕ} {ls : List TextLine} {cs : List ℕ} (x y : ℕ) → Nodes (suc k) n ls cs
+      → Nodes k n (number-line (suc k ∷ x ∷ y ∷ []) ∷ ls) (x ∷ y ∷ cs)
 
 -- "weights may break over lines": so many weights, one or more to a line
 pub data Weights : ℕ → List TextLine → List ℕ → Type 0 where
   none : Weights 0 [] []
-  some : {ls : List TextLine} {ws : List ℕ} (k x : ℕ) (xs : List ℕ) → Weights k ls ws → Weights (length (x ∷ xs) + k) (number-line (x ∷ xs) ∷ ls) ((x ∷ xs) ++ ws)
+  some : {ls : List TextLine} {ws : List ℕ} (k x : ℕ) (xs : List ℕ) → Weights k ls ws
+      → Weights (length (x ∷ xs) + k) (number-line (x ∷ xs) ∷ ls) ((x ∷ xs) ++ ws)
 
 -- the lines of an instance: its n, how it is weighed, and its coordinates or weights
 pub data InstanceLines : List TextLine → ℕ → Weighing → List ℕ → Type 0 where
@@ -98,7 +102,8 @@ pub data InstanceLines : List TextLine → ℕ → Weighing → List ℕ → Typ
 -- the bytes of lines: "each ends in a newline"
 pub data Text : List TextLine → List ℕ → Type 0 where
   none : Text [] []
-  line : {l : TextLine} {ls : List TextLine} {bytes rest : List ℕ} → free newline bytes ≡ true → Reads bytes l → Text ls rest → Text (l ∷ ls) (bytes ++ newline ∷ rest)
+  line : {l : TextLine} {ls : List TextLine} {bytes rest : List ℕ} → free newline bytes ≡ true → Reads bytes l → Text ls rest
+      → Text (l ∷ ls) (bytes ++ newline ∷ rest)
 
 -- a text of the language: its n, how it is weighed, and its coordinates or weights
 pub record Tsplib (text : List ℕ) (n : ℕ) (w : Weighing) (xs : List ℕ) : Type 0 where

@@ -1,4 +1,5 @@
--- Reading a text: first the language (19, with its line); then the tests of *measure* for coordinates, and 1, 2 and 5 for weights.
+-- Reading a text: first the language (19, with its line); then the tests of *measure* for coordinates, and 1, 2 and 5
+-- for weights.
 use Prim.Native.Nat.{ℕ}
 use mathlib.Core.Path.{_≡_}
 use mathlib.Core.List.{List}

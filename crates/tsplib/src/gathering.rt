@@ -75,7 +75,7 @@ fn place_behind(b: u8, place: Partial) -> Partial
     }
 }
 
-// Writes the numbers of a text from an entry on, without the first `skip`: the next entry.
+// Writes the numbers of a text from an entry on, without the first `skip`: the next entry. One byte a turn to its end.
 fn write_numbers(text: &[u8], skip: usize, out: &mut [u8], at: usize) -> usize
     requires { ⌜ RoomFor (now out) at (drop skip (takenFrom Partial.Between (now text))) ⌝ }
     ensures { λ r. ⌜ WroteNumbers (now (out .entry)) at (drop skip (takenFrom Partial.Between (now (text .entry)))) r (now (out .exit)) ⌝ }
@@ -104,7 +104,7 @@ fn write_line(line: &[u8], skip: usize, out: &mut [u8], at: usize) -> usize
     }
 }
 
-// Writes the numbers of a text, without the first `skip` of each line: how many.
+// Writes the numbers of a text, without the first `skip` of each line: how many. One line a turn to its end.
 pub fn gather(text: &[u8], skip: usize, out: &mut [u8]) -> usize
     requires { ⌜ RoomFor (now out) 0 (gathered skip (linesOf (now text))) ⌝ }
     ensures { λ r. ⌜ WroteNumbers (now (out .entry)) 0 (gathered skip (linesOf (now (text .entry)))) r (now (out .exit)) ⌝ }

@@ -64,7 +64,7 @@ fn judge_end(state: State, passed: u64, maximum: u32) -> JudgedText
     }
 }
 
-// Judges a text line by line.
+// Judges a text, one line a turn to its end.
 pub fn judge(text: &[u8]) -> JudgedText
     ensures { λ r. ⌜ r ≡ judged (now (text .entry)) ⌝ }
 {

@@ -27,7 +27,8 @@ pub enum NextWeigh {
     Clash,
 }
 
-// The lines so far: keyword lines; a section with `passed` of the n nodes, or with `left` weights to come; or all, with EOF.
+// The lines so far: keyword lines; a section with `passed` of the n nodes, or with `left` weights to come; or all, with
+// EOF.
 pub enum State {
     Specification {
         name: bool,

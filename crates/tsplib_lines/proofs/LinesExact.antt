@@ -1,4 +1,5 @@
--- A line's bytes are read exactly as the language says: what is computed stands there, and what stands there is computed. Assumes nothing.
+-- A line's bytes are read exactly as the language says: what is computed stands there, and what stands there is
+-- computed. Assumes nothing.
 use Prim.Native.Nat.{ℕ}
 use mathlib.Core.Path.{_≡_, refl, sym, _∙_, ap, ap₂, subst}
 use mathlib.Core.Bool.{Bool, true, false}

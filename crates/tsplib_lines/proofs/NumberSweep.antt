@@ -1,4 +1,5 @@
--- Numbers swept byte by byte: the tally of what is passed and the numbers that are left are the tally of all. Assumes nothing.
+-- Numbers swept byte by byte: the tally of what is passed and the numbers that are left are the tally of all. Assumes
+-- nothing.
 use Prim.Native.Nat.{ℕ, suc, _+_, _-_, _*_, _≤_, _<_, max}
 use mathlib.Core.Path.{_≡_, refl, sym, _∙_, ap, ap₂}
 use mathlib.Core.Bool.{Bool, true, false, cond}

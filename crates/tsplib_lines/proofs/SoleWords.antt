@@ -1,4 +1,5 @@
--- Words among blanks: blanks skipped, a byte looked for, and a word compared, one byte after the other. Assumes nothing.
+-- Words among blanks: blanks skipped, a byte looked for, and a word compared, one byte after the other. Assumes
+-- nothing.
 use Prim.Native.Nat.{ℕ, suc, _+_, _-_, _≤_, _<_}
 use mathlib.Core.Path.{_≡_, refl, sym, _∙_, ap}
 use mathlib.Core.Bool.{Bool, true, false, _&&_}

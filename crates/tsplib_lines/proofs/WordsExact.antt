@@ -1,4 +1,5 @@
--- A word by itself is found exactly where it stands by itself; the words of the language exclude each other. Assumes nothing.
+-- A word by itself is found exactly where it stands by itself; the words of the language exclude each other. Assumes
+-- nothing.
 use Prim.Native.Nat.{ℕ, zero, suc}
 use mathlib.Core.Path.{_≡_, refl, _∙_, ap}
 use mathlib.Core.Bool.{Bool, true, false}

@@ -38,7 +38,8 @@ pub data NumberText : List ℕ → List ℕ → Type 0 where
   last : {d : List ℕ} {n : ℕ} → Number d n → (k : ℕ) → NumberText (d ++ blanks k) (n ∷ [])
   more : {d t xs : List ℕ} {n : ℕ} → Number d n → NumberText t xs → NumberText (d ++ blank ∷ t) (n ∷ xs)
 
--- the numbers of a text byte by byte, from between two numbers or from within one, with its value so far; none where the text is no numbers
+-- the numbers of a text byte by byte, from between two numbers or from within one, with its value so far; none where
+-- the text is no numbers
 abbrev pub withNumber : ℕ → Option (List ℕ) → Option (List ℕ)
 withNumber n none = none
 withNumber n (some xs) = some (n ∷ xs)

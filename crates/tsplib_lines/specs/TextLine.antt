@@ -33,7 +33,8 @@ pub data Names : List ℕ → Weighing → Type 0 where
   man2d : Names man2dWord (weighing.Rule 4)
   max2d : Names max2dWord (weighing.Rule 5)
 
--- what a line's bytes are: "A keyword line is keyword, colon, value, with blanks between at will"; "Section names and EOF stand by themselves"
+-- what a line's bytes are: "A keyword line is keyword, colon, value, with blanks between at will"; "Section names and
+-- EOF stand by themselves"
 pub data Reads : List ℕ → TextLine → Type 0 where
   name : {k : List ℕ} → Sole nameWord k → (v : List ℕ) → Reads (k ++ colon ∷ v) name-line
   comment : {k : List ℕ} → Sole commentWord k → (v : List ℕ) → Reads (k ++ colon ∷ v) comment-line

@@ -139,7 +139,7 @@ fn end(place: Partial, tally: Tally) -> Tally
     }
 }
 
-// The numbers that a text is.
+// The numbers that a text is, one byte a turn to its end.
 pub fn numbers_of(text: &[u8]) -> Numbers
     ensures { λ r. ⌜ r ≡ talliedOf noTally (numbersIn (now (text .entry))) ⌝ }
 {

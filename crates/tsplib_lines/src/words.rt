@@ -11,7 +11,7 @@ pub const COLON: u8 = b':';
 
 pub const NEWLINE: u8 = b'\n';
 
-// The place behind the blanks that stand at a place.
+// The place behind the blanks that stand at a place: ends with the text.
 fn after_blanks(text: &[u8], at: usize) -> usize
     requires { ⌜ at ≤ length (now text) ⌝ }
     ensures { λ r. ⌜ Skipped (now (text .entry)) at r ⌝ }
@@ -26,7 +26,7 @@ fn after_blanks(text: &[u8], at: usize) -> usize
     i
 }
 
-// The first place of a byte from a place on, or the text's end.
+// The first place of a byte from a place on, or the text's end, where the search ends.
 pub fn find(text: &[u8], at: usize, byte: u8) -> usize
     requires { ⌜ at ≤ length (now text) ⌝ }
     ensures { λ r. ⌜ FoundByte (now (text .entry)) at byte r ⌝ }
@@ -41,7 +41,7 @@ pub fn find(text: &[u8], at: usize, byte: u8) -> usize
     i
 }
 
-// Is the text the word by itself, with blanks around it at will?
+// Is the text the word by itself, with blanks around it at will? Ends with the word.
 pub fn is_sole(text: &[u8], word: &[u8]) -> bool
     ensures { λ r. ⌜ r ≡ isSole (now (word .entry)) (now (text .entry)) ⌝ }
 {

@@ -1,5 +1,4 @@
 -- `tsplib::state::on_nodes` meets its contract. Assumes nothing.
-use mathlib.Core.Path.{refl}
 use Rattle.tsplib.proofs.Stepping.{at, end-yes, end-no}
 use Rattle.tsplib.specs.State.{onNodes}
 use borrow.Author.Tests.{eq-eqb, ne-eqb}
@@ -19,12 +18,9 @@ returns-3 : tie.Need-returns-3
 unfolding onNodes
 returns-3 c = at (onNodes _ _ _) (c .before .enum-told .given .1) (end-no _ (ne-eqb _ _ (c .if1 .left)))
 
-returns-4 : tie.Need-returns-4
-unfolding onNodes
-returns-4 c = at (onNodes _ _ _) (c .enum-told2 .given .1) refl
-
 pub on-nodes-spec : {M : Type 1} → statement M
+unfolding onNodes
 on-nodes-spec =
     tie.close
     (tie.spec (λ c. search needs) (λ c κs. search needs) (λ c. search needs) returns (λ c. search needs) returns-2
-    returns-3 returns-4)
+    returns-3 (λ c. cc))

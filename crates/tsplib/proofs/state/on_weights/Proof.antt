@@ -1,5 +1,4 @@
 -- `tsplib::state::on_weights` meets its contract. Assumes nothing.
-use mathlib.Core.Path.{refl}
 use Rattle.tsplib.proofs.Stepping.{at, end-yes, end-no}
 use Rattle.tsplib.specs.State.{onWeights}
 use borrow.Author.Tests.{eq-eqb, ne-eqb, le-leb, lt-leb}
@@ -23,12 +22,9 @@ returns-4 : tie.Need-returns-4
 unfolding onWeights
 returns-4 c = at (onWeights _ _) (c .before .enum-told .given .1) (end-no _ (ne-eqb _ _ (c .if2 .left)))
 
-returns-5 : tie.Need-returns-5
-unfolding onWeights
-returns-5 c = at (onWeights _ _) (c .enum-told2 .given .1) refl
-
 pub on-weights-spec : {M : Type 1} → statement M
+unfolding onWeights
 on-weights-spec =
     tie.close
     (tie.spec (λ c. search needs) returns (λ c. search needs) returns-2 (λ c. search needs) returns-3 returns-4
-    returns-5)
+    (λ c. cc))

@@ -7,14 +7,6 @@ use borrow.Author.Needs.{needs}
 use Rattle.tsplib_lines.proofs.text_line.valued_line.Statement.{statement}
 use Rattle.tsplib_lines.proofs.text_line.valued_line.Tie as tie
 
-returns : tie.Need-returns
-unfolding valued toldOf
-returns c = valued-as _ (c .enum-told .given .1) refl
-
-returns-2 : tie.Need-returns-2
-unfolding valued toldOf
-returns-2 c = valued-as _ (c .enum-told2 .given .1) refl
-
 returns-3 : tie.Need-returns-3
 unfolding valued toldOf
 returns-3 c = valued-as _ (c .before .before .enum-told3 .given .1) (only-told tspWord _ type-line refl (c .only .ensures))
@@ -31,14 +23,11 @@ returns-6 : tie.Need-returns-6
 unfolding valued toldOf
 returns-6 c = valued-as _ (c .before .before .enum-told6 .given .1) (only-told upperRowWord _ format-line refl (c .only2 .ensures))
 
-returns-7 : tie.Need-returns-7
-unfolding valued toldOf
-returns-7 c = valued-as _ (c .enum-told7 .given .1) refl
-
 pub valued-line-spec : {M : Type 1} → statement M
+unfolding valued toldOf
 valued-line-spec =
     tie.close
     (tie.spec (λ c. search needs) (λ c. search needs) (λ c. search needs) (λ c. search needs) (λ c κs. search needs)
     (λ c. search needs) (λ c κs. search needs) (λ c. search needs) (λ c κs. search needs) (λ c. search needs)
-    (λ c. search needs) (λ c κs. search needs) (λ c. search needs) returns returns-2 returns-3 returns-4 returns-5
-    returns-6 returns-7)
+    (λ c. search needs) (λ c κs. search needs) (λ c. search needs) (λ c. cc) (λ c. cc) returns-3 returns-4 returns-5
+    returns-6 (λ c. cc))
