@@ -1,6 +1,6 @@
-// The arguments of a line, and the buffers that it should leave. Numbers stand by their places among the arguments. Four
-// buffers share a memory, and stay from line to line; each has its size, how many of its bytes are lent, and how many
-// should be left.
+// The arguments of a line, and the buffers that it should leave. Numbers stand by their places among the arguments.
+// Four buffers share a memory, and stay from line to line; each has its size, how many of its bytes are lent, and how
+// many should be left.
 use crate::digits::Number;
 use crate::digits::byte;
 use crate::digits::past;

@@ -2,7 +2,8 @@
 use Prim.Native.Nat.{ℕ}
 use mathlib.Core.List.{List, [], _∷_, _++_}
 use lib.ListN.{drop}
-use Rattle.tsplib_lines.specs.TextLine.{TextLine, name-line, comment-line, type-line, format-line, node-section, weight-section, eof-line, other-line, dimension-line, weighing-line, number-line}
+use Rattle.tsplib_lines.specs.TextLine.{TextLine, name-line, comment-line, type-line, format-line, node-section, weight-section}
+use Rattle.tsplib_lines.specs.TextLine.{eof-line, other-line, dimension-line, weighing-line, number-line}
 
 unfoldable pub numbersOf : TextLine → List ℕ
 numbersOf name-line = []

@@ -6,7 +6,8 @@ use mathlib.Core.List.{List, [], _∷_, _++_}
 use lib.ListN.{length}
 use Rattle.lengths.specs.Edge.{edgeCount}
 use Rattle.tsplib_lines.specs.Words.{newline, free}
-use Rattle.tsplib_lines.specs.TextLine.{TextLine, name-line, comment-line, type-line, format-line, node-section, weight-section, eof-line, other-line, dimension-line, weighing-line, number-line, Reads}
+use Rattle.tsplib_lines.specs.TextLine.{TextLine, name-line, comment-line, type-line, format-line, node-section, weight-section}
+use Rattle.tsplib_lines.specs.TextLine.{eof-line, other-line, dimension-line, weighing-line, number-line, Reads}
 use Rattle.tsplib_lines.specs.declared.text_line.Weighing.{Weighing}
 use Rattle.tsplib_lines.specs.declared.text_line.Weighing.the-variants.{Explicit, Rule}
 

@@ -4,7 +4,8 @@ use tsplib_lines::text_line::TalliedLine;
 use tsplib_lines::text_line::Weighing;
 ghost use mathlib.Core.Path.{_≡_};
 ghost use Rattle.lengths.specs.Edge.{edgeCount};
-ghost use Rattle.tsplib.specs.State.{stepOf, onSpecification, onName, onType, onDimension, weighedAs, onNode, bodyOf, onNodes, onWeights, weighNext, rowNext, openNodes, openWeights};
+ghost use Rattle.tsplib.specs.State.{stepOf, onSpecification, onName, onType, onDimension, weighedAs, onNode, bodyOf};
+ghost use Rattle.tsplib.specs.State.{onNodes, onWeights, weighNext, rowNext, openNodes, openWeights};
 
 // What DIMENSION said.
 pub enum Points {

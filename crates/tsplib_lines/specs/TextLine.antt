@@ -4,7 +4,9 @@ use mathlib.Core.Bool.{Bool, true, false}
 use mathlib.Core.List.{List, [], _∷_, _++_}
 use mathlib.Core.Option.{Option, none, some}
 use lib.Dec.{eqb}
-use Rattle.tsplib_lines.specs.Words.{colon, Sole, isSole, nameWord, commentWord, typeWord, tspWord, dimensionWord, weightTypeWord, euc2dWord, ceil2dWord, attWord, man2dWord, max2dWord, explicitWord, formatWord, upperRowWord, nodeSectionWord, weightSectionWord, eofWord}
+use Rattle.tsplib_lines.specs.Words.{colon, Sole, isSole, nameWord, commentWord, typeWord, tspWord, dimensionWord}
+use Rattle.tsplib_lines.specs.Words.{weightTypeWord, euc2dWord, ceil2dWord, attWord, man2dWord, max2dWord, explicitWord}
+use Rattle.tsplib_lines.specs.Words.{formatWord, upperRowWord, nodeSectionWord, weightSectionWord, eofWord}
 use Rattle.tsplib_lines.specs.Numbers.{NumberText, numbersIn, noTally, talliedOf}
 use Rattle.tsplib_lines.specs.declared.numbers.Numbers.{Numbers}
 use Rattle.tsplib_lines.specs.declared.numbers.Numbers.the-variants.{Some, Nothing}

@@ -6,7 +6,8 @@ use crate::words;
 use crate::words::find;
 use crate::words::is_sole;
 ghost use mathlib.Core.Path.{_≡_};
-ghost use Rattle.tsplib_lines.specs.TextLine.{keywordOf, weighingOf, sectionOf, dimensionOf, valued, partsLine, atColon, lineOf, toldOf, weighingLine, onlyAs};
+ghost use Rattle.tsplib_lines.specs.TextLine.{keywordOf, weighingOf, sectionOf, dimensionOf, valued, partsLine, atColon};
+ghost use Rattle.tsplib_lines.specs.TextLine.{lineOf, toldOf, weighingLine, onlyAs};
 ghost use Rattle.tsplib_lines.specs.Numbers.{numbersIn};
 
 // How edges are weighed: by the lengths that the text gives, or by a rule of *measure*.

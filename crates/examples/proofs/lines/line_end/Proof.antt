@@ -1,4 +1,5 @@
--- `examples::lines::line_end` meets its contract: the place stays within the input. What is left of it becomes less. Assumes nothing.
+-- `examples::lines::line_end` meets its contract: the place stays within the input. What is left of it becomes less.
+-- Assumes nothing.
 use Prim.Native.Nat.{_≤_, _-_}
 use borrow.Author.Needs.{needs}
 use lib.ListN.{length}
