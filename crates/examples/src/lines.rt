@@ -173,32 +173,72 @@ fn give(memory: &mut [u8], to: usize, from: &[u8; 65536]) {
     }
 }
 
-// Calls a function with what is lent of the buffers.
-fn called(number: usize, numbers: &[u64; 16], sizes: &[usize; 12], memory: &mut [u8]) -> Answer {
-    let mut table = [0u8; 65536];
-    let mut marks = [0u8; 65536];
-    let mut sheet = [0u8; 65536];
+// Calls a function with these three and what is lent of the fourth buffer.
+fn with_text(
+    number: usize,
+    numbers: &[u64; 16],
+    sizes: &[usize; 12],
+    memory: &mut [u8],
+    table: &mut [u8],
+    marks: &mut [u8],
+    sheet: &mut [u8],
+) -> Answer {
     let mut text = [0u8; 65536];
-    take(memory, 0, &mut table);
-    take(memory, PART, &mut marks);
-    take(memory, 2 * PART, &mut sheet);
     take(memory, 3 * PART, &mut text);
-    let t = lent(sizes[4], &table);
-    let m = lent(sizes[5], &marks);
-    let s = lent(sizes[6], &sheet);
     let x = lent(sizes[7], &text);
-    let answer = call(
+    let answer = call(number, numbers, table, marks, sheet, &mut text[..x]);
+    give(memory, 3 * PART, &text);
+    answer
+}
+
+// The same with these two and the other two.
+fn with_sheet(
+    number: usize,
+    numbers: &[u64; 16],
+    sizes: &[usize; 12],
+    memory: &mut [u8],
+    table: &mut [u8],
+    marks: &mut [u8],
+) -> Answer {
+    let mut sheet = [0u8; 65536];
+    take(memory, 2 * PART, &mut sheet);
+    let s = lent(sizes[6], &sheet);
+    let answer = with_text(
         number,
         numbers,
-        &mut table[..t],
-        &mut marks[..m],
+        sizes,
+        memory,
+        table,
+        marks,
         &mut sheet[..s],
-        &mut text[..x],
     );
-    give(memory, 0, &table);
-    give(memory, PART, &marks);
     give(memory, 2 * PART, &sheet);
-    give(memory, 3 * PART, &text);
+    answer
+}
+
+// The same with this one and the other three.
+fn with_marks(
+    number: usize,
+    numbers: &[u64; 16],
+    sizes: &[usize; 12],
+    memory: &mut [u8],
+    table: &mut [u8],
+) -> Answer {
+    let mut marks = [0u8; 65536];
+    take(memory, PART, &mut marks);
+    let m = lent(sizes[5], &marks);
+    let answer = with_sheet(number, numbers, sizes, memory, table, &mut marks[..m]);
+    give(memory, PART, &marks);
+    answer
+}
+
+// Calls a function with what is lent of the buffers. Each is copied out of the memory and back by a function of its own.
+fn called(number: usize, numbers: &[u64; 16], sizes: &[usize; 12], memory: &mut [u8]) -> Answer {
+    let mut table = [0u8; 65536];
+    take(memory, 0, &mut table);
+    let t = lent(sizes[4], &table);
+    let answer = with_marks(number, numbers, sizes, memory, &mut table[..t]);
+    give(memory, 0, &table);
     answer
 }
 
