@@ -17,7 +17,6 @@ use Rattle.marks.proofs.FreshMarks.{fresh-set-left, fresh-byte-set}
 use Rattle.marks.proofs.PackedSets.{marks-packed}
 use Rattle.marks.proofs.Resolving.{resolved-byte-set}
 use Rattle.tours.specs.Tour.{Shortest, ThreeOptimal}
-use Rattle.argument.proofs.Safe.{run-keeps}
 use Rattle.marking.specs.MarkBetween.{markBetween}
 use Rattle.admission.specs.Tests.{readyBetween}
 use Rattle.marking.proofs.PackedSheets.{mark-byte-set, tested-byte-set}

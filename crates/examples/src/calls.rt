@@ -19,12 +19,12 @@ use revosti::pending::revosti_confirm;
 use revosti::pending::revosti_withdraw;
 use revosti::reading::revosti_read_tsplib;
 use revosti::reading::revosti_tsplib_points;
+use revosti::receipt::revosti_candidate_view;
+use revosti::receipt::revosti_examiner_view;
+use revosti::receipt::revosti_release;
 use revosti::saved::revosti_crossing_saving;
 use revosti::saved::revosti_exchange_saving;
 use revosti::saved::revosti_move_saving;
-use revosti::slip::revosti_candidate_view;
-use revosti::slip::revosti_examiner_view;
-use revosti::slip::revosti_release;
 use revosti::tell::revosti_tell_line;
 use revosti::tour::revosti_check_tour;
 
@@ -110,7 +110,7 @@ fn of_pairs(
 }
 
 // Slips and pages, 15 to 19.
-fn of_slips(
+fn of_receipts(
     number: usize,
     x: &[u64; 16],
     table: &mut [u8],
@@ -174,7 +174,7 @@ pub fn call(
         0..=7 => Answer::Number(of_boards(number, x, table, marks, sheet, text)),
         8..=11 => Answer::Number(of_sheets(number, word(x[0]), table, marks, sheet, text)),
         12..=14 => Answer::Number(of_pairs(number, x, table, marks, sheet, text)),
-        15..=19 => Answer::Number(of_slips(number, x, table, marks, sheet, text)),
+        15..=19 => Answer::Number(of_receipts(number, x, table, marks, sheet, text)),
         20..=23 => Answer::Number(of_desks(number, x, table, marks, sheet, text)),
         _ => Answer::Saving(of_savings(number, x, table)),
     }
