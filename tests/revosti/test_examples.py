@@ -7,7 +7,7 @@ from support import ROOT
 
 from examples import FUNCTIONS, STDOUT, Fault, Run, lines
 
-SIGNATURES = ROOT / "crates/examples/src/signatures.rt"
+SIGNATURES = ROOT / "crates/example_text/src/signatures.rt"
 LIST = re.compile(r'let list = b"([^"]*)"')
 BITS = {"h": 16, "w": 32, "l": 64}  # a letter of the list; the others are buffers
 

@@ -1,24 +1,22 @@
 // Each line of the examples: read, called, and held to what should come of it. The buffers stay from line to line;
 // beside them stand those that should be left.
-use crate::arguments::ANY;
-use crate::arguments::PART;
-use crate::arguments::Place;
-use crate::arguments::arguments;
-use crate::calls::Answer;
-use crate::calls::call;
-use crate::digits::Signed;
-use crate::digits::byte;
-use crate::digits::past;
-use crate::digits::read_signed;
-use crate::signatures::Function;
-use crate::signatures::find;
 use crate::tally::Tally;
 use crate::tally::Verdict;
 use check::same;
-use std::num::wrapping_add_usize;
+use example_calls::calls::Answer;
+use example_calls::lending::called;
+use example_text::arguments::ANY;
+use example_text::arguments::PART;
+use example_text::arguments::Place;
+use example_text::arguments::arguments;
+use example_text::digits::Signed;
+use example_text::digits::byte;
+use example_text::digits::past;
+use example_text::digits::read_signed;
+use example_text::signatures::Function;
+use example_text::signatures::find;
 ghost use Prim.Native.Nat.{_≤_, _<_, _^_};
 ghost use lib.ListN.{length};
-ghost use Rattle.io.specs.Counts.{Counts};
 
 // Above every saving's answer.
 const SAVINGS: u64 = 1_099_511_627_776;
@@ -31,16 +29,6 @@ enum Reading {
         size: u64,
     },
     Fault(Verdict),
-}
-
-// How many bytes are lent where so many are asked for.
-fn lent(x: usize, s: &[u8]) -> usize
-    ensures { λ r. ⌜ Counts r (now (s .entry)) ⌝ }
-{
-    if s.len() < x {
-        return s.len();
-    }
-    x
 }
 
 // Copies bytes. What is left to copy becomes less.
@@ -146,100 +134,6 @@ fn read(
         };
     }
     Reading::Fault(Verdict::NoBuffers)
-}
-
-// Copies a buffer out of its part of the memory. What is left to copy becomes less.
-fn take(memory: &[u8], from: usize, to: &mut [u8]) {
-    let mut i = 0;
-    while i < to.len() {
-        to[i] = byte(memory, wrapping_add_usize(from, i));
-        i += 1;
-    }
-}
-
-// Writes a byte.
-fn put(memory: &mut [u8], at: usize, x: u8) {
-    if at < memory.len() {
-        memory[at] = x;
-    }
-}
-
-// Copies a buffer back. What is left to copy becomes less.
-fn give(memory: &mut [u8], to: usize, from: &[u8; 65536]) {
-    let mut i = 0;
-    while i < PART {
-        put(memory, wrapping_add_usize(to, i), from[i]);
-        i += 1;
-    }
-}
-
-// Calls a function with these three and what is lent of the fourth buffer.
-fn with_text(
-    number: usize,
-    numbers: &[u64; 16],
-    sizes: &[usize; 12],
-    memory: &mut [u8],
-    table: &mut [u8],
-    marks: &mut [u8],
-    sheet: &mut [u8],
-) -> Answer {
-    let mut text = [0u8; 65536];
-    take(memory, 3 * PART, &mut text);
-    let x = lent(sizes[7], &text);
-    let answer = call(number, numbers, table, marks, sheet, &mut text[..x]);
-    give(memory, 3 * PART, &text);
-    answer
-}
-
-// The same with these two and the other two.
-fn with_sheet(
-    number: usize,
-    numbers: &[u64; 16],
-    sizes: &[usize; 12],
-    memory: &mut [u8],
-    table: &mut [u8],
-    marks: &mut [u8],
-) -> Answer {
-    let mut sheet = [0u8; 65536];
-    take(memory, 2 * PART, &mut sheet);
-    let s = lent(sizes[6], &sheet);
-    let answer = with_text(
-        number,
-        numbers,
-        sizes,
-        memory,
-        table,
-        marks,
-        &mut sheet[..s],
-    );
-    give(memory, 2 * PART, &sheet);
-    answer
-}
-
-// The same with this one and the other three.
-fn with_marks(
-    number: usize,
-    numbers: &[u64; 16],
-    sizes: &[usize; 12],
-    memory: &mut [u8],
-    table: &mut [u8],
-) -> Answer {
-    let mut marks = [0u8; 65536];
-    take(memory, PART, &mut marks);
-    let m = lent(sizes[5], &marks);
-    let answer = with_sheet(number, numbers, sizes, memory, table, &mut marks[..m]);
-    give(memory, PART, &marks);
-    answer
-}
-
-// Calls a function with what is lent of the buffers. Each is copied out of the memory and back by a function of its own.
-fn called(number: usize, numbers: &[u64; 16], sizes: &[usize; 12], memory: &mut [u8]) -> Answer {
-    let mut table = [0u8; 65536];
-    take(memory, 0, &mut table);
-    let t = lent(sizes[4], &table);
-    let answer = with_marks(number, numbers, sizes, memory, &mut table[..t]);
-    give(memory, 0, &table);
-    answer
 }
 
 // Holds what came of a call to what should come.

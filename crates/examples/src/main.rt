@@ -2,13 +2,8 @@
 // program's input is a call with the answer and the buffers that should come of it, and the file itself, `stdin`, says
 // how a line is written. A line that cannot be read and a line that comes out otherwise are told with their number; the
 // last line of the output counts them.
-mod arguments;
-mod calls;
-mod digits;
 mod lines;
-mod signatures;
 mod tally;
-mod values;
 
 use lines::run;
 

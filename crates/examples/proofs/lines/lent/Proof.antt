@@ -1,8 +1,0 @@
--- `examples::lines::lent` meets its contract: the count is at most the length. Assumes nothing.
-use native.Mathlib.Omega.{arith}
-use Rattle.io.proofs.Counting.{counts}
-use Rattle.examples.proofs.lines.lent.Statement.{statement}
-use Rattle.examples.proofs.lines.lent.Tie as tie
-
-pub lent-spec : {M : Type 1} → statement M
-lent-spec = tie.close (tie.spec (λ c. counts _ _ (omega arith)) (λ c. counts _ _ (omega arith)))
