@@ -18,7 +18,7 @@ use Rattle.marks.specs.Mark.{areMarks, nonePending}
 use Rattle.marks.specs.Packed.{wellPacked, marksOf}
 use Rattle.marks.proofs.PackedSets.{whole-well, some-edges}
 use Rattle.admission.specs.Tested.{firstFailing, markTests, pendingTests}
-use Rattle.admission.specs.Tests.{placeTests, tableTests, limitTests, testedTable, placesTested, tested, ready, testedIntervals, testedBetween, readyBetween, untilMarks}
+use Rattle.admission.specs.Tests.{placeTests, tableTests, intervalTests, testedTable, placesTested, tested, ready, testedIntervals, testedBetween, readyBetween, untilMarks}
 use Rattle.admission.specs.asks.Tests.{Listable}
 use Rattle.admission.specs.declared.tested.Tested.{Tested}
 use Rattle.admission.specs.declared.tested.Tested.the-variants.{Points}
@@ -101,7 +101,7 @@ pub record IntervalsPassed (n : ℕ) (low high : List ℕ) (m : ℕ) : Type 0 wh
 pub passed-intervals : {n : ℕ} {low high : List ℕ} {m : ℕ} → testedIntervals n low high ≡ Points m → IntervalsPassed n low high m
 unfolding testedIntervals
 passed-intervals {n} {low} {high} h =
-    let p = all-passed n (limitTests n low high) h in
+    let p = all-passed n (intervalTests n low high) h in
     let a = admits-same (p .1 .0) (p .0) in
     let sizes = p .1 .1 in
     let lengths = sizes .1 .1 in

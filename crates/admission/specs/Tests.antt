@@ -33,8 +33,8 @@ abbrev pub tableTests : (n : ℕ) (table : List ℕ) → List Test
 tableTests n table = placeTests n (length table) ++ lengthTests table n
 
 -- 1, 2, 5 and 25
-abbrev pub limitTests : (n : ℕ) (low high : List ℕ) → List Test
-limitTests n low high =
+abbrev pub intervalTests : (n : ℕ) (low high : List ℕ) → List Test
+intervalTests n low high =
     placeTests n (length low) ++ sizeTests (length high) n ++ lengthTests low n ++ lengthTests high n ++ orderTests low high n
 
 -- of a table
@@ -55,7 +55,7 @@ ready n table marks = untilPending (tested n table marks) marks
 
 -- the same over two tables, low and high
 unfoldable pub testedIntervals : (n : ℕ) (low high : List ℕ) → Tested
-testedIntervals n low high = firstFailing n (limitTests n low high)
+testedIntervals n low high = firstFailing n (intervalTests n low high)
 
 unfoldable pub testedBetween : (n : ℕ) (low high marks : List ℕ) → Tested
 testedBetween n low high marks = untilMarks (testedIntervals n low high) marks

@@ -4,7 +4,7 @@ use Prim.Native.Nat.{ℕ}
 use mathlib.Core.Path.{_≡_}
 use mathlib.Core.List.{List}
 use Rattle.admission.specs.Tested.{markTests, pendingTests}
-use Rattle.admission.specs.Tests.{tableTests, limitTests, testedTable, tested, ready, testedIntervals, testedBetween, readyBetween}
+use Rattle.admission.specs.Tests.{tableTests, intervalTests, testedTable, tested, ready, testedIntervals, testedBetween, readyBetween}
 use Rattle.admission.specs.declared.tested.Tested.the-variants.{Refused}
 use Rattle.admission.proofs.Deciding.{refused-number, until-number}
 
@@ -24,6 +24,6 @@ module _ (P : ℕ → Type 0) (one : P 1) (two : P 2) (five : P 5) (six : P 6) w
     between-number order n low high marks k =
         until-number P (testedBetween n low high marks) (pendingTests marks)
         (λ j. until-number P (testedIntervals n low high) (markTests marks)
-        (λ i. refused-number P n (limitTests n low high) (one, (two, (two, (five, (five, (order, tt)))))))
+        (λ i. refused-number P n (intervalTests n low high) (one, (two, (two, (five, (five, (order, tt)))))))
         (λ m. (six, (six, tt))))
         (λ m. (twenty, tt))

@@ -18,13 +18,13 @@ pub const PART: usize = 65_536;
 pub const ANY: usize = 65_537;
 
 // Where the line goes on.
-pub enum Place {
+pub enum Onward {
     At(usize),
     None,
 }
 
 // Where the line and the list go on.
-enum Step {
+enum Advance {
     On { at: usize, of: usize },
     None,
 }
@@ -67,17 +67,17 @@ fn keep_size(sizes: &mut [usize; 12], place: usize, size: usize) {
 }
 
 // How many bytes of a buffer are lent.
-fn lend(line: &[u8], at: usize, slot: usize, sizes: &mut [usize; 12]) -> Place {
+fn lend(line: &[u8], at: usize, slot: usize, sizes: &mut [usize; 12]) -> Onward {
     if 3 < slot {
-        return Place::None;
+        return Onward::None;
     }
     let size = sizes[slot];
     let Number::Read { value, next } = lending(line, at, size) else {
-        return Place::None;
+        return Onward::None;
     };
     sizes[slot + 4] = value as usize;
     sizes[slot + 8] = size;
-    Place::At(next)
+    Onward::At(next)
 }
 
 // A buffer that is lent: @ is the one that the line before left.
@@ -88,12 +88,12 @@ fn given(
     slot: usize,
     sizes: &mut [usize; 12],
     out: &mut [u8],
-) -> Place {
+) -> Onward {
     if byte(line, at) == b'@' {
         return lend(line, past(at), slot, sizes);
     }
     let Filled::To { size, next } = items(line, at, width, out) else {
-        return Place::None;
+        return Onward::None;
     };
     keep_size(sizes, slot, size);
     lend(line, next, slot, sizes)
@@ -107,16 +107,16 @@ fn expected(
     place: usize,
     sizes: &mut [usize; 12],
     out: &mut [u8],
-) -> Place {
+) -> Onward {
     if byte(line, at) == b'?' {
         keep_size(sizes, place, ANY);
-        return Place::At(past(at));
+        return Onward::At(past(at));
     }
     let Filled::To { size, next } = items(line, at, width, out) else {
-        return Place::None;
+        return Onward::None;
     };
     keep_size(sizes, place, size);
-    Place::At(next)
+    Onward::At(next)
 }
 
 // Reads a buffer into its part of the memory.
@@ -127,15 +127,15 @@ fn buffer(
     should: bool,
     sizes: &mut [usize; 12],
     memory: &mut [u8],
-) -> Place {
+) -> Onward {
     let slot = slot_of(kind);
     if 3 < slot {
-        return Place::None;
+        return Onward::None;
     }
     let from = slot * PART;
     let to = from + PART;
     if memory.len() < to {
-        return Place::None;
+        return Onward::None;
     }
     if should {
         return expected(
@@ -151,14 +151,14 @@ fn buffer(
 }
 
 // Reads a number, and keeps it by its place among the arguments.
-fn figure(line: &[u8], at: usize, most: u64, place: usize, numbers: &mut [u64; 16]) -> Place {
+fn figure(line: &[u8], at: usize, most: u64, place: usize, numbers: &mut [u64; 16]) -> Onward {
     let Number::Read { value, next } = read_number(line, at, most) else {
-        return Place::None;
+        return Onward::None;
     };
     if place < 16 {
         numbers[place] = value;
     }
-    Place::At(next)
+    Onward::At(next)
 }
 
 // Reads an argument of a kind. What should be left is no number.
@@ -171,13 +171,13 @@ fn argument(
     numbers: &mut [u64; 16],
     sizes: &mut [usize; 12],
     memory: &mut [u8],
-) -> Place {
+) -> Onward {
     let most = largest(kind);
     if most == 0 {
         return buffer(kind, line, at, should, sizes, memory);
     }
     if should {
-        return Place::None;
+        return Onward::None;
     }
     figure(line, at, most, place, numbers)
 }
@@ -193,7 +193,7 @@ fn stepped(
     numbers: &mut [u64; 16],
     sizes: &mut [usize; 12],
     memory: &mut [u8],
-) -> Step {
+) -> Advance {
     let name = argument_name(line, at, of);
     let behind = past(name.of);
     if name.same {
@@ -207,17 +207,17 @@ fn stepped(
             sizes,
             memory,
         ) {
-            Place::At(next) => Step::On {
+            Onward::At(next) => Advance::On {
                 at: next,
                 of: behind,
             },
-            Place::None => Step::None,
+            Onward::None => Advance::None,
         };
     }
     if should {
-        return Step::On { at: at, of: behind };
+        return Advance::On { at: at, of: behind };
     }
-    Step::None
+    Advance::None
 }
 
 // Reads the arguments that the list has from a place on. A function takes less than sixteen.
@@ -229,24 +229,24 @@ pub fn arguments(
     numbers: &mut [u64; 16],
     sizes: &mut [usize; 12],
     memory: &mut [u8],
-) -> Place {
+) -> Onward {
     let mut at = start;
     let mut of = from;
     let mut place = 0;
     while place < 16 {
         if listed(of) == b'\n' {
-            return Place::At(at);
+            return Onward::At(at);
         }
-        let Step::On {
+        let Advance::On {
             at: next,
             of: behind,
         } = stepped(line, at, of, should, place, numbers, sizes, memory)
         else {
-            return Place::None;
+            return Onward::None;
         };
         at = next;
         of = behind;
         place += 1;
     }
-    Place::None
+    Onward::None
 }

@@ -6,8 +6,8 @@ use check::same;
 use example_calls::calls::Answer;
 use example_calls::lending::called;
 use example_text::arguments::ANY;
+use example_text::arguments::Onward;
 use example_text::arguments::PART;
-use example_text::arguments::Place;
 use example_text::arguments::arguments;
 use example_text::digits::Signed;
 use example_text::digits::byte;
@@ -83,7 +83,7 @@ fn is_answer(got: Answer, negative: bool, size: u64) -> bool {
 }
 
 // The place behind the arrow at a place.
-fn behind_arrow(line: &[u8], at: usize) -> Place {
+fn behind_arrow(line: &[u8], at: usize) -> Onward {
     let dash = past(at);
     let head = past(dash);
     let blank = past(head);
@@ -92,9 +92,9 @@ fn behind_arrow(line: &[u8], at: usize) -> Place {
         && byte(line, head) == b'>'
         && byte(line, blank) == b' '
     {
-        return Place::At(past(blank));
+        return Onward::At(past(blank));
     }
-    Place::None
+    Onward::None
 }
 
 // Reads a line. A buffer that is not named behind the answer should be as it is.
@@ -108,10 +108,10 @@ fn read(
     let Function::Is { number, of, at } = find(line) else {
         return Reading::Fault(Verdict::NoFunction);
     };
-    let Place::At(end) = arguments(line, at, of, false, numbers, sizes, memory) else {
+    let Onward::At(end) = arguments(line, at, of, false, numbers, sizes, memory) else {
         return Reading::Fault(Verdict::NoArguments);
     };
-    let Place::At(from) = behind_arrow(line, end) else {
+    let Onward::At(from) = behind_arrow(line, end) else {
         return Reading::Fault(Verdict::NoArguments);
     };
     let Signed::Read {
@@ -123,7 +123,7 @@ fn read(
         return Reading::Fault(Verdict::NoAnswer);
     };
     keep(memory, left);
-    let Place::At(last) = arguments(line, next, of, true, numbers, sizes, left) else {
+    let Onward::At(last) = arguments(line, next, of, true, numbers, sizes, left) else {
         return Reading::Fault(Verdict::NoBuffers);
     };
     if last == line.len() {

@@ -1,4 +1,4 @@
--- `or_opt::degree_two::meet` meets its contract: each way out has its lemma in `SettledLegs`. Assumes nothing.
+-- `or_opt::degree_two::meet` meets its contract: each way out has its lemma in `PointLegs`. Assumes nothing.
 use Rattle.or_opt.proofs.PointLegs.{met-apart, met-same, met-centre, move-asks, met-moved}
 use Rattle.or_opt.proofs.degree_two.meet.Statement.{statement}
 use Rattle.or_opt.proofs.degree_two.meet.Tie as tie
