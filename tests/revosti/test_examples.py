@@ -3,9 +3,9 @@
 import re
 import unittest
 
-from support import ROOT
+from tests.support import ROOT
 
-from examples import FUNCTIONS, STDOUT, Fault, Run, lines
+from tests.support.examples import FUNCTIONS, STDOUT, Fault, Run, lines
 
 SIGNATURES = ROOT / "crates/example_text/src/signatures.rt"
 LIST = re.compile(r'let list = b"([^"]*)"')

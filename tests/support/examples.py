@@ -5,7 +5,7 @@ import ctypes
 import re
 from typing import NamedTuple
 
-from support import ROOT
+from tests.support import ROOT
 
 from revosti.library import library
 
