@@ -1,1 +1,2 @@
 // Case arguments: definitions and theorems, no code.
+#![tactic(auto)]

@@ -1,3 +1,5 @@
 // The closings of a case.
+#![tactic(auto)]
+
 pub mod closing;
 pub mod saving;

@@ -1,2 +1,4 @@
 // All feasible pairs of one edge at a split point.
+#![tactic(auto)]
+
 pub mod find;

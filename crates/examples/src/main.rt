@@ -2,6 +2,8 @@
 // program's input is a call with the answer and the buffers that should come of it, and the file itself, `stdin`, says
 // how a line is written. A line that cannot be read and a line that comes out otherwise are told with their number; the
 // last line of the output counts them.
+#![tactic(auto)]
+
 mod lines;
 mod tally;
 

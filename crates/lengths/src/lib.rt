@@ -1,4 +1,6 @@
 // The first layer: the order of edges, TSPLIB's distances, and tables of lengths.
+#![tactic(auto)]
+
 pub mod at_most;
 pub mod distance;
 pub mod edge;

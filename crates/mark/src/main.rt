@@ -1,4 +1,6 @@
 // The program: reads standard input whole, and prints what `report` makes of it.
+#![tactic(auto)]
+
 use libc::{STDIN_FILENO, STDOUT_FILENO};
 use report::report::{TEXT, report};
 

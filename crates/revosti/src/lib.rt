@@ -1,5 +1,7 @@
 // The functions for C, one subject to a file: each is its operation over the same bytes, with the answer as one 64-bit
 // number.
+#![tactic(auto)]
+
 pub mod between;
 pub mod converting;
 pub mod desk;

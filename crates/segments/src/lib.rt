@@ -1,3 +1,5 @@
 // Segments of K, and new orders of their points.
+#![tactic(auto)]
+
 pub mod reorder;
 pub mod segment;

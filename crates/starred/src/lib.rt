@@ -1,1 +1,2 @@
 // 01's starred examples, as one table with one theorem: definitions and a proof, no code.
+#![tactic(auto)]

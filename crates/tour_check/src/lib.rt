@@ -1,2 +1,4 @@
 // The operation "check a tour".
+#![tactic(auto)]
+
 pub mod tour;
