@@ -8,6 +8,7 @@ use crate::instance::Instance;
 
 // The rules that round a square root, under TSPLIB's names.
 #[derive(Drop)]
+#[derive(Clone, Copy)]
 pub enum Root {
     Euc2d,
     Ceil2d,
@@ -16,6 +17,7 @@ pub enum Root {
 
 // The rules of 01, under TSPLIB's names: one that rounds a root, or one that goes by the two gaps themselves.
 #[derive(Drop)]
+#[derive(Clone, Copy)]
 pub enum Rule {
     Rooted(Root),
     Man2d,
@@ -24,6 +26,7 @@ pub enum Rule {
 
 // How a root is rounded: EUC_2D to the nearest, CEIL_2D and ATT up.
 #[derive(Drop)]
+#[derive(Clone, Copy)]
 pub enum Rounding {
     Nearest,
     Up,

@@ -9,6 +9,7 @@ use sets::neighbours::{Neighbours, PathStep, neighbours_of, onward};
 
 // The inner points in their order from u to v, the first `count` of the array. A count of 0: there is no segment.
 #[derive(Drop)]
+#[derive(Clone, Copy)]
 pub struct Segment {
     pub points: [u16; EdgeSet::PLACES],
     pub count: usize,

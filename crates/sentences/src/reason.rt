@@ -2,6 +2,7 @@
 // at a first split is always closed by a further split, so the other closings have no variant here (they have their
 // sentences in `specs/`).
 #[derive(Drop)]
+#[derive(Clone, Copy)]
 pub enum Reason {
     // the pair's edge pq is not open
     Struck {

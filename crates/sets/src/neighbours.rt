@@ -7,6 +7,7 @@ use crate::edge_set::EdgeSet;
 
 // The different neighbours of a point.
 #[derive(Drop)]
+#[derive(Clone, Copy)]
 pub enum Neighbours {
     None,
     One(u16),

@@ -24,6 +24,7 @@ pub enum SheetAdmission {
 // How a case is closed: by a split at a point whose first case is the record `first`, by 3-opt, or by a
 // new order of the segment from u to v, whose first point the record `first` names (02, Paper 10: a stretch).
 #[derive(Drop)]
+#[derive(Clone, Copy)]
 pub enum Closing {
     Split { point: u16, first: u16 },
     ThreeOpt { p: u16, q: u16, r: u16, s: u16 },

@@ -7,6 +7,7 @@ use crate::words::BLANK;
 
 // How many numbers there are, the first and the largest.
 #[derive(Drop)]
+#[derive(Clone, Copy)]
 pub struct Tally {
     pub count: u64,
     pub first: u32,
@@ -15,6 +16,7 @@ pub struct Tally {
 
 // Between two numbers, or within one that is so large so far.
 #[derive(Drop)]
+#[derive(Clone, Copy)]
 pub enum Partial {
     Between,
     Within(u32),

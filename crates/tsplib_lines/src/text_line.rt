@@ -10,6 +10,7 @@ use crate::words::{find, is_sole};
 
 // How edges are weighed: by the lengths that the text gives, or by a rule of *measure*.
 #[derive(Drop)]
+#[derive(Clone, Copy)]
 pub enum Weighing {
     Explicit,
     Rule(u32),
@@ -33,6 +34,7 @@ pub enum Keyword {
 }
 
 #[derive(Drop)]
+#[derive(Clone, Copy)]
 pub enum TalliedLine {
     Name,
     Comment,
