@@ -2,7 +2,7 @@
 -- Assumes nothing.
 use Prim.Native.Nat.{ℕ, zero, suc, ◌+◌, ◌≤◌, ◌<◌}
 use mathlib.Core.Path.{◌≡◌, refl}
-use mathlib.Core.Bool.{Bool, true, false, ◌&&◌, and_true, and-false}
+use mathlib.Core.Bool.{Bool, true, false, ◌&&◌, and-true, and-false}
 use mathlib.Core.Logic.{◌⊎◌, inl, inr}
 use mathlib.Core.List.{List, [], ◌∷◌}
 use native.Mathlib.Numerals.{add-one}
@@ -36,7 +36,7 @@ module _ {limit : ℕ} {xs : List ℕ} {within : Bool} {i : ℕ} (at : AtMostLoo
   -- where no number is left, `within` is the answer
   pub at_most_done : length xs ≤ i → within ≡ all_at_most limit xs
   unfolding all_at_most
-  at_most_done h = rw (drop_of_length-le xs h, and_true) at at.same
+  at_most_done h = rw (drop_of_length-le xs h, and-true) at at.same
 
 pub at_most_start : (limit : ℕ) (xs : List ℕ) → AtMostLoop limit xs true 0
 at_most_start limit xs = record { inside = omega arith; same = refl }
@@ -75,7 +75,7 @@ module _ {lows highs : List ℕ} {within : Bool} {i : ℕ} (at : Ordering lows h
 
   pub ordering_done : length lows ≤ i → within ≡ each_at_most lows highs
   unfolding each_at_most
-  ordering_done h = rw (drop_of_length-le lows h, and_true) at at.same
+  ordering_done h = rw (drop_of_length-le lows h, and-true) at at.same
 
 pub ordering_start : (lows highs : List ℕ) → Ordering lows highs true 0
 ordering_start lows highs = record { inside = omega arith; same = refl }

@@ -1,7 +1,7 @@
 -- Test 6 of a packed set: the loop over its bytes, and the unused bits of the last one. Assumes nothing.
 use Prim.Native.Nat.{ℕ, zero, suc, ◌+◌, ◌-◌, ◌*◌, ◌/◌, ◌%◌, ◌^◌, ◌≤◌, ◌<◌}
 use mathlib.Core.Path.{◌≡◌, refl, sym, ◌∙◌, ap, ap₂}
-use mathlib.Core.Bool.{Bool, true, false, ◌&&◌, and_true, and-false, true≢false}
+use mathlib.Core.Bool.{Bool, true, false, ◌&&◌, and-true, and-false, true≢false}
 use mathlib.Core.Logic.{◌⊎◌, inl, inr}
 use mathlib.Core.List.{List, [], ◌∷◌}
 use native.Mathlib.Numerals.{add-one}
@@ -66,7 +66,7 @@ module _ {most : ℕ} {set : List ℕ} {within : Bool} {i : ℕ} (t : Testing mo
   pub testing_done : length set ≤ i → SetWithin most set within
   unfolding all_at_most quarters
   testing_done h = record {
-    tested = rw (drop_of_length-le set h, and_true) at t.same;
+    tested = rw (drop_of_length-le set h, and-true) at t.same;
     bytes = λ k. elim (dec_lt k i) [ yes g ↦ t.bytes k g | no g ↦ omega (arith, get_or-eq_default set 0 {n = k} (omega arith)) ];
   }
 
