@@ -22,7 +22,6 @@ use sheets::verdict::Verdict;
 
 // What a turn makes of a desk's sheet: its next line waits at an index, which the record `owner` has, or the sheet has
 // ended.
-#[derive(Drop)]
 #[derive(Clone, Copy)]
 pub enum Served {
     Waits { index: u16, owner: u16, lines: u16 },

@@ -7,7 +7,6 @@ ghost use Rattle.lengths.specs.asks.Distance.{rounded_by, Measurable, Distance, 
 use crate::instance::Instance;
 
 // The rules that round a square root, under TSPLIB's names.
-#[derive(Drop)]
 #[derive(Clone, Copy)]
 pub enum Root {
     Euc2d,
@@ -16,7 +15,6 @@ pub enum Root {
 }
 
 // The rules of 01, under TSPLIB's names: one that rounds a root, or one that goes by the two gaps themselves.
-#[derive(Drop)]
 #[derive(Clone, Copy)]
 pub enum Rule {
     Rooted(Root),
@@ -25,7 +23,6 @@ pub enum Rule {
 }
 
 // How a root is rounded: EUC_2D to the nearest, CEIL_2D and ATT up.
-#[derive(Drop)]
 #[derive(Clone, Copy)]
 pub enum Rounding {
     Nearest,

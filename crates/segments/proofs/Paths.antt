@@ -23,6 +23,7 @@ snoc_last a [] = inl refl
 snoc_last a (b ∷ xs) = inr (snoc_last a xs)
 
 pub snoc_in : (x a : ℕ) (xs : List ℕ) → In x xs → In x (xs ++ a ∷ [])
+snoc_in x a [] x'' = elim x'' [ ]
 snoc_in x a (b ∷ xs) (inl e) = inl e
 snoc_in x a (b ∷ xs) (inr h) = inr (snoc_in x a xs h)
 
@@ -50,6 +51,7 @@ pub new_point : (K : List Edge) → AtMostTwo K → (a : ℕ) (ws : List ℕ) (a
     → Distinct (a ∷ ws ++ at ∷ []) → Has K at w
     → (w ≡ last_of a ws → ⊥) → In w ws → ⊥
 unfolding path_edges
+new_point K two a [] at w ins d h nl x5 = elim x5 [ ]
 new_point K two a (b ∷ []) at w ins d h nl (inl e) = nl (sym e)
 new_point K two a (b ∷ []) at w ins d h nl (inr k) = k
 new_point K two a (b ∷ c ∷ ws) at w ins d h nl (inl e) =
@@ -87,6 +89,7 @@ record Less (K : List Edge) (a : ℕ) : Type 0 where
   keeps : (p q : ℕ) → (p ≡ a → ⊥) → (q ≡ a → ⊥) → Has K p q → Has rest p q
 
 less : (K : List Edge) (a b : ℕ) → Has K a b → Less K a
+less [] a b x' = elim x' [ ]
 less (edge x y ∷ K) a b (inl j) =
     record { rest = K; shorter = refl; keeps = λ p q np nq. ⊎_elim (λ k. absurd (touches p q np nq j k)) (λ k. k) }
   where

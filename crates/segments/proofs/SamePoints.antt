@@ -34,6 +34,7 @@ count_named x (v ∷ vs) h =
 
 all_count : (ws vs : List ℕ) → all_named? ws vs ≡ true → (x : ℕ) → In x ws → 1 ≤ count x vs
 unfolding all_named?
+all_count [] vs h x x4 = elim x4 [ ]
 all_count (w ∷ ws) vs h x (inl e) = rw (← e) (named_count w vs (and_true (named? w vs) (all_named? ws vs) h).0)
 all_count (w ∷ ws) vs h x (inr k) = all_count ws vs (and_true (named? w vs) (all_named? ws vs) h).1 x k
 
@@ -44,6 +45,7 @@ count_all (w ∷ ws) vs h =
     and_both (named? w vs) (all_named? ws vs) (count_named w vs (h w (inl refl))) (count_all ws vs (λ x k. h x (inr k)))
 
 pub in_count : (x : ℕ) (ws : List ℕ) → In x ws → 1 ≤ count x ws
+in_count x [] x'' = elim x'' [ ]
 in_count x (w ∷ ws) (inl e) = omega (arith, count_cons x w ws, same_true w x e)
 in_count x (w ∷ ws) (inr h) = omega (arith, count_cons x w ws, in_count x ws h)
 
@@ -60,6 +62,7 @@ record Without (x : ℕ) (vs : List ℕ) : Type 0 where
   shorter : length vs ≡ suc (length rest)
 
 without : (x : ℕ) (vs : List ℕ) → In x vs → Without x vs
+without x [] x'' = elim x'' [ ]
 without x (v ∷ vs) (inl e) = record { rest = vs; counts = λ y. rw (← e) (count_cons y v vs); shorter = refl }
 without x (v ∷ vs) (inr h) =
     let r = without x vs h in

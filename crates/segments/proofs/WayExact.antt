@@ -157,7 +157,7 @@ module _ (K : List Edge) (u v : ℕ) where
         (ins b v (inr (inl (inl (refl, refl))))) (λ e. d.0 (inr (inl e)))
         ∙ at-v f b (passed ++ b ∷ [])
     follows (suc (suc f)) from b (c ∷ xs) passed ins d nu fuel =
-        one-step (suc f) from b c passed (λ e. d.1.0 (rw e (snoc_last v (c ∷ xs)))) (λ e. nu (inl e))
+        one-step (suc f) from b c passed (λ e. d.1.0 (subst (λ (w : ℕ). In w (c ∷ xs ++ v ∷ [])) (sym e) (snoc_last v (c ∷ xs)))) (λ e. nu (inl e))
         (ins b from (inl (inr (refl, refl))))
         (ins b c (inr (inl (inl (refl, refl))))) (λ e. d.0 (inr (inl e)))
         ∙ follows (suc f) b c xs (passed ++ b ∷ []) (λ p q h. ins p q (inr h)) d.1 (λ h. nu (inr h)) (omega arith)

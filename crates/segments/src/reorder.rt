@@ -21,7 +21,6 @@ pub enum Reordered {
 }
 
 // The points that a chain names, in its order, the first `count` of the array.
-#[derive(Drop)]
 #[derive(Clone, Copy)]
 pub struct Order {
     pub points: [u16; EdgeSet::PLACES],

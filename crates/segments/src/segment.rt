@@ -8,7 +8,6 @@ use sets::edge_set::EdgeSet;
 use sets::neighbours::{Neighbours, PathStep, neighbours_of, onward};
 
 // The inner points in their order from u to v, the first `count` of the array. A count of 0: there is no segment.
-#[derive(Drop)]
 #[derive(Clone, Copy)]
 pub struct Segment {
     pub points: [u16; EdgeSet::PLACES],

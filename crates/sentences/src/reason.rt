@@ -1,7 +1,6 @@
 // Why a pair does not stand at the first split of a line, or how its case is closed (02, Paper 6). A case that stands
 // at a first split is always closed by a further split, so the other closings have no variant here (they have their
 // sentences in `specs/`).
-#[derive(Drop)]
 #[derive(Clone, Copy)]
 pub enum Reason {
     // the pair's edge pq is not open

@@ -5,7 +5,6 @@ ghost use Rattle.sets.specs.asks.Stored.{most_known, edge_list, Stored, Single, 
 
 // 01's K, the known edges: those that a tour is assumed to have.
 // The i-th edge taken in joins from[i] and to[i], for i below count. An edge may stand twice.
-#[derive(Drop)]
 #[derive(Clone, Copy)]
 pub struct EdgeSet {
     pub from: [u16; EdgeSet::PLACES],

@@ -6,7 +6,6 @@ ghost use Rattle.sets.specs.asks.Stored.{edge_list, Stored};
 use crate::edge_set::EdgeSet;
 
 // The different neighbours of a point.
-#[derive(Drop)]
 #[derive(Clone, Copy)]
 pub enum Neighbours {
     None,

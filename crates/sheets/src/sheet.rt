@@ -23,7 +23,6 @@ pub enum SheetAdmission {
 // A split is a branching on the two edges that a tour has at a point.
 // How a case is closed: by a split at a point whose first case is the record `first`, by 3-opt, or by a
 // new order of the segment from u to v, whose first point the record `first` names (02, Paper 10: a stretch).
-#[derive(Drop)]
 #[derive(Clone, Copy)]
 pub enum Closing {
     Split { point: u16, first: u16 },

@@ -2,7 +2,6 @@
 
 // Accepted whole, with the number of lines; or refused with the number, the record (0 where no record is at fault), and
 // the lines accepted before.
-#[derive(Drop)]
 #[derive(Clone, Copy)]
 pub enum Verdict {
     Accepted {

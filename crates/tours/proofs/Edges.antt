@@ -77,6 +77,7 @@ mark_symmetric p q a b = bit_cong (joins_dec a b p q) (joins_dec b a p q) (turn_
 
 pub has_total : (es : List Edge) (p q : ℕ) → Has es p q → 1 ≤ total (mark p q) es
 unfolding total
+has_total [] p q x' = elim x' [ ]
 has_total (edge a b ∷ es) p q (inl h) = omega (arith, mark_true p q a b h)
 has_total (edge a b ∷ es) p q (inr h) = omega (arith, has_total es p q h)
 

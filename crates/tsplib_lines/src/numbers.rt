@@ -6,7 +6,6 @@ ghost use Rattle.tsplib_lines.specs.asks.Numbers.{Countable, Sweepable};
 use crate::words::BLANK;
 
 // How many numbers there are, the first and the largest.
-#[derive(Drop)]
 #[derive(Clone, Copy)]
 pub struct Tally {
     pub count: u64,
@@ -15,7 +14,6 @@ pub struct Tally {
 }
 
 // Between two numbers, or within one that is so large so far.
-#[derive(Drop)]
 #[derive(Clone, Copy)]
 pub enum Partial {
     Between,

@@ -9,7 +9,6 @@ use crate::words;
 use crate::words::{find, is_sole};
 
 // How edges are weighed: by the lengths that the text gives, or by a rule of *measure*.
-#[derive(Drop)]
 #[derive(Clone, Copy)]
 pub enum Weighing {
     Explicit,
@@ -33,7 +32,6 @@ pub enum Keyword {
     Unknown,
 }
 
-#[derive(Drop)]
 #[derive(Clone, Copy)]
 pub enum TalliedLine {
     Name,

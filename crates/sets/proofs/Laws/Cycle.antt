@@ -26,6 +26,7 @@ wider z a vs b p = ⊎_elim inl (λ h. inr (inr h))
 -- an inner point of a path from a to z
 inner : (a z : ℕ) (vs : List ℕ) (u : ℕ) → Distinct (a ∷ vs) → (In z vs → ⊥) → (z ≡ a → ⊥) → In u vs → Sides (path_edges a vs z) (z ∷ a ∷ vs) u
 unfolding path_edges
+inner a z [] u d nz za x4 = elim x4 [ ]
 inner a z (b ∷ []) u d nz za (inl e) =
     record {
       p = a;
@@ -74,6 +75,7 @@ lasts a z b (t ∷ vs) =
 
 closed_sides : (vs : List ℕ) (u : ℕ) → 3 ≤ length vs → Distinct vs → In u vs → Sides (closed_edges vs) vs u
 unfolding closed_edges path_edges
+closed_sides [] u h d k = elim h [ ]
 closed_sides (a ∷ []) u h d k = absurd (omega arith)
 closed_sides (a ∷ b ∷ []) u h d k = absurd (omega arith)
 closed_sides (a ∷ b ∷ t ∷ vs) u h d (inl e) =
@@ -81,7 +83,7 @@ closed_sides (a ∷ b ∷ t ∷ vs) u h d (inl e) =
     record {
       p = b;
       q = r.l;
-      apart = λ f. d.1.0 (rw f r.is_in);
+      apart = λ f. d.1.0 (subst (λ (w : ℕ). In w (t ∷ vs)) (sym f) r.is_in);
       has_p = inl (inl (e, refl));
       has_q = subst (λ (w : ℕ). Has (edge a b ∷ path_edges b (t ∷ vs) a) w r.l) e (inr r.has);
       in_p = inr (inl refl);

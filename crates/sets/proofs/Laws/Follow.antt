@@ -74,7 +74,7 @@ module _ (K : List Edge) (c x y : ℕ) (two : AtMostTwo (with_pair K c x y)) (pl
 
       old : Has K at a.w
       old =
-          old_edge K c x y at a.w a.has (λ q. t.distinct.0 (rw q c-in)) (λ q. ext.distinct.0 (rw q (inr c-in)))
+          old_edge K c x y at a.w a.has (λ q. t.distinct.0 (subst (λ (u : ℕ). In u (from ∷ rest)) (sym q) c-in)) (λ q. ext.distinct.0 (inr (subst (λ (u : ℕ). In u (from ∷ rest)) (sym q) c-in)))
 
       go : (m : PathStep) → Onward K at from m → goes_on m (λ v. reaches? f K at v y) ≡ true
       go Stop h = absurd (a.new (h a.w old))

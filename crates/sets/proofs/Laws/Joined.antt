@@ -54,6 +54,7 @@ has_true (edge p q ∷ es) a b h =
 
 true_has : (es : List Edge) (a b : ℕ) → Has es a b → has? es a b ≡ true
 unfolding has?
+true_has [] a b x' = elim x' [ ]
 true_has (edge p q ∷ es) a b (inl h) = true_or (joins? p q a b) (has? es a b) (inl (true_joins p q a b h))
 true_has (edge p q ∷ es) a b (inr h) = true_or (joins? p q a b) (has? es a b) (inr (true_has es a b h))
 

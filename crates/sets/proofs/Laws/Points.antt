@@ -42,6 +42,7 @@ count_tail u v us =
     by_cases (ℕ_discrete u v) (λ e. omega (arith, count_here u v us e)) (λ ne. omega (arith, count_past u v us ne))
 
 in_count : (v : ℕ) (us : List ℕ) → In v us → 1 ≤ count v us
+in_count v [] x' = elim x' [ ]
 in_count v (u ∷ us) (inl e) = omega (arith, count_here u v us e)
 in_count v (u ∷ us) (inr h) = omega (arith, in_count v us h, count_tail u v us)
 
@@ -71,6 +72,7 @@ record Less (u : ℕ) (ws : List ℕ) : Type 0 where
   keeps : (v : ℕ) → In v ws → (u ≡ v → ⊥) → In v rest
 
 remove : (u : ℕ) (ws : List ℕ) → In u ws → Less u ws
+remove u [] x' = elim x' [ ]
 remove u (w ∷ ws) (inl e) = record { rest = ws; shorter = refl; keeps = λ v. ⊎_elim (λ f ne. absurd (ne (sym e ∙ f))) (λ k ne. k) }
 remove u (w ∷ ws) (inr h) =
     let r = remove u ws h in
