@@ -98,7 +98,7 @@ module _ (d n : ℕ) (table set₀ s : List ℕ) (tests-passed : ready n (whole3
       }
 
   module _ (low : 1 ≤ d) where
-    handed-stays : {state left : List ℕ} (e : ℕ) → state_bytes ≤ length state → (e ≡ d → has_line state d ≡ true) → HandsIn state e left →
+    handed-stays : {state : List ℕ} (e : ℕ) {left : List ℕ} → state_bytes ≤ length state → (e ≡ d → has_line state d ≡ true) → HandsIn state e left →
         Stays state left
     handed-stays {state} e room own refused = record { room = room; index = refl; last = refl; counted = refl }
     handed-stays {state} e room own (taken a free) =

@@ -37,10 +37,16 @@ no_order [] e = refl
 no_order (v ∷ vs) e = absurd (omega arith)
 
 one_order : (p : ℕ) (vs : List ℕ) → length vs ≡ 1 → In p vs → vs ≡ p ∷ []
+one_order p (r ∷ []) e (inr x7) = elim x7 [ ]
+one_order p [] e i = elim i [ ]
 one_order p (r ∷ []) e (inl h) = ap (λ (z : ℕ). z ∷ []) h
 one_order p (r ∷ s ∷ vs) e i = absurd (omega arith)
 
 two_orders : (p q : ℕ) → (p ≡ q → ⊥) → (vs : List ℕ) → length vs ≡ 2 → In p vs → In q vs → (vs ≡ p ∷ q ∷ []) ⊎ (vs ≡ q ∷ p ∷ [])
+two_orders p q pq (r ∷ (s ∷ [])) e (inr (inr x18)) j = elim x18 [ ]
+two_orders p q pq (r ∷ (s ∷ [])) e (inr (inl f)) (inr (inr x19)) = elim x19 [ ]
+two_orders p q pq (r ∷ (s ∷ [])) e (inl f) (inr (inr x16)) = elim x16 [ ]
+two_orders p q pq [] e i j = elim i [ ]
 two_orders p q pq (r ∷ []) e i j = absurd (omega arith)
 two_orders p q pq (r ∷ s ∷ []) e (inl f) (inl g) = absurd (pq (sym f ∙ g))
 two_orders p q pq (r ∷ s ∷ []) e (inl f) (inr (inl g)) = inl (cc)
