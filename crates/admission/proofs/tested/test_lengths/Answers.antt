@@ -1,0 +1,15 @@
+-- `admission::tested::test_lengths` meets its contract: each way out has its lemma in `Deciding` or `TestWays`. Assumes
+-- nothing.
+use mathlib.Core.Path.{sym, ◌∙◌}
+use borrow.Author.Tests.{not-true, not-false}
+use Rattle.admission.proofs.Deciding.{before_refused, told}
+use Rattle.admission.proofs.tested.test_lengths.Goals as goal
+
+pub returns-in-Refused : goal.returns-in-Refused
+returns-in-Refused c = before_refused _ c.in-Refused.is
+
+pub returns-then-not-all_at_most : goal.returns-then-not-all_at_most
+returns-then-not-all_at_most c = told 5 _ c.in-Points.is (sym c.all_at_most.ensures ∙ not-true _ c.if-not-all_at_most.true-raw)
+
+pub returns : goal.returns
+returns c = told 5 _ c.in-Points.is (sym c.all_at_most.ensures ∙ not-false _ c.if-not-all_at_most.false-raw)
