@@ -1,6 +1,6 @@
 -- The larger of two savings is at least both and is one of them, the smaller is at most both and is one of them: so
 -- each is the one number that is so, whichever of the two comes first. Assumes nothing.
-use mathlib.Core.Path.{◌≡◌, refl, sym, ◌∙◌, ap, subst}
+use mathlib.Core.Path.{◌≡◌, refl, sym, ap, subst}
 use mathlib.Core.Bool.{Bool, true, false, cond, true≢false}
 use mathlib.Core.Logic.{◌⊎◌, inl, inr}
 use native.Mathlib.Nat.{le_trans, le_antisymm}
