@@ -26,8 +26,8 @@ class Proves(Tree):
     def test_the_library_then_proves_what_is_left(self):
         self.mark()
         status, out, told = self.build("archive")
-        self.assertEqual((status, out, told), (0, "", "4 of 5: more\n5 of 5: revosti\n"))
-        self.assertEqual(self.begun()[4:], ["more", "revosti"])
+        self.assertEqual((status, out, told), (0, "", "4 of 6: more\n5 of 6: revosti\n6 of 6: revosti_c\n"))
+        self.assertEqual(self.begun()[4:], ["more", "revosti", "revosti_c"])
         self.assertEqual(self.build("archive"), (0, "", ""))
 
     def test_two_at_a_time(self):
@@ -45,7 +45,7 @@ class Proves(Tree):
         self.build("archive")
         self.change("crates/left/src/lib.rt", "3")
         self.assertEqual(self.proved_since("bin/mark"), ["left", "upper", "mark"])
-        self.assertEqual(self.proved_since("tools/build", "archive"), ["more", "revosti"])
+        self.assertEqual(self.proved_since("tools/build", "archive"), ["more", "revosti", "revosti_c"])
 
     def test_a_change_of_crates_txt(self):
         self.mark()
@@ -53,14 +53,14 @@ class Proves(Tree):
         self.change("crates.txt", text.replace("right:", "right: left"))
         self.assertEqual(self.proved_since("bin/mark"), ["right", "upper", "mark"])
         self.change("crates.txt", text)
-        self.assertEqual(self.proved_since("bin/mark"), ["right", "upper", "mark"])
+        self.assertEqual(self.proved_since("bin/mark"), [])
 
     def test_a_file_added_and_taken_away(self):
         self.mark()
         self.change("crates/left/proofs/New.antt", "")
-        self.assertEqual(self.proved_since("bin/mark"), ["left", "upper", "mark"])
+        self.assertEqual(self.proved_since("bin/mark"), ["left"])
         (self.root / "crates/left/proofs/New.antt").unlink()
-        self.assertEqual(self.proved_since("bin/mark"), ["left", "upper", "mark"])
+        self.assertEqual(self.proved_since("bin/mark"), [])
 
     def test_what_is_no_change(self):
         self.mark()
@@ -100,27 +100,31 @@ class Products(Tree):
         (self.root / "target/built/mark").unlink()
         self.assertEqual(self.proved_since("bin/mark"), [])
         (self.root / "target/built/mark").unlink()
-        (self.root / "target/bin/mark").unlink()
+        shutil.rmtree(next(self.store.glob("proof-mark-*")))
         self.assertEqual(self.proved_since("bin/mark"), ["mark"])
 
     def test_a_proved_crate_missing(self):
         self.mark()
-        shutil.rmtree(self.root / "target/rlib/left.rlib")
+        shutil.rmtree(next(self.store.glob("proof-left-*")))
         self.change("crates/upper/src/lib.rt", "3")
         self.assertEqual(self.proved_since("bin/mark"), ["left", "upper", "mark"])
 
     def test_rt_run_by_hand_on_a_change_taken_back(self):
         self.mark()
         self.change("crates/mark/src/main.rt", "3")
-        subprocess.run([self.kit / "bin/rt", "check", "mark"], cwd=self.root, env=self.environment(), check=True, capture_output=True)
+        subprocess.run([self.kit / "bin/rt", "ci"], cwd=self.root, env=self.environment(), check=True, capture_output=True)
         self.assertEqual(self.mark(), (0, ANSWER.format(3), ""))
         self.change("crates/mark/src/main.rt", "2")
-        self.assertEqual(self.mark()[1], ANSWER.format(2))
+        self.assertEqual(self.mark(), (0, ANSWER.format(2), ""))
 
     def test_an_archive_of_another_change(self):
         self.build("archive")
         (self.root / "target/staticlib/librevosti.a").write_text("another")
-        self.assertEqual(self.proved_since("tools/build", "archive"), ["revosti"])
+        self.assertEqual(self.proved_since("tools/build", "archive"), [])
+        self.assertEqual((self.root / "target/staticlib/librevosti.a").read_text(), "2")
+        shutil.rmtree(self.root / "target/built/checked")
+        (self.root / "target/staticlib/librevosti.a").unlink()
+        self.assertEqual(self.proved_since("tools/build", "archive"), ["revosti_c"])
 
     def test_a_change_while_it_is_built(self):
         started = self.start("bin/mark", PACE="0.4")
@@ -139,16 +143,16 @@ class Fails(Tree):
         for _ in range(2):
             status, out, told = self.mark()
             self.assertEqual((status, out), (3, ""))
-            self.assertIn("rt: left NOT PROVED (exit 1", told)
-            self.assertRegex(told, r"rt refuses check mark: .*target/built/log has its words\n\Z")
+            self.assertIn("rt: left NOT PROVED\n", told)
+            self.assertRegex(told, r"rt refuses mark: .*target/built/log has its words\n\Z")
 
     def test_wrong_code_taken_back_loses_no_proof(self):
         self.mark()
         self.change("crates/left/src/lib.rt", "wrong")
         self.mark()
         self.change("crates/left/src/lib.rt", "2")
-        self.assertEqual(self.proved_since("bin/mark"), ["left"])
-        self.assertLessEqual({"left", "right", "upper", "mark"}, self.stamps())
+        self.assertEqual(self.proved_since("bin/mark"), [])
+        self.assertLessEqual({"left", "right", "upper", "mark"}, self.kept())
 
     def test_a_prover_that_breaks_is_no_verdict(self):
         self.build("archive")
@@ -156,11 +160,11 @@ class Fails(Tree):
         status, out, told = self.mark(BREAKS="left")
         self.assertEqual((status, out), (3, ""))
         self.assertNotIn("NOT PROVED", told)
-        self.assertIn("rt fails with status 2, which says nothing of the proofs; what is proved is kept", told)
+        self.assertIn("rt fails with status 1, which says nothing of the proofs; what is proved is kept", told)
         self.change("crates/left/src/lib.rt", "2")
         self.assertEqual(self.proved_since("tools/build", "archive"), [])
         self.change("crates/more/src/lib.rt", "3")
-        self.assertEqual(self.proved_since("tools/build", "archive"), ["left", "more", "revosti"])
+        self.assertEqual(self.proved_since("tools/build", "archive"), ["more", "revosti", "revosti_c"])
 
     def test_no_kit(self):
         script = self.root / "tools/build"
@@ -196,12 +200,13 @@ class Fails(Tree):
 
     def test_no_gcc(self):
         for name in ("sh", "awk", "sed", "find", "sha256sum", "sort", "flock", "setsid", "readlink", "dirname", "mkdir", "touch", "cp",
-                     "mv", "rm", "cat", "grep", "sleep", "wc", "cut", "uname", "date", "nproc", "ls", "tr", "basename", "head", "mktemp"):
+                     "mv", "rm", "cat", "grep", "sleep", "wc", "cut", "uname", "date", "nproc", "ls", "tr", "basename", "head", "mktemp",
+                     "python3", "setpriv", "chmod"):
             (self.kit / "bin" / name).symlink_to(shutil.which(name))
         status, _, told = self.build("library", PATH=str(self.kit / "bin"))
         last = "there is no gcc, which links target/librevosti.so\n"
         self.assertEqual((status, told[-len(last):]), (3, last))
-        self.progress(told.removesuffix(last), 1, 5, "left", "right", "upper", "more", "revosti")
+        self.progress(told.removesuffix(last), 1, 6, "left", "right", "upper", "more", "revosti", "revosti_c")
 
 
 class ReadOnly(Tree):
@@ -235,7 +240,7 @@ class AtOnce(Tree):
         ended = [self.end(one) for one in started]
         self.assertEqual([status for status, _, _ in ended], [0] * 10, ended)
         self.assertEqual({out for _, out, _ in ended}, {ANSWER.format(2), ""})
-        self.assertEqual(sorted(self.begun()), ["left", "mark", "more", "revosti", "right", "upper"])
+        self.assertEqual(sorted(self.begun()), ["left", "mark", "more", "revosti", "revosti_c", "right", "upper"])
         self.assertIn(sum(told.startswith("waiting for another build\n") for _, _, told in ended), range(5, 10))
         self.assertNotIn("NOT PROVED", str(ended))
 
@@ -261,8 +266,7 @@ class Interrupted(Tree):
         for words in (("bin/mark",), ("tools/build", "mark")):
             for number, group in SIGNALS:
                 with self.subTest(words=words, number=number, group=group):
-                    shutil.rmtree(self.root / "target", ignore_errors=True)
-                    self.calls_file.write_text("")
+                    self.forget()
                     started = self.until("upper", *words, pace="0.4")
                     self.assertEqual(self.provers() != [], True)
                     self.signal(started, number, group)
@@ -271,7 +275,7 @@ class Interrupted(Tree):
                     self.assertTrue(told.endswith("the build is interrupted; what is proved is kept, and the next call goes on\n"), told)
                     eventually(lambda: not self.provers())
                     self.assertNotIn(["end", "upper"], [call[:2] for call in self.calls()])
-                    self.assertEqual(self.stamps(), {"left", "right"})
+                    self.assertEqual(self.kept(), {"left", "right"})
                     self.assertEqual(self.mark(), (0, ANSWER.format(2), "3 of 4: upper\n4 of 4: mark\n"))
 
     def test_while_it_waits(self):
@@ -295,7 +299,7 @@ class Interrupted(Tree):
         self.assertEqual(self.end(first)[0], -signal.SIGKILL)
 
     def test_a_hundred_kills(self):
-        """At any moment, by any signal, in five trees: stamps stay, and in the end all is built."""
+        """At any moment, by any signal, in five trees: proofs stay, and in the end all is built."""
         with ThreadPoolExecutor(5) as pool:
             list(pool.map(self.kills, range(5)))
 
@@ -309,13 +313,12 @@ class Interrupted(Tree):
             time.sleep(chance.uniform(0, 0.4))
             tree.signal(started, chance.choice([signal.SIGINT, signal.SIGTERM, signal.SIGKILL]))
             self.assertNotIn("NOT PROVED", tree.end(started)[2])
-            self.assertLessEqual(proved, tree.stamps())
-            proved = tree.stamps()
+            self.assertLessEqual(proved, tree.kept())
+            proved = tree.kept()
             if "revosti" in tree.begun():  # from nothing again
                 self.assertEqual(tree.build("archive")[0], 0)
-                shutil.rmtree(tree.root / "target")
+                tree.forget()
                 proved = set()
-                tree.calls_file.write_text("")
         self.assertEqual(tree.mark()[:2], (0, ANSWER.format(2)))
         self.assertEqual(tree.build("archive")[0], 0)
         self.assertEqual(tree.proved_since("tools/build", "mark", "archive"), [])

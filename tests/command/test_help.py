@@ -159,7 +159,7 @@ class Anywhere(Folder):
     def test_built_tree_that_cannot_be_written(self):
         tree = self.folder / "a tree"
         for name in ("bin", "tools", "examples", "include", "crates"):
-            shutil.copytree(ROOT / name, tree / name, symlinks=True, ignore=shutil.ignore_patterns("__pycache__"))
+            shutil.copytree(ROOT / name, tree / name, symlinks=True, ignore=shutil.ignore_patterns("__pycache__", "out"))
         shutil.copy2(ROOT / "crates.txt", tree)
         for name in ("staticlib", "built"):
             if (ROOT / "target" / name).exists():

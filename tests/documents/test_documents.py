@@ -129,9 +129,9 @@ class Told(unittest.TestCase):
     """Made-up texts: what is not so is told, and nothing else."""
 
     def test_what_is_there(self):
-        for text in ("`demand-3`", "`place`", "`Sheet::MOST_RECORDS`", "`refusal::PAGE`", "`revosti_mark_of`", "`REVOSTI_OPEN`",
+        for text in ("`three-opt`", "`demand_3`", "`place`", "`Sheet::MOST_RECORDS`", "`refusal::PAGE`", "`revosti_mark_of`", "`REVOSTI_OPEN`",
                      "`mark_of`", "`marking`", "`says_18_unseen`", "`marking/says_18_unseen`", "`lengths/specs/Edge.antt`",
-                     "`specs/asks/`", "`bin/mark`", "`target/made.a`", f"`{PROGRAM} mark FILE --high BOARD`", "`marksOf n set`",
+                     "`specs/asks/`", "`bin/mark`", "`target/made.a`", f"`{PROGRAM} mark FILE --high BOARD`", "`marks_of n set`",
                      "`mark_sheet(n, table, marks, sheet)`", "`1 1 3 0 0 2 0 2`", "`points 4 edges 6`", "```\n`no-such`\n```",
                      "`place` (`lengths/specs/Edge.antt`)", "`lengths/specs/Edge.antt`: `tri`, `place`",
                      "[terms](docs/RULES.md#terms)", "# A part\n[it](#a-part)"):
@@ -139,11 +139,11 @@ class Told(unittest.TestCase):
                 self.assertEqual(faults(text), [])
 
     def test_what_is_not(self):
-        for text, fault in (("`demand-33`", "no name demand-33"), ("`Sheet::MOST_LINES`", "no name Sheet::MOST_LINES"),
+        for text, fault in (("`three-opts`", "no name three-opts"), ("`Sheet::MOST_LINES`", "no name Sheet::MOST_LINES"),
                             ("`revosti_mark_off`", "no name revosti_mark_off"), ("`says_19_unseen`", "no name says_19_unseen"),
                             ("`-packed`", "no option -packed"), (f"`{PROGRAM} unmark FILE`", "no command unmark"),
                             (f"`{PROGRAM} mark --middle A`", "no option --middle"), ("`mark_sheets(n)`", "no name mark_sheets"),
-                            ("`packedOf n set`", "no name packedOf"), ("`lengths/specs/Edges.antt`", "no path lengths/specs/Edges.antt"),
+                            ("`packedBy n set`", "no name packedBy"), ("`lengths/specs/Edges.antt`", "no path lengths/specs/Edges.antt"),
                             ("`rules/says_18_unseen`", "no path rules/says_18_unseen"), ("`Edge.antt`", "no path Edge.antt"),
                             ("`bin/mark examples/none.bin`", "no path examples/none.bin"), ("[rules](RULES.md)", "no path RULES.md"),
                             ("[terms](docs/RULES.md#term)", "no heading docs/RULES.md#term")):
@@ -152,8 +152,8 @@ class Told(unittest.TestCase):
 
     def test_a_name_in_another_file(self):
         table = "no name place in crates/lengths/specs/Table.antt"
-        for text in ("`place` (`lengths/specs/Table.antt`)", "`lengthOf`, **`place`** (`lengths/specs/Table.antt`)",
-                     "`lengths/specs/Table.antt`: `place`", "`lengths/specs/Table.antt`, `lengthOf` and `place`",
+        for text in ("`place` (`lengths/specs/Table.antt`)", "`length_of`, **`place`** (`lengths/specs/Table.antt`)",
+                     "`lengths/specs/Table.antt`: `place`", "`lengths/specs/Table.antt`, `length_of` and `place`",
                      "`lengths/specs/` has it (`place`, `Table.antt`)",
                      "| Definition | File |\n|---|---|\n| `place` | `lengths/specs/Table.antt` |"):
             with self.subTest(text):

@@ -14,7 +14,7 @@ from tests.support import ROOT
 
 signal.signal(signal.SIGINT, signal.default_int_handler)  # what is started takes it, even where the tests ignore it
 
-REAL_RT = Path(shutil.which("rt") or "/opt/rattle/bin/rt")
+REAL_RT = Path(shutil.which("rt") or "/opt/rattle/bin/rt").resolve()
 CRATES = """# upper rests on two crates that need nothing of each other
 left:
 right:
@@ -22,46 +22,57 @@ upper: left right
 mark: upper io
 more: left
 revosti: upper more
+revosti_c staticlib: revosti
 apart: revosti
 """
-NAMES = ("left", "right", "upper", "mark", "more", "revosti", "apart")
+NAMES = ("left", "right", "upper", "mark", "more", "revosti", "revosti_c", "apart")
 
-# Called as `rattle build --crate-name NAME FILE .. -o OUT`. It takes PACE seconds, tells when it begins and ends, refuses
-# a crate that says "wrong" and breaks at the one that BREAKS names. The program's answer has the number that the file of
-# `mark` has.
+# Called as `rattle check|build --crate-name NAME FILE .. -o OUT`. It takes PACE seconds, tells when it begins and ends,
+# refuses a crate that says "wrong" and breaks at the one that BREAKS names; a crate that was checked is compiled alone. The
+# program's answer has the number that the file of `mark` has. What a library is depends on its definitions and on those that
+# it rests on.
 PROVER = r"""#!/bin/sh
-kit=$(cd "$(dirname "$0")/../../.." && pwd)
+for word; do [ "$word" != --help ] || exit 0; done
+case $1 in check | build) ;; *) exit 0 ;; esac
+kit=$(cd "$(dirname "$0")/.." && pwd)
 for out; do :; done
-echo "begin $3 $$" >>"$kit/calls"
-sleep "${PACE:-0}"
-crate=$(dirname "$4")/..
-case $out in
-*.rlib) mkdir -p "$out" && cat "$4" >"$out/lib" ;;
-*) cat "$4" >"$out" ;;
+case "$*" in
+*--crate-checked*) echo "compile $3 $$" >>"$kit/calls" ;;
+*)
+    echo "begin $3 $$" >>"$kit/calls"
+    sleep "${PACE:-0}"
+    if grep -rq wrong src; then
+        echo logic=not-proved
+        exit 1
+    fi
+    if [ "${BREAKS:-}" = "$3" ]; then exit 137; fi
+    ;;
 esac
-if grep -rq wrong "$crate"; then
-    echo logic=not-proved
-    exit 1
-fi
-if [ "${BREAKS:-}" = "$3" ]; then exit 137; fi
-echo logic=proved
-echo "end $3 $$" >>"$kit/calls"
+case $out in
+*.o | *.a) cat "$4" >"$out" ;;
+*)
+    mkdir -p "$out" && cat "$4" specs/*.antt >"$out/lib" || exit 2
+    printf '%s\n' "$@" | sed -n 's/^\([a-z]*\)=.*[.]rlib$/dep \1/p' >"$out/format"
+    ;;
+esac
+echo "logic=proved functions=1 native=nat,char,string logic-built=trusted libraries-built=trusted statements=trusted"
+case "$*" in *--crate-checked*) ;; *) echo "end $3 $$" >>"$kit/calls" ;; esac
 """
 
-# rattle-link .. -o PROGRAM OBJECT
+# rattle-link .. -o PROGRAM OBJECT ..
 LINKER = r"""#!/bin/sh
-for object; do :; done
 while [ "$1" != -o ]; do shift; done
 {
     echo '#!/bin/sh'
     echo 'if [ -z "$(cat | tr -d "\000")" ]; then echo "verdict 7 record 0 open 0"; exit; fi'
-    echo "echo points 4 edges 6; echo struck 1 $(cat "$object"); echo verdict 0 record 0 open 6"
+    echo "echo points 4 edges 6; echo struck 1 $(cat "$3"); echo verdict 0 record 0 open 6"
 } >"$2"
 chmod +x "$2"
 """
 
-# The kit's clang under the name of wasm-ld: .. --export=NAME .. ARCHIVE -o MODULE
+# The kit's clang under the name of wasm-ld: .. --export=NAME .. ARCHIVE -o MODULE; as llvm-nm it names nothing
 WASM_LD = r"""#!/bin/sh
+[ "$1" != -D ] || exit 0
 for out; do :; done
 printf '%s\n' "$@" | sed -n 's/^--export=//p' >"$out"
 """
@@ -71,8 +82,6 @@ LIMIT = """import os, resource, signal, sys
 signal.signal(signal.SIGXFSZ, signal.SIG_IGN)
 resource.setrlimit(resource.RLIMIT_FSIZE, (int(sys.argv[1]),) * 2)
 os.execv(sys.argv[2], sys.argv[2:])"""
-
-LOADER = '#!/bin/sh\nshift 2\nexec sh "$@"\n'
 
 
 def eventually(test, seconds=20):
@@ -93,24 +102,26 @@ def alive(pid):
 
 
 class Tree(unittest.TestCase):
-    """A tree of seven crates of a line each: `mark` rests on three of them, `revosti` on four."""
+    """A tree of eight crates of a line each: `mark` rests on three of them, `revosti_c` on five."""
 
     def setUp(self):
         self.holder = tempfile.mkdtemp()
         self.addCleanup(shutil.rmtree, self.holder)
         os.chmod(self.holder, 0o755)  # rt runs a program as nobody
         self.kit, self.root = Path(self.holder) / "kit", Path(self.holder) / "tree"
-        own = self.kit / "on" / os.uname().machine
-        self.put(self.kit / "bin/rt", REAL_RT.read_text(encoding="utf-8"))
-        self.put(own / "bin/rattle", PROVER)
-        self.put(own / "bin/rattle-link", LINKER)
-        self.put(own / "toolchain/lib/ld-linux-x86-64.so.2", LOADER)
-        self.put(own / "toolchain/bin/clang", WASM_LD)
-        for name in ("std", "io"):
-            (own / f"rlib/{name}.rlib").mkdir(parents=True)
-        (self.kit / "KIT-ID").write_text("a kit for tests\n")
-        (self.kit / "libs").mkdir()
-        (self.kit / "libs/libs.txt").write_text("io:\n")
+        for name in ("rt", "rtlib.py"):
+            self.put(self.kit / "bin" / name, (REAL_RT.parent / name).read_text(encoding="utf-8"))
+        self.put(self.kit / "bin/rattle", PROVER)
+        self.put(self.kit / "bin/rattle-link", LINKER)
+        self.put(self.kit / "toolchain/bin/clang", WASM_LD)
+        for name in ("core", "std", "io"):
+            self.put(self.kit / f"rlibs/{name}.rlib/format", f"{name}\n")
+            (self.kit / f"rlibs/{name}.rlib/toolchain").mkdir()
+        for name in ("logic_built", "c", "rattle/logic", "rattle/antt"):
+            (self.kit / name).mkdir(parents=True)
+        self.put(self.kit / "rattle/std/specs/Prelude.antt", "")
+        for name in ("KIT-ID", "WHAT"):
+            (self.kit / name).write_text("a kit for tests\n")
         self.calls_file = self.kit / "calls"
         self.calls_file.write_text("")
         self.put(self.root / "bin/mark", (ROOT / "bin/mark").read_text())
@@ -186,9 +197,20 @@ class Tree(unittest.TestCase):
         self.assertEqual([place for place, _ in lines], [f"{place} of {total}" for place in range(first, first + len(names))])
         self.assertCountEqual([name for _, name in lines], names)
 
-    def stamps(self):
-        """The crates that rt takes as proved."""
-        return {file.name for file in (self.root / "target/stamp").glob("*") if file.stat().st_size}
+    @property
+    def store(self):
+        """Where rt keeps what it has proved, beside the kit."""
+        return self.kit.parent / "rattle-kept"
+
+    def kept(self):
+        """The crates of which rt keeps a proof."""
+        return {file.name.split("-")[1] for file in self.store.glob("proof-*")}
+
+    def forget(self):
+        """Has nothing built, and nothing proved."""
+        for folder in (self.root / "target", self.store):
+            shutil.rmtree(folder, ignore_errors=True)
+        self.calls_file.write_text("")
 
     def signal(self, started, number, group=False):
         """Sends a signal to a process, or to its group as Ctrl-C does."""

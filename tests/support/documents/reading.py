@@ -2,7 +2,7 @@
 
 A code text is a path (it has a slash, or is a file of the tree's own languages), an option, a name (one word, OWNER::MEMBER too) or a call
 NAME(..). Anything else is a line that somebody types or reads: there the paths, the options, the command of a program that has commands
-and each word that can only be a name (marksOf, mark_sheet) count. Blocks of code between fences are left out. Links to files count, too.
+and each word that can only be a name (marks_of, markSheet) count. Blocks of code between fences are left out. Links to files count, too.
 """
 
 import re

@@ -1,0 +1,38 @@
+// "Mark a sheet" and "list pairs" over two tables for C: the answer as one 64-bit number. The tables have 32 bits an
+// edge, low lengths first.
+ghost use Rattle.endian.specs.Bytes.{whole32};
+ghost use Rattle.marks.specs.Packed.{marks_of};
+ghost use Rattle.revosti.specs.Between.{MarkedBetweenInC, ListedBetweenInC};
+
+// Marks a sheet: what is taken out counts low, what is put in counts high.
+#[unsafe(no_mangle)]
+pub extern "C" fn revosti_mark_between(
+    n: u32,
+    low: &[u8],
+    high: &[u8],
+    marks: &mut [u8],
+    sheet: &[u8],
+) -> u64
+    ensures { MarkedBetweenInC n low.now high.now marks.old
+        sheet.now result marks.new }
+{
+    revosti::between::revosti_mark_between(n, low, high, marks, sheet)
+}
+
+// Lists the feasible pairs of K = {ab} at the split point c, 16 bits a point. The list's places are its whole entries.
+#[unsafe(no_mangle)]
+pub extern "C" fn revosti_list_between(
+    n: u32,
+    low: &[u8],
+    high: &[u8],
+    marks: &[u8],
+    a: u16,
+    b: u16,
+    c: u16,
+    list: &mut [u8],
+) -> u64
+    ensures { ListedBetweenInC n (whole32 low.now) (whole32 high.now)
+        (marks_of n marks.now) a b c list.old result list.new }
+{
+    revosti::between::revosti_list_between(n, low, high, marks, a, b, c, list)
+}
