@@ -1,11 +1,10 @@
 -- Different reasons have different sentences, and different lists of reasons different texts. Assumes nothing.
-use Prim.Native.Nat.{ℕ, ◌<◌}
+use Prim.Native.Nat.{ℕ}
 use mathlib.Core.Path.{◌≡◌, refl, sym, ◌∙◌, ap, subst}
 use mathlib.Core.List.{List, [], ◌∷◌, ◌++◌, append_assoc}
 use native.Mathlib.Omega.{arith}
-use lib.ListN.{get_or, drop}
 use Rattle.text.specs.Decimal.{field_text}
-use Rattle.text.proofs.DecimalsApart.{first, joined, Rows, none, more, field_apart, fields_apart}
+use Rattle.text.proofs.DecimalsApart.{first, joined, none, more, field_apart, fields_apart}
 use Rattle.sentences.specs.Reason.{Reason, struck, third, loop, exchange, move, three_opt, split, reorder, ReasonedPair, points_of, saved_of}
 use Rattle.sentences.specs.Sentence as words
 use Rattle.sentences.specs.Sentence.{dash, stop, pair_text, dashed, sentence, text_of}

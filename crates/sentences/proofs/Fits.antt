@@ -1,5 +1,5 @@
 -- Sentences of small numbers have at most as many bytes as there is room for. Assumes nothing.
-use Prim.Native.Nat.{ℕ, suc, ◌*◌, ◌^◌, ◌≤◌, ◌<◌}
+use Prim.Native.Nat.{ℕ, suc, ◌*◌, ◌≤◌, ◌<◌}
 use mathlib.Core.List.{List, [], ◌∷◌, Memᴰ}
 use mathlib.Core.Path.{refl}
 use native.Mathlib.Omega.{arith}

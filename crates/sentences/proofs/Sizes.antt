@@ -4,7 +4,7 @@ use mathlib.Core.Path.{◌≡◌}
 use mathlib.Core.List.{List}
 use native.Mathlib.Omega.{arith}
 use lib.ListN.{length, length-append}
-use Rattle.text.specs.Decimal.{decimal, field_text}
+use Rattle.text.specs.Decimal.{decimal}
 use Rattle.text.proofs.Decimals.{field_size}
 use Rattle.sentences.specs.Reason.{struck, third, loop, exchange, move, three_opt, split, reorder}
 use Rattle.sentences.specs.Sentence.{pair_text, dashed, sentence}
