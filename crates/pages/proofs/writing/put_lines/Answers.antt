@@ -1,0 +1,49 @@
+-- `pages::writing::put_lines` meets its contract: `Putting` holds at the loop's head, over the marks that the packed
+-- set holds. Assumes nothing.
+use native.Mathlib.Omega.{arith}
+use mathlib.Core.Path.{◌∙◌}
+use Rattle.lengths.proofs.Edges.{edges_few}
+use Rattle.marks.proofs.PackedMarks.{held_inside, held_at}
+use Rattle.pages.proofs.PageLines.{first_asked, put_start, put_inside, put_edge, put_short, put_asked, put_on, put_done}
+use Rattle.pages.proofs.writing.put_lines.Goals as goal
+
+pub edge_at-start-requires : goal.edge_at-start-requires
+edge_at-start-requires c = first_asked c.requires.part
+
+pub loop-i-init : goal.loop-i-init
+loop-i-init c = put_start c.edge_at-start.ensures
+
+pub overflow_add-place : goal.overflow_add-place
+overflow_add-place c = omega (arith, put_inside c.requires c.loop-i.invariant c.loop-i-test.true, edges_few _ c.requires.part.few)
+
+pub number32-len-requires : goal.number32-len-requires
+number32-len-requires c = omega (arith, put_inside c.requires c.loop-i.invariant c.loop-i-test.true, c.requires.within.whole)
+
+pub mark_at-mark-requires : goal.mark_at-mark-requires
+mark_at-mark-requires c = held_inside _ _ c.requires.marked (put_inside c.requires c.loop-i.invariant c.loop-i-test.true)
+
+pub overflow_cast-a : goal.overflow_cast-a
+overflow_cast-a c = omega (arith, put_short c.requires c.loop-i.invariant c.loop-i-test.true)
+
+pub overflow_cast-b : goal.overflow_cast-b
+overflow_cast-b c = omega (arith, put_short c.requires c.loop-i.invariant c.loop-i-test.true)
+
+pub put_line-at-requires : goal.put_line-at-requires
+put_line-at-requires c =
+    put_asked c.requires c.loop-i.invariant c.loop-i-test.true c.number32-len.ensures
+
+pub following-next-requires : goal.following-next-requires
+following-next-requires c =
+    (c.requires.part.few, put_edge c.requires c.loop-i.invariant c.loop-i-test.true)
+
+pub loop-i-preserved : goal.loop-i-preserved
+loop-i-preserved c =
+    put_on c.requires c.loop-i.invariant c.loop-i-test.true c.number32-len.ensures
+    (c.mark_at-mark.ensures ∙ held_at _ _ c.requires.marked (put_inside c.requires c.loop-i.invariant c.loop-i-test.true))
+    c.put_line-at.ensures c.following-next.ensures
+
+pub shape_of-text : goal.shape_of-text
+shape_of-text c = c.loop-i.invariant.wrote.kept
+
+pub returns : goal.returns
+returns c = put_done c.requires c.loop-i.invariant c.loop-i-test.false
