@@ -3,17 +3,12 @@ use mathlib.Core.Path.{◌≡◌, refl}
 use mathlib.Core.Bool.{Bool, true, false, not, cond}
 use lib.Dec.{eqb}
 use mir.Val.{bool_byte}
-use borrow.Author.Rules.{rules}
-use Rattle.search.proofs.candidates.one_if_candidate.Statement.{statement}
-use Rattle.search.proofs.candidates.one_if_candidate.Tie as tie
 use Rattle.rules.specs.asks.Legs.{far}
+use Rattle.search.proofs.candidates.one_if_candidate.Goals as goal
 
 byte_of_not : (t : Bool) → bool_byte (not t) ≡ cond t 0 1
 byte_of_not true = refl
 byte_of_not false = refl
 
-returns : tie.Need-returns
+pub returns : goal.returns
 returns c = byte_of_not (eqb c.args.leg far)
-
-pub one-if-candidate-spec : {M : Type 1} → statement M
-one-if-candidate-spec = tie.close (tie.spec (λ c. search rules) returns)
