@@ -22,7 +22,7 @@ use Rattle.tsplib.specs.declared.state.State.{State}
 use Rattle.tsplib.specs.declared.state.State.TheVariants.{Specification, Nodes, Weights, Ended}
 use Rattle.tsplib.specs.declared.state.Stepped.{Stepped}
 use Rattle.tsplib.specs.declared.state.Stepped.TheVariants as stepped
-use Rattle.tsplib.specs.declared.judging.JudgedText.TheVariants.{Described, Fault}
+use Rattle.tsplib.specs.declared.judging.JudgedText.TheVariants.{Described}
 use Rattle.tsplib.proofs.Exact.{ran, on_to, skip_for, accepted_rest, rest_accepted, instance_rest, rest_instance, instance_gathered}
 use Rattle.tsplib.proofs.LegalSteps.{faulty}
 use Rattle.tsplib.proofs.TextLines.{false_true, lines_next, rest_next, whole_none}

@@ -34,7 +34,7 @@ use Rattle.tsplib.specs.declared.reading.Read.{Read}
 use Rattle.tsplib.specs.declared.reading.Read.TheVariants.{Points, Refused}
 use Rattle.tsplib.proofs.Exact.{accepted_rest, coordinates_count, upper_row_count}
 use Rattle.tsplib.proofs.SmallNumbers.{numbers_fit}
-use Rattle.tsplib.proofs.Verdicts.{judged_accepted, largest, largest_limit}
+use Rattle.tsplib.proofs.Verdicts.{judged_accepted, largest_limit}
 
 -- numbers that fill a buffer are its bytes
 pub filled : {out left : List ℕ} {xs : List ℕ} {r : ℕ} → length out ≡ 4 * length xs → WroteNumbers out 0 xs r left → left ≡ bytes32 xs

@@ -13,7 +13,6 @@ use Rattle.tsplib.specs.State.{weigh_next, row_next, weighed_as, on_name, on_typ
 use Rattle.tsplib.specs.Gathering.{numbers_of, gathered}
 use Rattle.tsplib.specs.Judging.{whole_lines, unfinished, lines_of, maximum_of, judged_end, judged_from, judged}
 use Rattle.tsplib.specs.FaultLine.{joined}
-use Rattle.tsplib.specs.declared.judging.JudgedText.{JudgedText}
 use Rattle.tsplib.specs.declared.judging.JudgedText.TheVariants.{Described, Fault}
 use Rattle.tsplib.proofs.TextsExact.{accepted_text}
 
