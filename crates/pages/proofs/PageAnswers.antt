@@ -7,14 +7,10 @@ use mathlib.Core.Bool.{Bool, true, false}
 use mathlib.Core.Logic.{◌↔◌}
 use mathlib.Core.List.{List}
 use native.Mathlib.Omega.{arith}
-use lib.Dec.{eqb}
 use lib.ListN.{length}
 use Rattle.lists.specs.Test.{unless}
 use Rattle.lists.proofs.Bools.{never_true}
 use Rattle.endian.specs.Bytes.{whole32}
-use Rattle.lengths.specs.Edge.{edge_count}
-use Rattle.lengths.specs.Instance.{in_range}
-use Rattle.marks.specs.Mark.{are_marks}
 use Rattle.marks.specs.Packed.{marks_of}
 use Rattle.admission.specs.declared.tested.Tested.{Tested}
 use Rattle.admission.specs.declared.tested.Tested.TheVariants as tests

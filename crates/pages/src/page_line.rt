@@ -61,6 +61,7 @@ pub fn mark_read(line: &[u8]) -> u8
 }
 
 // Is the line one of the edge ab? What it says, the length within the limit, is written anew and compared.
+#[tactic(auto, using(crate::proofs::LineTexts::long_line))]
 pub fn is_line(a: u32, b: u32, line: &[u8]) -> bool
     requires { IsLineAsked a b line.now }
     ensures { result ≡ is_line a b line.now }

@@ -8,7 +8,7 @@ use Rattle.pages.proofs.reading.read_page.Goals as goal
 
 pub returns : goal.returns
 returns c =
-    read_done _ _ _ (sym c.test_places-tested.ensures ∙ c.in-Points.is) (paged (sym c.page_of.ensures ∙ c.in-Lines.is)) _ c.wrong_line-wrong.ensures c.if-wrong-lines.false c.if-text-lines.false c.store_lengths.ensures c.store_marks.ensures
+    read_done _ _ _ (sym c.test_places-tested.ensures ∙ c.in-Points.is) (paged (sym c.page_of.ensures ∙ c.in-Lines.is)) _ c.wrong_line-wrong.ensures c.if-wrong-lines.false (omega arith) c.store_lengths.ensures c.store_marks.ensures
 
 pub returns-in-Refused : goal.returns-in-Refused
 returns-in-Refused c = read_tests (sym c.test_places-tested.ensures ∙ c.in-Refused.is)

@@ -1,11 +1,17 @@
 -- `pages::writing::put_lines` meets its contract: `Putting` holds at the loop's head, over the marks that the packed
--- set holds. Assumes nothing.
+-- set holds. What the loop keeps stands first, so that a wrong line is refused there. Assumes nothing.
 use native.Mathlib.Omega.{arith}
 use mathlib.Core.Path.{◌∙◌}
 use Rattle.lengths.proofs.Edges.{edges_few}
 use Rattle.marks.proofs.PackedMarks.{held_inside, held_at}
 use Rattle.pages.proofs.PageLines.{first_asked, put_start, put_inside, put_edge, put_short, put_asked, put_on, put_done}
 use Rattle.pages.proofs.writing.put_lines.Goals as goal
+
+pub loop-i-preserved : goal.loop-i-preserved
+loop-i-preserved c =
+    put_on c.requires c.loop-i.invariant c.loop-i-test.true c.number32-len.ensures
+    (c.mark_at-mark.ensures ∙ held_at _ _ c.requires.marked (put_inside c.requires c.loop-i.invariant c.loop-i-test.true))
+    c.put_line-at.ensures c.following-next.ensures
 
 pub edge_at-start-requires : goal.edge_at-start-requires
 edge_at-start-requires c = first_asked c.requires.part
@@ -35,12 +41,6 @@ put_line-at-requires c =
 pub following-next-requires : goal.following-next-requires
 following-next-requires c =
     (c.requires.part.few, put_edge c.requires c.loop-i.invariant c.loop-i-test.true)
-
-pub loop-i-preserved : goal.loop-i-preserved
-loop-i-preserved c =
-    put_on c.requires c.loop-i.invariant c.loop-i-test.true c.number32-len.ensures
-    (c.mark_at-mark.ensures ∙ held_at _ _ c.requires.marked (put_inside c.requires c.loop-i.invariant c.loop-i-test.true))
-    c.put_line-at.ensures c.following-next.ensures
 
 pub shape_of-text : goal.shape_of-text
 shape_of-text c = c.loop-i.invariant.wrote.kept
