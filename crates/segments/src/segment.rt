@@ -26,6 +26,7 @@ impl Segment {
     }
 
     // Of two ways from u to v the one that leads there: none where both do, as in a closed tour.
+    #[tactic(auto, using(crate::proofs::Ways::keeps_left))]
     fn or_only(self, other: Segment) -> Segment
         requires { Short self × Short other }
         ensures { Keeps (only_way (inner_points self) (inner_points other)) result }
