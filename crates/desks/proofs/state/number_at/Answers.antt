@@ -1,0 +1,14 @@
+-- `desks::state::number_at` meets its contract: the first 50 bytes are whole numbers, and the number there is made of
+-- its two bytes. Assumes nothing.
+use Rattle.desks.proofs.States.{first_bytes, place_inside, number_read}
+use mathlib.Core.Path.{sym}
+use Rattle.desks.proofs.state.number_at.Goals as goal
+
+pub slice_bounds-number16-end : goal.slice_bounds-number16-end
+slice_bounds-number16-end c = sym (first_bytes c.requires)
+
+pub number16-requires : goal.number16-requires
+number16-requires c = place_inside c.requires
+
+pub returns : goal.returns
+returns c = number_read c.requires c.number16.ensures
