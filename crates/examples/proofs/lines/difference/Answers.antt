@@ -1,10 +1,9 @@
 -- `examples::lines::difference` is safe: the difference of two numbers of 40 bits fits 64 with a sign. Assumes nothing.
-use Rattle.std.proofs.Common.{◌≡◌, ℕ, zero, suc, ◌+◌, ◌-◌, ◌^◌, ◌<◌, Bool, true, false, cond, ltb, ℤ, pos, negsuc, ◌-ℤ◌, sym, refl, ap, ◌∙◌, subst, ap₂, arith, w64, SFits, to_z, rules, le-ltb}
+use Rattle.std.proofs.Common.{◌≡◌, ℕ, zero, suc, ◌+◌, ◌-◌, ◌^◌, ◌<◌, Bool, true, false, cond, ltb, ℤ, pos, negsuc, ◌-ℤ◌, sym, refl, ap, ◌∙◌, subst, ap₂, arith, w64, SFits, to_z, le-ltb}
 use lib.IntN.{sub_ℕ}
 use mir.Facts.{to_z_pos}
 use lib.Signed.{mag}
-use Rattle.examples.proofs.lines.difference.Statement.{statement}
-use Rattle.examples.proofs.lines.difference.Tie as tie
+use Rattle.examples.proofs.lines.difference.Goals as goal
 
 sub_pos : (a b : ℕ) → pos a -ℤ pos b ≡ sub_ℕ a b
 sub_pos a zero = let e : a + 0 ≡ a - 0 = omega arith in ap pos e ∙ sym (rw (le-ltb a 0 (omega arith)))
@@ -23,7 +22,5 @@ fits a b h g =
     (sym (ap₂ (λ (x y : ℤ). x -ℤ y) (to_z_pos w64 {n = a} (omega arith)) (to_z_pos w64 {n = b} (omega arith)) ∙ sub_pos a b))
     (record { sfits = omega (arith, small a b h g) })
 
-pub difference-spec : {M : Type 1} → statement M
-difference-spec =
-    tie.close
-    (tie.spec (λ c. search rules) (λ c. search rules) (λ c. fits _ _ c.requires.0 c.requires.1) (λ c. search rules))
+pub overflow_sub-result : goal.overflow_sub-result
+overflow_sub-result c = fits _ _ c.requires.0 c.requires.1
