@@ -10,14 +10,7 @@ use marking::list_between::list_between;
 use marking::mark_between::mark_between;
 
 // Marks a sheet: what is taken out counts low, what is put in counts high.
-#[unsafe(no_mangle)]
-pub extern "C" fn revosti_mark_between(
-    n: u32,
-    low: &[u8],
-    high: &[u8],
-    marks: &mut [u8],
-    sheet: &[u8],
-) -> u64
+pub fn revosti_mark_between(n: u32, low: &[u8], high: &[u8], marks: &mut [u8], sheet: &[u8]) -> u64
     ensures { MarkedBetweenInC n low.now high.now marks.old
         sheet.now result marks.new }
 {
@@ -25,8 +18,7 @@ pub extern "C" fn revosti_mark_between(
 }
 
 // Lists the feasible pairs of K = {ab} at the split point c, 16 bits a point. The list's places are its whole entries.
-#[unsafe(no_mangle)]
-pub extern "C" fn revosti_list_between(
+pub fn revosti_list_between(
     n: u32,
     low: &[u8],
     high: &[u8],

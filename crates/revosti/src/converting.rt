@@ -5,16 +5,14 @@ use crate::outcome::outcome_number;
 use marks::converting::{pack_marks, unpack_marks};
 
 // Packs a byte set, one byte an edge: the refusal number, or 0.
-#[unsafe(no_mangle)]
-pub extern "C" fn revosti_pack_marks(n: u32, bytes: &[u8], packed: &mut [u8]) -> u64
+pub fn revosti_pack_marks(n: u32, bytes: &[u8], packed: &mut [u8]) -> u64
     ensures { PackedInC n bytes.now packed.old result packed.new }
 {
     outcome_number(pack_marks(n, bytes, packed))
 }
 
 // Unpacks a packed set, into one byte an edge: the refusal number, or 0.
-#[unsafe(no_mangle)]
-pub extern "C" fn revosti_unpack_marks(n: u32, packed: &[u8], bytes: &mut [u8]) -> u64
+pub fn revosti_unpack_marks(n: u32, packed: &[u8], bytes: &mut [u8]) -> u64
     ensures { UnpackedInC n packed.now bytes.old result bytes.new }
 {
     outcome_number(unpack_marks(n, packed, bytes))

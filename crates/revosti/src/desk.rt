@@ -71,16 +71,14 @@ fn turned_number(turned: Turned) -> u64
 }
 
 // Opens the desks: the refusal number, or 0.
-#[unsafe(no_mangle)]
-pub extern "C" fn revosti_open_desks(desks: &mut [u8]) -> u64
+pub fn revosti_open_desks(desks: &mut [u8]) -> u64
     ensures { OpenedInC desks.old result desks.new }
 {
     handed_number(open_desks(desks))
 }
 
 // Hands in a sheet at a desk: the refusal number, or 0.
-#[unsafe(no_mangle)]
-pub extern "C" fn revosti_hand_in(
+pub fn revosti_hand_in(
     desks: &mut [u8],
     desk: u32,
     n: u32,
@@ -95,22 +93,14 @@ pub extern "C" fn revosti_hand_in(
 }
 
 // The desk that the next turn serves.
-#[unsafe(no_mangle)]
-pub extern "C" fn revosti_next_desk(desks: &[u8]) -> u64
+pub fn revosti_next_desk(desks: &[u8]) -> u64
     ensures { NextInC desks.now result }
 {
     next_number(next_desk(desks))
 }
 
 // One turn: one line of one desk.
-#[unsafe(no_mangle)]
-pub extern "C" fn revosti_turn(
-    desks: &mut [u8],
-    n: u32,
-    table: &[u8],
-    marks: &mut [u8],
-    sheet: &[u8],
-) -> u64
+pub fn revosti_turn(desks: &mut [u8], n: u32, table: &[u8], marks: &mut [u8], sheet: &[u8]) -> u64
     ensures { TurnedInC desks.old n table.now marks.old sheet.now
         result desks.new marks.new }
 {

@@ -5,8 +5,7 @@ use crate::outcome::outcome_number;
 use marks::fresh::fresh_marks;
 
 // Makes the marks of n points fresh: the refusal number, or 0.
-#[unsafe(no_mangle)]
-pub extern "C" fn revosti_fresh_marks(n: u32, marks: &mut [u8]) -> u64
+pub fn revosti_fresh_marks(n: u32, marks: &mut [u8]) -> u64
     ensures { FreshInC n marks.old result marks.new }
 {
     outcome_number(fresh_marks(n, marks))

@@ -17,8 +17,7 @@ pub fn listed_number(listed: Listed) -> u64
 }
 
 // Lists the feasible pairs of K = {ab} at the split point c, 16 bits a point. The list's places are its whole entries.
-#[unsafe(no_mangle)]
-pub extern "C" fn revosti_list_pairs(
+pub fn revosti_list_pairs(
     n: u32,
     table: &[u8],
     marks: &[u8],

@@ -30,16 +30,14 @@ pub fn marked_number(verdict: Verdict) -> u64
 }
 
 // Marks a sheet. The table has 32 bits an edge, the sheet 16 bits a number.
-#[unsafe(no_mangle)]
-pub extern "C" fn revosti_mark_sheet(n: u32, table: &[u8], marks: &mut [u8], sheet: &[u8]) -> u64
+pub fn revosti_mark_sheet(n: u32, table: &[u8], marks: &mut [u8], sheet: &[u8]) -> u64
     ensures { MarkedInC struck_mark n table.now marks.old sheet.now result marks.new }
 {
     marked_number(mark_sheet(n, table, marks, sheet))
 }
 
 // Asks a sheet: as marking, with its strikes pending.
-#[unsafe(no_mangle)]
-pub extern "C" fn revosti_ask_sheet(n: u32, table: &[u8], marks: &mut [u8], sheet: &[u8]) -> u64
+pub fn revosti_ask_sheet(n: u32, table: &[u8], marks: &mut [u8], sheet: &[u8]) -> u64
     ensures { MarkedInC pending_mark n table.now marks.old sheet.now result marks.new }
 {
     marked_number(ask_sheet(n, table, marks, sheet))

@@ -28,14 +28,7 @@ fn page_read_number(read: PageRead) -> u64
 }
 
 // Writes a page of the wall list to the front of the text.
-#[unsafe(no_mangle)]
-pub extern "C" fn revosti_write_page(
-    n: u32,
-    table: &[u8],
-    marks: &[u8],
-    page: u32,
-    text: &mut [u8],
-) -> u64
+pub fn revosti_write_page(n: u32, table: &[u8], marks: &[u8], page: u32, text: &mut [u8]) -> u64
     ensures { WrittenInC n (whole32 table.now) (marks_of n marks.now) page
         text.old result text.new }
 {
@@ -43,14 +36,7 @@ pub extern "C" fn revosti_write_page(
 }
 
 // Reads a page of the wall list into the table and the marks.
-#[unsafe(no_mangle)]
-pub extern "C" fn revosti_read_page(
-    n: u32,
-    page: u32,
-    text: &[u8],
-    table: &mut [u8],
-    marks: &mut [u8],
-) -> u64
+pub fn revosti_read_page(n: u32, page: u32, text: &[u8], table: &mut [u8], marks: &mut [u8]) -> u64
     ensures { PageReadInC n page text.now table.old marks.old result
         table.new marks.new }
 {

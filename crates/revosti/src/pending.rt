@@ -6,16 +6,14 @@ use crate::outcome::outcome_number;
 use marks::pending::{confirm, withdraw};
 
 // Strikes every pending edge: the refusal number, or 0.
-#[unsafe(no_mangle)]
-pub extern "C" fn revosti_confirm(n: u32, marks: &mut [u8]) -> u64
+pub fn revosti_confirm(n: u32, marks: &mut [u8]) -> u64
     ensures { ResolvedInC struck_mark n marks.old result marks.new }
 {
     outcome_number(confirm(n, marks))
 }
 
 // Opens every pending edge again: the refusal number, or 0.
-#[unsafe(no_mangle)]
-pub extern "C" fn revosti_withdraw(n: u32, marks: &mut [u8]) -> u64
+pub fn revosti_withdraw(n: u32, marks: &mut [u8]) -> u64
     ensures { ResolvedInC open_mark n marks.old result marks.new }
 {
     outcome_number(withdraw(n, marks))

@@ -15,16 +15,14 @@ fn read_number(read: Read) -> u64
 }
 
 // Reads a TSPLIB text into the table, 32 bits an edge.
-#[unsafe(no_mangle)]
-pub extern "C" fn revosti_read_tsplib(text: &[u8], table: &mut [u8]) -> u64
+pub fn revosti_read_tsplib(text: &[u8], table: &mut [u8]) -> u64
     ensures { ReadInC text.now table.old result table.new }
 {
     read_number(read_tsplib(text, table))
 }
 
 // How many points a TSPLIB text has.
-#[unsafe(no_mangle)]
-pub extern "C" fn revosti_tsplib_points(text: &[u8]) -> u64
+pub fn revosti_tsplib_points(text: &[u8]) -> u64
     ensures { result ≡ points_in_c text.now }
 {
     read_number(tsplib_points(text))

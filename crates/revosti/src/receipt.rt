@@ -38,24 +38,21 @@ fn receipt_number(receipt: Receipt) -> u64
 }
 
 // The slip, released; every other bit stays.
-#[unsafe(no_mangle)]
-pub extern "C" fn revosti_release(receipt: u64) -> u64
+pub fn revosti_release(receipt: u64) -> u64
     ensures { result ≡ release_in_c receipt }
 {
     receipt_number(release(receipt_in(receipt))) + ABOVE * (receipt / ABOVE)
 }
 
 // Writes what the examiner sees, six bytes: the refusal number, or 0.
-#[unsafe(no_mangle)]
-pub extern "C" fn revosti_examiner_view(receipt: u64, bytes: &mut [u8]) -> u64
+pub fn revosti_examiner_view(receipt: u64, bytes: &mut [u8]) -> u64
     ensures { ViewedInC (examiner_view (receipt_in receipt)) bytes.old result bytes.new }
 {
     outcome_number(examiner_view(receipt_in(receipt), bytes))
 }
 
 // Writes what the candidate sees, six bytes: the refusal number, or 0.
-#[unsafe(no_mangle)]
-pub extern "C" fn revosti_candidate_view(receipt: u64, bytes: &mut [u8]) -> u64
+pub fn revosti_candidate_view(receipt: u64, bytes: &mut [u8]) -> u64
     ensures { ViewedInC (candidate_view (receipt_in receipt)) bytes.old result bytes.new }
 {
     outcome_number(candidate_view(receipt_in(receipt), bytes))

@@ -25,39 +25,21 @@ fn saved_number(saved: Saved) -> i64
 }
 
 // The saving of exchanging the edges pq and xy.
-#[unsafe(no_mangle)]
-pub extern "C" fn revosti_exchange_saving(
-    n: u32,
-    table: &[u8],
-    p: u16,
-    q: u16,
-    x: u16,
-    y: u16,
-) -> i64
+pub fn revosti_exchange_saving(n: u32, table: &[u8], p: u16, q: u16, x: u16, y: u16) -> i64
     ensures { result ≡ saved_number (exchange_saved n (whole32 table.now) p q x y) }
 {
     saved_number(saved_by_exchange(n, table, p, q, x, y))
 }
 
 // The saving of moving the point c from between x and y to between u and v.
-#[unsafe(no_mangle)]
-pub extern "C" fn revosti_move_saving(
-    n: u32,
-    table: &[u8],
-    c: u16,
-    x: u16,
-    y: u16,
-    u: u16,
-    v: u16,
-) -> i64
+pub fn revosti_move_saving(n: u32, table: &[u8], c: u16, x: u16, y: u16, u: u16, v: u16) -> i64
     ensures { result ≡ saved_number (move_saved n (whole32 table.now) c x y u v) }
 {
     saved_number(saved_by_move(n, table, c, x, y, u, v))
 }
 
 // The saving of a crossing of the edge pq with the centres r and s, x and y the other ends of r, z and w those of s.
-#[unsafe(no_mangle)]
-pub extern "C" fn revosti_crossing_saving(
+pub fn revosti_crossing_saving(
     n: u32,
     table: &[u8],
     p: u16,

@@ -17,8 +17,7 @@ fn telling_number(telling: Telling) -> u64
 }
 
 // Tells the line that a record of the sheet is, to the front of the text.
-#[unsafe(no_mangle)]
-pub extern "C" fn revosti_tell_line(
+pub fn revosti_tell_line(
     n: u32,
     table: &[u8],
     marks: &[u8],

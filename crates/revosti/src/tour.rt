@@ -22,8 +22,7 @@ fn checked_number(checked: Checked) -> u64
 }
 
 // Checks a tour. The table has 32 bits an edge, the tour 16 bits a point.
-#[unsafe(no_mangle)]
-pub extern "C" fn revosti_check_tour(n: u32, table: &[u8], marks: &[u8], tour: &[u8]) -> u64
+pub fn revosti_check_tour(n: u32, table: &[u8], marks: &[u8], tour: &[u8]) -> u64
     ensures { result ≡ tour_in_c n table.now marks.now tour.now }
 {
     checked_number(check_tour(n, table, marks, tour))
