@@ -1,15 +1,19 @@
 -- The savings of a 3-opt closing, as 01's inequalities: a labelling saves exactly when both moves shorten, and the best
 -- of the four saves exactly when one does. Assumes nothing.
-use Prim.Native.Nat.{ℕ, ◌+◌, ◌<◌}
-use mathlib.Core.Path.{◌≡◌, sym, ◌∙◌, ap, ap₂}
+use Prim.Native.Nat.{ℕ, ◌+◌, ◌^◌, ◌<◌}
+use mathlib.Core.Path.{◌≡◌, refl, sym, ◌∙◌, ap, ap₂}
 use mathlib.Core.Bool.{Bool, true, false, ◌&&◌, ◌||◌}
 use mathlib.Core.Logic.{◌↔◌}
 use lib.Dec.{ltb}
-use lib.IntN.{ℤ}
+use lib.IntN.{ℤ, pos, sub_ℕ}
+use lib.Signed.{mag, lt_z}
+use mir.Syntax.{w64}
+use mir.Val.{to_z, of_z}
 use borrow.Author.Tests.{ltb-true, lt-ltb}
 use Rattle.lengths.specs.Saving.{saving, gains?, smaller, larger}
 use Rattle.lists.proofs.Bools.{and_left, and_right, and_both, and_stop, and_go}
-use Rattle.lengths.proofs.Savings.{gains_iff, gains_smaller, gains_larger}
+use Rattle.lengths.proofs.SignedSavings.{kept}
+use Rattle.lengths.proofs.Savings.{gains_above, gains_iff, gains_smaller, gains_larger}
 use Rattle.closings.specs.Closing.{first_saving, second_saving, label_saving, three_opt_saving, Saves}
 use Rattle.closings.specs.ClosingTest.{saves?, labelling?}
 
@@ -42,7 +46,7 @@ module _ (out put : ℕ → ℕ → ℕ) (p q r s x y z w : ℕ) where
 pub first_made : (out put : ℕ → ℕ → ℕ) (p q r s x w : ℕ) {a b : ℕ} {f : ℤ}
     → a ≡ out p q + out r x + out s w
     → b ≡ put r s + put p x + put q w
-    → f ≡ saving a b
+    → f ≡ sub_ℕ a b
     → f ≡ first_saving out put p q r s x w
 unfolding first_saving
 first_made out put p q r s x w ea eb ef = ef ∙ ap₂ (λ (u v : ℕ). saving u v) ea eb
@@ -50,7 +54,7 @@ first_made out put p q r s x w ea eb ef = ef ∙ ap₂ (λ (u v : ℕ). saving u
 pub second_made : (out put : ℕ → ℕ → ℕ) (p q r s y z : ℕ) {a b : ℕ} {f : ℤ}
     → a ≡ out p q + out r y + out s z
     → b ≡ put r s + put p z + put q y
-    → f ≡ saving a b
+    → f ≡ sub_ℕ a b
     → f ≡ second_saving out put p q r s y z
 unfolding second_saving
 second_made out put p q r s y z ea eb ef = ef ∙ ap₂ (λ (u v : ℕ). saving u v) ea eb
@@ -90,6 +94,15 @@ module _ (out put : ℕ → ℕ → ℕ) (p q r s x y z w : ℕ) where
   pub first_fails : {f : ℤ} → f ≡ first_saving out put p q r s x w → gains? f ≡ false → false ≡ saves? out put p q r s x y z w
   unfolding saves?
   first_fails ef h = and_stop _ (sym (first_test out put p q r s x y z w) ∙ sym (ap gains? ef) ∙ h)
+
+-- as the code tests a saving that it made of two sums
+pub made_tested : (a b : ℕ) → mag (sub_ℕ a b) < 2 ^ 63 → lt_z (pos 0) (to_z w64 (of_z w64 (sub_ℕ a b))) ≡ ltb b a
+made_tested a b h = gains_above _ ∙ ap gains? (kept h) ∙ gains_iff a b
+
+pub both_sums : (out put : ℕ → ℕ → ℕ) (p q r s x y z w : ℕ)
+    → saves? out put p q r s x y z w ≡ ltb (put r s + put p x + put q w) (out p q + out r x + out s w) && ltb (put r s + put p z + put q y) (out p q + out r y + out s z)
+unfolding saves?
+both_sums out put p q r s x y z w = refl
 
 -- the best of four labellings is above 0 exactly when one saves
 pub three_opt_test : (out put : ℕ → ℕ → ℕ) (p q r s x y z w : ℕ) → gains? (three_opt_saving out put p q r s x y z w) ≡ labelling? out put p q r s x y z w

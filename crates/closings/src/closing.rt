@@ -22,6 +22,7 @@ pub enum ThreeOptOutcome {
 
 // Do both moves save by this labelling, rs, px, qw for pq, rx, sw, and rs, pz, qy for pq, ry, sz? The second is looked
 // at where the first does.
+#[tactic(auto, using(crate::proofs::Savings::made_tested, crate::proofs::Savings::both_sums))]
 fn both_moves_save(
     n: u16,
     out: &[u8],
