@@ -46,7 +46,7 @@ module _ (out put : ℕ → ℕ → ℕ) (p q r s x y z w : ℕ) where
 pub first_made : (out put : ℕ → ℕ → ℕ) (p q r s x w : ℕ) {a b : ℕ} {f : ℤ}
     → a ≡ out p q + out r x + out s w
     → b ≡ put r s + put p x + put q w
-    → f ≡ sub_ℕ a b
+    → f ≡ saving a b
     → f ≡ first_saving out put p q r s x w
 unfolding first_saving
 first_made out put p q r s x w ea eb ef = ef ∙ ap₂ (λ (u v : ℕ). saving u v) ea eb
@@ -54,7 +54,7 @@ first_made out put p q r s x w ea eb ef = ef ∙ ap₂ (λ (u v : ℕ). saving u
 pub second_made : (out put : ℕ → ℕ → ℕ) (p q r s y z : ℕ) {a b : ℕ} {f : ℤ}
     → a ≡ out p q + out r y + out s z
     → b ≡ put r s + put p z + put q y
-    → f ≡ sub_ℕ a b
+    → f ≡ saving a b
     → f ≡ second_saving out put p q r s y z
 unfolding second_saving
 second_made out put p q r s y z ea eb ef = ef ∙ ap₂ (λ (u v : ℕ). saving u v) ea eb
