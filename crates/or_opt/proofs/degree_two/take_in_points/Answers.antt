@@ -15,9 +15,9 @@ take_in_with-requires c = taking_asks c.loop-i.invariant c.loop-i-test.true
 
 pub loop-i-preserved : goal.loop-i-preserved
 loop-i-preserved c = elim c.if-not-has.branch [
-    then-not-has w ↦ taking_on c.loop-i.invariant c.loop-i-test.true w.take_in_with.ensures w.legs-is
+  | then-not-has w ↦ taking_on c.loop-i.invariant c.loop-i-test.true w.take_in_with.ensures w.legs-is
   | else-not-has w ↦ taking_again c.loop-i.invariant c.loop-i-test.true c.has.ensures w.if-not-has.false w.legs-is
-  ]
+]
 
 pub returns : goal.returns
 returns c = taking_end c.loop-i.invariant c.loop-i-test.false
