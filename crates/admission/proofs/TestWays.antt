@@ -4,12 +4,11 @@ use mathlib.Core.Path.{◌≡◌, refl, sym, ◌∙◌, ap}
 use mathlib.Core.Bool.{Bool, true, false}
 use mathlib.Core.List.{List, ◌++◌}
 use native.Mathlib.Omega.{arith}
-use lib.Dec.{eqb}
 use lib.ListN.{length}
 use borrow.Author.Tests.{eq-eqb, ne_eqb, eqb-true}
 use Rattle.lists.specs.Test.{unless}
 use Rattle.lengths.specs.Edge.{edge_count}
-use Rattle.lengths.specs.Instance.{in_range, admission}
+use Rattle.lengths.specs.Instance.{admission}
 use Rattle.lengths.specs.declared.instance.Admission.TheVariants.{OutOfRange}
 use Rattle.lengths.specs.declared.instance.Instance.{Instance}
 use Rattle.lengths.proofs.Instances.{Admits, out_of_range}
@@ -19,7 +18,7 @@ use Rattle.marks.specs.asks.Packed.{SetWithin}
 use Rattle.marks.proofs.PackedSets.{marks_are, marks_none, marks_size, points_edges}
 use Rattle.marks.proofs.Resolving.{within_held}
 use Rattle.admission.specs.Tested.{Test, first_failing, until, point_tests, size_tests, length_tests, order_tests, mark_tests, pending_tests}
-use Rattle.admission.specs.Tests.{place_tests, tested_table, tested, places_tested, tested_intervals}
+use Rattle.admission.specs.Tests.{place_tests, tested_table, tested_intervals}
 use Rattle.admission.specs.asks.Tested.{InOrder, HasEdges, Packed}
 use Rattle.admission.specs.declared.tested.Tested.{Tested}
 use Rattle.admission.specs.declared.tested.Tested.TheVariants.{Points, Refused}

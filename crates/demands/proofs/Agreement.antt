@@ -23,7 +23,7 @@ use Rattle.admission.specs.declared.tested.Tested.{Tested}
 use Rattle.admission.specs.declared.tested.Tested.TheVariants.{Points, Refused}
 use Rattle.revosti.specs.Between.{mark_between_in_c}
 use Rattle.revosti.specs.Mark.{mark_in_c}
-use Rattle.demands.specs.Run.{Call, Step, marking, marking-between, one_table, stepped, steps_of, run}
+use Rattle.demands.specs.Run.{Call, marking, marking-between, one_table, steps_of, run}
 
 module _ (n : ℕ) (table marks : List ℕ) where
   -- the tests: 2 and 5 made a second time refuse nothing more, and 25 refuses nothing

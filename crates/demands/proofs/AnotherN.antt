@@ -11,12 +11,12 @@ use mathlib.Core.List.{List}
 use native.Mathlib.Omega.{arith}
 use lib.Dec.{eqb}
 use lib.ListN.{length}
-use borrow.Author.Tests.{ne_eqb, eqb-true}
+use borrow.Author.Tests.{ne_eqb}
 use Rattle.endian.specs.Bytes.{whole32}
 use Rattle.lengths.specs.Edge.{edge_count}
 use Rattle.lengths.specs.Instance.{least_points, in_range, most_length}
 use Rattle.lists.specs.Test.{all_at_most, each_at_most, unless}
-use Rattle.marks.specs.Mark.{struck_mark, are_marks}
+use Rattle.marks.specs.Mark.{struck_mark}
 use Rattle.marks.specs.Packed.{marks_of}
 use Rattle.marks.proofs.PackedSets.{repacked_same}
 use Rattle.argument.specs.Sheet.{Result}

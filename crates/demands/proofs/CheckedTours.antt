@@ -12,19 +12,17 @@ use mathlib.Core.List.{List}
 use native.Mathlib.Decide.{ℕ_discrete}
 use native.Mathlib.Omega.{arith}
 use lib.Dec.{eqb, leb}
-use lib.ListN.{length}
-use borrow.Author.Tests.{eqb-false, ne_eqb, leb-true, le-leb}
+use borrow.Author.Tests.{eqb-false, leb-true}
 use Rattle.endian.specs.Bytes.{whole16, whole32}
-use Rattle.lengths.specs.Edge.{edge_count, place}
-use Rattle.lengths.specs.Instance.{in_range, most_length}
+use Rattle.lengths.specs.Edge.{place}
 use Rattle.lengths.specs.Table.{length_of}
-use Rattle.lists.specs.Test.{all_at_most, unless}
-use Rattle.lists.proofs.Bools.{and_left, and_right, and_both, never_true}
+use Rattle.lists.specs.Test.{unless}
+use Rattle.lists.proofs.Bools.{and_left, and_right}
 use Rattle.sets.specs.EdgeSet.{closed_edges}
-use Rattle.marks.specs.Mark.{struck_mark, open_mark, pending_mark, mark_at, are_marks, opens, open_up_to, unstruck_in}
+use Rattle.marks.specs.Mark.{struck_mark, open_mark, pending_mark, mark_at, opens, open_up_to, unstruck_in}
 use Rattle.marks.specs.Packed.{marks_of}
 use Rattle.rules.specs.PairTest.{every}
-use Rattle.tours.specs.Tour.{Tour, Uses, tour_length}
+use Rattle.tours.specs.Tour.{Tour, tour_length}
 use Rattle.admission.specs.Tests.{tested}
 use Rattle.tour_check.specs.Tour.{is_tour, check_tested, tour_checked}
 use Rattle.admission.specs.declared.tested.Tested.{Tested}

@@ -1,7 +1,7 @@
 -- DEMAND 2 for sheets, of the functions for C: what `revosti_mark_sheet`, `revosti_ask_sheet` and
 -- `revosti_mark_between` answer, leave and change, by 01's rules alone, from their contracts (`MarkedInC`,
 -- `MarkedBetweenInC`). Refusal, record and lines are read from the answer's bits (`receipt_in`). Assumes nothing.
-use Prim.Native.Nat.{ℕ, ◌+◌, ◌*◌, ◌≤◌}
+use Prim.Native.Nat.{ℕ, ◌*◌, ◌≤◌}
 use mathlib.Core.Path.{◌≡◌, refl, sym, ◌∙◌, ap, subst}
 use mathlib.Core.Logic.{◌↔◌}
 use mathlib.Core.List.{List}
@@ -20,7 +20,7 @@ use Rattle.marking.specs.Mark.{packed_result}
 use Rattle.receipts.specs.Receipt.{new_receipt, receipt_of}
 use Rattle.receipts.specs.declared.receipt.Receipt.{Receipt}
 use Rattle.revosti.specs.Between.{mark_between_in_c, MarkedBetweenInC}
-use Rattle.revosti.specs.Mark.{verdict_number, result_number, mark_in_c, MarkedInC}
+use Rattle.revosti.specs.Mark.{result_number, mark_in_c, MarkedInC}
 use Rattle.revosti.specs.Receipt.{receipt_in}
 use Rattle.demands.specs.Marked.{Passes, PassesBetween, struck_edges, Changes, AnswersPacked, AnswersInC}
 use Rattle.demands.specs.SheetAnswer.{SheetAnswer, of_marking, of_between}

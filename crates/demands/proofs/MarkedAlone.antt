@@ -8,30 +8,21 @@ use mathlib.Core.List.{List}
 use native.Mathlib.Omega.{arith}
 use lib.Dec.{eqb, ltb}
 use lib.ListN.{length, set}
-use Rattle.lists.specs.Test.{all_at_most, unless}
-use Rattle.lists.proofs.Tests.{answered}
+use Rattle.lists.specs.Test.{unless}
 use Rattle.endian.specs.Bytes.{whole16, whole32}
-use Rattle.lengths.specs.Edge.{edge_count, place}
-use Rattle.lengths.specs.Instance.{in_range, most_length}
-use Rattle.marks.specs.Mark.{struck_mark, are_marks, none_pending}
+use Rattle.marks.specs.Mark.{struck_mark}
 use Rattle.marks.specs.Packed.{marks_of}
 use Rattle.argument.specs.Verdict.{refused}
-use Rattle.argument.specs.Sheet.{answer}
 use Rattle.sheets.specs.Sheet.{whole_sheet}
-use Rattle.sheets.specs.declared.verdict.Verdict as declared
-use Rattle.sheets.specs.declared.verdict.Verdict.TheVariants as verdict
-use Rattle.admission.specs.Tests.{tested, until_pending, ready}
+use Rattle.admission.specs.Tests.{ready}
 use Rattle.admission.specs.declared.tested.Tested.{Tested}
 use Rattle.admission.specs.declared.tested.Tested.TheVariants as tests
-use Rattle.admission.proofs.Passed.{passed}
 use Rattle.desks.specs.HandIn.{is_desk, until_sheet, tested_sheet, hand_in_answer, hand_in_by, hand_in_left}
 use Rattle.desks.specs.State.{state_bytes, lent, next_index, owner, lines_at, set_desk, has_line, next_desk}
 use Rattle.desks.specs.declared.handing.Handed.{Handed}
 use Rattle.desks.specs.declared.handing.Handed.TheVariants as handed
 use Rattle.desks.specs.declared.state.Next.{Next}
 use Rattle.desks.specs.declared.state.Next.TheVariants as next
-use Rattle.desks.specs.declared.turn.Served.TheVariants as served
-use Rattle.desks.specs.declared.turn.Turned.TheVariants as turned
 use Rattle.desks.proofs.DeskNumbers.{desk_length, desk_other, apart, served_length, served_other}
 use Rattle.desks.proofs.RoundRobin.{next_found}
 use Rattle.revosti.specs.Desk.{handed_number, desk_bit}

@@ -3,7 +3,7 @@
 -- and there, changes nothing. Assumes nothing.
 use Prim.Native.Nat.{ℕ, suc, ◌≤◌, ◌<◌}
 use mathlib.Core.Path.{◌≡◌, refl, sym, ◌∙◌, ap, subst}
-use mathlib.Core.Bool.{Bool, true, false, true≢false}
+use mathlib.Core.Bool.{Bool, true, false}
 use mathlib.Core.Logic.{⊎_elim}
 use mathlib.Core.List.{List, []}
 use native.Mathlib.Omega.{arith}
@@ -19,7 +19,7 @@ use Rattle.lists.specs.Test.{all_at_most, each_at_most, unless}
 use Rattle.marks.specs.Converting.{is_byte_set, pack_answer, pack_left, unpack_answer, unpack_left}
 use Rattle.lengths.specs.declared.outcome.Outcome.{Outcome}
 use Rattle.lengths.specs.declared.outcome.Outcome.TheVariants as outcome
-use Rattle.marks.specs.Mark.{struck_mark, are_marks}
+use Rattle.marks.specs.Mark.{struck_mark}
 use Rattle.marks.specs.Fresh.{fresh_answer, fresh_set_answer, fresh_left, fresh_set_left}
 use Rattle.marks.specs.Packed.{ByteSet, packed_bytes, packed_size, packed, well_packed, marks_of, repacked}
 use Rattle.marks.specs.Pending.{resolved_answer, resolved_left, resolved_set_answer, resolved_set}

@@ -7,7 +7,6 @@ use mathlib.Core.Bool.{true}
 use mathlib.Core.Logic.{inl, inr}
 use mathlib.Core.List.{List, [], ◌∷◌}
 use native.Mathlib.Omega.{arith}
-use lib.ListN.{length}
 use Rattle.lengths.specs.Edge.{Point, Edge, edge, IsEdge}
 use Rattle.lengths.specs.Instance.{least_points}
 use Rattle.lengths.specs.Table.{length_of}

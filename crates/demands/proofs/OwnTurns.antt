@@ -7,15 +7,12 @@ use mathlib.Core.Logic.{◌⊎◌, inl, inr}
 use mathlib.Core.List.{List, [], ◌∷◌, ◌++◌}
 use native.Mathlib.Decide.{dec_le, ℕ_discrete}
 use native.Mathlib.Omega.{arith}
-use lib.Dec.{eqb}
 use lib.ListN.{length, get_or, set, length-set}
 use lib.Seq.{get_or-set_same, get_or-set_other}
 use borrow.Author.Tests.{eq-eqb, lt-ltb, le-ltb}
-use Rattle.lists.specs.Test.{all_at_most}
 use Rattle.lists.proofs.Tests.{answered}
 use Rattle.endian.specs.Bytes.{whole16, whole32}
 use Rattle.lengths.specs.Edge.{edge_count, place}
-use Rattle.lengths.specs.Instance.{in_range, most_length}
 use Rattle.lengths.proofs.AtMostTests.{at_most_each, at_most_all}
 use Rattle.marks.specs.Mark.{struck_mark, open_mark, none_pending, set_mark, mark_in}
 use Rattle.marks.specs.Packed.{ByteSet, packed, well_packed, marks_of, repacked}
@@ -57,9 +54,8 @@ use Rattle.desks.proofs.DeskNumbers.{desk_length, desk_index, desk_owner, desk_l
 use Rattle.desks.proofs.TurnAnswers.{ahead_ends, ahead_8, ahead_9, ahead_waits}
 use Rattle.revosti.specs.Desk.{desk_bit, line_left_bit, served_number, turn_in_c, turned_number}
 use Rattle.revosti.specs.Mark.{result_number, mark_in_c}
-use Rattle.demands.specs.Desks.{Seen, served, EndedAlone}
+use Rattle.demands.specs.Desks.{Seen, EndedAlone}
 use Rattle.demands.proofs.Fair.{found_asked, turn-of, refused}
-use Rattle.demands.proofs.Fair as fair
 use Rattle.demands.proofs.Lawful.{lawful_between}
 
 -- the tests of a sheet

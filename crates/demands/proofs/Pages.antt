@@ -2,17 +2,17 @@
 -- and 27 with its line exactly for what is no such page; and what `revosti_write_page` writes it reads again, a page
 -- and all pages. From the contracts alone. Assumes nothing.
 use Prim.Native.Nat.{ℕ, zero, suc, ◌+◌, ◌*◌, ◌/◌, ◌≤◌, ◌<◌}
-use mathlib.Core.Path.{◌≡◌, refl, sym, ◌∙◌, ap, ap₂, subst}
+use mathlib.Core.Path.{◌≡◌, refl, sym, ◌∙◌, ap, ap₂}
 use mathlib.Core.Bool.{Bool, true, false}
 use mathlib.Core.Logic.{◌↔◌}
-use mathlib.Core.List.{List, ◌++◌}
+use mathlib.Core.List.{List}
 use native.Mathlib.Omega.{arith}
 use lib.Dec.{leb}
 use lib.ListN.{length, take, drop}
 use lib.Seq.{take_at}
 use Rattle.lists.specs.Test.{unless}
 use Rattle.endian.specs.Bytes.{whole32}
-use Rattle.marks.specs.Packed.{packed, marks_of}
+use Rattle.marks.specs.Packed.{marks_of}
 use Rattle.marks.proofs.PackedSets.{whole_well, packed_marks}
 use Rattle.admission.specs.Tests.{tested}
 use Rattle.admission.specs.declared.tested.Tested.{Tested}

@@ -11,23 +11,20 @@ use native.Mathlib.Omega.{arith}
 use lib.Dec.{eqb}
 use lib.ListN.{length}
 use borrow.Author.Tests.{ne_eqb}
-use Rattle.lists.specs.Test.{all_at_most, each_at_most, unless}
-use Rattle.lengths.specs.Edge.{edge_count}
-use Rattle.lengths.specs.Instance.{in_range, most_length}
+use Rattle.lists.specs.Test.{unless}
 use Rattle.endian.specs.Bytes.{whole16, whole32}
-use Rattle.marks.specs.Mark.{struck_mark, are_marks, none_pending}
+use Rattle.marks.specs.Mark.{struck_mark}
 use Rattle.marks.specs.Packed.{marks_of}
 use Rattle.argument.specs.Verdict.{Verdict, accepted, refused}
 use Rattle.argument.specs.Record.{records}
 use Rattle.argument.specs.Sheet.{Marking, Place, LineStep, over, onward, struck, line_step, Result, answer, proceed, lines_by, lines_from, start, sheet}
 use Rattle.argument.specs.Line.{Struck, strikes}
-use Rattle.argument.proofs.Sheet.{LineMarked, step_says}
+use Rattle.argument.proofs.Sheet.{step_says}
 use Rattle.argument.proofs.Verdicts.{refused_accepted}
 use Rattle.sheets.specs.Rules.{marking_between}
 use Rattle.sheets.specs.Sheet.{whole_sheet}
 use Rattle.sheets.proofs.Records.{sheet_records}
-use Rattle.admission.proofs.Deciding.{not_points}
-use Rattle.admission.specs.Tests.{tested_intervals, until_marks, tested_between, ready_between, tested, until_pending, ready}
+use Rattle.admission.specs.Tests.{ready_between, tested, ready}
 use Rattle.marking.specs.MarkBetween.{mark_between, mark_between_packed}
 use Rattle.marking.specs.Mark.{turned_down, mark_tested, mark_by, mark_packed_by}
 use Rattle.admission.specs.declared.tested.Tested.{Tested}

@@ -3,13 +3,12 @@
 -- language says which rule a name is (`Names`); the text gets the answer of *measure* for its coordinates
 -- (`read_inside`), and *measure* leaves the rule's distances (`demand_2_measure`). Weights within the limit are read
 -- again from their bytes. Assumes nothing.
-use Prim.Native.Nat.{ℕ, ◌+◌, ◌*◌, ◌%◌, ◌^◌, ◌≤◌, ◌<◌}
-use mathlib.Core.Path.{◌≡◌, refl, sym, ◌∙◌, ap, subst}
-use mathlib.Core.Bool.{Bool, true, false}
+use Prim.Native.Nat.{ℕ, ◌*◌, ◌%◌}
+use mathlib.Core.Path.{◌≡◌, refl, sym, ◌∙◌, ap}
 use mathlib.Core.List.{List}
 use native.Mathlib.Omega.{arith}
 use lib.Dec.{eqb}
-use lib.ListN.{length, get_or}
+use lib.ListN.{length}
 use Rattle.endian.specs.Bytes.{whole32}
 use Rattle.endian.proofs.Writing.{read_again32}
 use Rattle.lengths.specs.Edge.{edge_count}
@@ -18,7 +17,7 @@ use Rattle.lengths.specs.Measure.{measured, table_after}
 use Rattle.lengths.specs.declared.outcome.Outcome.{Outcome}
 use Rattle.lengths.specs.declared.outcome.Outcome.TheVariants as measuring
 use Rattle.lengths.proofs.AtMostTests.{at_most_each}
-use Rattle.lists.specs.Test.{all_at_most, unless}
+use Rattle.lists.specs.Test.{all_at_most}
 use Rattle.lists.proofs.Tests.{answered}
 use Rattle.tsplib_lines.specs.declared.text_line.Weighing.TheVariants.{Explicit, Rule}
 use Rattle.tsplib.specs.Language.{Tsplib}
@@ -26,7 +25,7 @@ use Rattle.tsplib.specs.Reading.{of_measured, of_weights, filled_with, ReadAs, a
 use Rattle.tsplib.specs.declared.reading.Read.{Read}
 use Rattle.tsplib.specs.declared.reading.Read.TheVariants.{Points, Refused}
 use Rattle.tsplib.proofs.Reader.{read_inside}
-use Rattle.revosti.specs.Reading.{read_number, ReadInC}
+use Rattle.revosti.specs.Reading.{ReadInC}
 use Rattle.revosti.proofs.ReadAnswers.{read_told}
 use Rattle.demands.specs.Measured.{Measures}
 use Rattle.demands.proofs.Measured.{demand_2_measure}

@@ -8,7 +8,7 @@ use native.Mathlib.Omega.{arith}
 use Rattle.endian.specs.Bytes.{whole16, whole32}
 use Rattle.marks.specs.Mark.{struck_mark}
 use Rattle.marks.specs.Packed.{marks_of, repacked}
-use Rattle.marks.specs.Pending.{resolved_answer, resolved_left, resolved_set_answer, resolved_set}
+use Rattle.marks.specs.Pending.{resolved_left, resolved_set_answer, resolved_set}
 use Rattle.lengths.specs.declared.outcome.Outcome.{Outcome}
 use Rattle.lengths.specs.declared.outcome.Outcome.TheVariants.{Done, Refused}
 use Rattle.marks.proofs.PackedSets.{repacked_same}
@@ -17,7 +17,7 @@ use Rattle.marking.specs.MarkBetween.{mark_between, mark_between_packed}
 use Rattle.admission.specs.Tests.{ready_between, ready}
 use Rattle.marking.specs.Mark.{mark_by, mark_packed_by}
 use Rattle.revosti.specs.Between.{MarkedBetweenInC, mark_between_in_c}
-use Rattle.revosti.specs.Mark.{verdict_number, result_number, MarkedInC, mark_in_c}
+use Rattle.revosti.specs.Mark.{result_number, MarkedInC, mark_in_c}
 use Rattle.revosti.specs.Outcome.{outcome_number}
 use Rattle.revosti.specs.Pending.{ResolvedInC}
 use Rattle.demands.proofs.SheetLines.{tested_unmarked}

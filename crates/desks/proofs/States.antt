@@ -13,7 +13,7 @@ use borrow.Author.Tests.{eq-eqb}
 use Rattle.endian.specs.Bytes.{whole16, little_endian}
 use Rattle.endian.specs.asks.Bytes.{Put}
 use Rattle.endian.proofs.Reading.{bytes_of16, whole_count16}
-use Rattle.desks.specs.State.{state_bytes, number_at, set_number, owner, set_desk}
+use Rattle.desks.specs.State.{state_bytes, number_at, set_number, set_desk}
 use Rattle.desks.specs.asks.State.{PlaceAsked, SetAs}
 
 -- a number is read from the first 50 bytes

@@ -10,8 +10,6 @@ use borrow.Author.Tests.{eq-eqb, ne_eqb, le-leb, lt-leb, lt-ltb, le-ltb}
 use Rattle.lists.specs.Test.{unless}
 use Rattle.endian.specs.asks.Bytes.{Put}
 use Rattle.lengths.specs.asks.Rows.{RowsFilled}
-use Rattle.argument.specs.Verdict.{Verdict}
-use Rattle.argument.specs.Record.{records}
 use Rattle.argument.specs.Sheet.{Place, line_step}
 use Rattle.marks.specs.Mark.{struck_mark}
 use Rattle.marks.specs.Packed.{marks_of}

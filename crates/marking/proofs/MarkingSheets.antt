@@ -22,7 +22,6 @@ use Rattle.sheets.specs.Verdict.{result_of}
 use Rattle.sheets.specs.Rules.{marking_between, marking_by}
 use Rattle.sheets.specs.Sheet.{whole_sheet}
 use Rattle.sheets.specs.asks.Sheet.{sheet_admission}
-use Rattle.sheets.specs.asks.Walk.{Admitted}
 use Rattle.sheets.specs.declared.sheet.Sheet as declared
 use Rattle.sheets.specs.declared.sheet.SheetAdmission.{SheetAdmission}
 use Rattle.sheets.specs.declared.sheet.SheetAdmission.TheVariants as admitting

@@ -13,7 +13,7 @@ use Rattle.lengths.specs.Edge.{edge, Before}
 use Rattle.sets.specs.EdgeSet.{AtMostTwo, NoShortCycle}
 use Rattle.rules.specs.Pair.{exchange_saving, move_saving, FeasiblePair}
 use Rattle.argument.specs.Argument.{Cases}
-use Rattle.sentences.specs.Reason.{Reason, third, exchange, move}
+use Rattle.sentences.specs.Reason.{Reason, third, move}
 use Rattle.reasons.specs.PairReason.{PairOutcome, shut, stands, gain, end?, third?, struck_at, loop_of, exchange_of, moves?, move_of}
 use Rattle.reasons.specs.PairReason.{pair_outcome}
 use Rattle.reasons.specs.Tells.{FirstPair, One, ToldStruck, ToldThird, ToldExchange, MovedSaves, ToldMove, Tells}

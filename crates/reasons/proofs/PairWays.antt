@@ -1,7 +1,7 @@
 -- The ways out of the tests of a pair: each answer is the outcome, by the tests that led there. Assumes nothing.
 use Prim.Native.Nat.{ℕ, zero, suc, ◌+◌, ◌-◌, ◌^◌, ◌≤◌, ◌<◌, min, max}
 use mathlib.Core.Path.{◌≡◌, refl, sym, ◌∙◌, ap}
-use mathlib.Core.Bool.{Bool, true, false, cond, not, ◌&&◌, ◌||◌}
+use mathlib.Core.Bool.{Bool, true, false, cond, ◌&&◌}
 use mathlib.Core.List.{List}
 use native.Mathlib.Omega.{arith}
 use lib.Dec.{T, eqb, ltb}
@@ -17,10 +17,9 @@ use Rattle.lengths.proofs.SignedSavings.{kept}
 use Rattle.lengths.proofs.Tables.{length_small}
 use Rattle.rules.specs.Pair.{exchange_saving, move_saving}
 use Rattle.sentences.specs.Reason.{move}
-use Rattle.reasons.specs.PairReason.{PairOutcome, shut, stands, gain, end?, struck_at, third?, loop_of, exchange_of, moves?, move_of}
+use Rattle.reasons.specs.PairReason.{PairOutcome, shut, gain, end?, struck_at, third?, loop_of, exchange_of, moves?, move_of}
 use Rattle.reasons.specs.PairReason.{pair_outcome}
 use Rattle.reasons.specs.asks.PairReason.{outcome_of, exchanged, moved, move_outcome, saving_outcome, ExchangeAsked, SavingAsked}
-use Rattle.reasons.specs.asks.PairReason.{PairAsked}
 use Rattle.reasons.specs.declared.pair.PairOutcome.TheVariants.{Shut, Stands}
 use Rattle.sentences.specs.asks.Sentence.{reason_of}
 use Rattle.sentences.specs.declared.reason.Reason.TheVariants.{Third}

@@ -17,10 +17,9 @@ use Rattle.text.specs.Words.{Wrote}
 use Rattle.sentences.specs.Sentence.{text_of}
 use Rattle.argument.specs.Record.{Record, line, case, visit, other, CaseClosing, splits, three_opts, reorders, records, record_at, field, content}
 use Rattle.argument.specs.Record.{bare}
-use Rattle.argument.specs.Line.{strikes, judge}
+use Rattle.argument.specs.Line.{judge}
 use Rattle.argument.proofs.Equations.{JudgeSays, judged}
 use Rattle.sheets.specs.Rules.{rules_of}
-use Rattle.sheets.specs.Sheet.{whole_sheet}
 use Rattle.sheets.specs.asks.Sheet.{sheet_admission}
 use Rattle.sheets.specs.asks.Walk.{Admitted}
 use Rattle.sheets.specs.declared.sheet.Sheet as declared
@@ -35,7 +34,7 @@ use Rattle.admission.specs.declared.tested.Tested.{Tested}
 use Rattle.admission.specs.declared.tested.Tested.TheVariants as tests
 use Rattle.admission.proofs.Passed.{InstancePassed, passed, both_passed}
 use Rattle.marking.proofs.MarkingSheets.{admits_between}
-use Rattle.reasons.specs.Telling.{line_reasons, split_point, line_text, tell_judged, tell_tested, tell_answer, tell_left, ToldAs}
+use Rattle.reasons.specs.Telling.{line_reasons, split_point, line_text, tell_answer, tell_left, ToldAs}
 use Rattle.reasons.specs.asks.LineText.{FittedWithin, most_text, split_text, TextAsked}
 use Rattle.reasons.specs.asks.Telling.{JudgeAsked, JudgeRows, TextTold, RecordTold}
 use Rattle.reasons.specs.declared.telling.Telling.{Telling}

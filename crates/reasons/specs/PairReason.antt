@@ -3,7 +3,7 @@
 -- table, and K of one edge: cx stands before cy in edge order, since x < y; a third edge can only be at c; a loop is a,
 -- b and c; an exchange is of cx or cy with ab; a moved point is c or an end of ab in the pair, which then saves the
 -- same.
-use Rattle.std.specs.Prelude.{ℕ, min, max, Bool, true, false, not, cond, ◌&&◌, ◌||◌, eqb, ltb, ℤ, pos, negsuc}
+use Rattle.std.specs.Prelude.{ℕ, min, max, Bool, not, cond, ◌&&◌, ◌||◌, eqb, ltb, ℤ, pos, negsuc}
 use Rattle.lengths.specs.Saving.{gains?}
 use Rattle.rules.specs.Pair.{exchange_saving, move_saving}
 use Rattle.sentences.specs.Reason.{Reason, struck, third, loop, exchange, move}

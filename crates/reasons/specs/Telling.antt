@@ -2,7 +2,7 @@
 -- sheet: 8, record 0) and the marks from before it, pending read as struck; the line counts as the first entered and
 -- its next index is not read". Tests 1, 2, 5, 6, 7, 8; the line's own; "22, the buffer is too short for the whole text;
 -- it is tested last and nothing is written".
-use Rattle.std.specs.Prelude.{ℕ, ◌≡◌, Bool, true, false, cond, ◌&&◌, ◌||◌, List, [], ◌∷◌, ◌++◌, eqb, leb, length, drop}
+use Rattle.std.specs.Prelude.{ℕ, ◌≡◌, cond, ◌&&◌, ◌||◌, List, [], ◌∷◌, ◌++◌, eqb, leb, length, drop}
 use Rattle.lists.specs.Test.{unless}
 use Rattle.lengths.specs.Edge.{Edge, edge, edges}
 use Rattle.lengths.specs.Table.{length_of}

@@ -1,7 +1,7 @@
 -- The slip of a verdict. Assumes nothing.
 use Prim.Native.Nat.{ℕ}
 use mathlib.Core.Path.{◌≡◌, refl, sym, ◌∙◌, ap}
-use mathlib.Core.Bool.{Bool, true, false}
+use mathlib.Core.Bool.{false}
 use mathlib.Core.List.{List, []}
 use Rattle.argument.specs.Sheet.{Result}
 use Rattle.sheets.specs.Verdict.{result_of}

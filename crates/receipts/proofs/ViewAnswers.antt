@@ -1,7 +1,7 @@
 -- The ways out of the functions that write a view, and what is written: three numbers of 16 bits, the first made of two
 -- bytes. Assumes nothing.
-use Prim.Native.Nat.{ℕ, ◌+◌, ◌*◌, ◌/◌, ◌%◌, ◌≤◌, ◌<◌}
-use mathlib.Core.Path.{◌≡◌, sym, ◌∙◌, ap, ap₂, subst}
+use Prim.Native.Nat.{ℕ, ◌+◌, ◌*◌, ◌≤◌, ◌<◌}
+use mathlib.Core.Path.{◌≡◌, ◌∙◌, ap, ap₂, subst}
 use mathlib.Core.Bool.{Bool, true, false}
 use mathlib.Core.List.{List, [], ◌∷◌, ◌++◌}
 use native.Mathlib.Omega.{arith}
@@ -9,7 +9,7 @@ use lib.ListN.{length, drop}
 use borrow.Author.Tests.{eq-eqb, ne_eqb, le-leb, lt-leb}
 use Rattle.endian.specs.Bytes.{little_endian, bytes_of}
 use Rattle.receipts.specs.Receipt.{stopped?, flag_of}
-use Rattle.receipts.specs.View.{examiner_view, hidden, shown, candidate_view, view_bytes, view_answer, view_left, ViewedAs}
+use Rattle.receipts.specs.View.{examiner_view, hidden, shown, candidate_view, view_bytes, view_answer, ViewedAs}
 use Rattle.receipts.specs.declared.receipt.Receipt.{Receipt}
 use Rattle.lengths.specs.declared.outcome.Outcome.{Outcome}
 use Rattle.lengths.specs.declared.outcome.Outcome.TheVariants.{Done, Refused}

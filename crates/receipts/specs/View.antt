@@ -1,6 +1,6 @@
 -- The views of a slip (02, Paper 13), six bytes each, and writing one to the front of a buffer: 22, the buffer is too
 -- short.
-use Rattle.std.specs.Prelude.{ℕ, ◌≡◌, Bool, false, cond, List, ◌∷◌, ◌++◌, leb, length, drop}
+use Rattle.std.specs.Prelude.{ℕ, ◌≡◌, false, cond, List, ◌∷◌, ◌++◌, leb, length, drop}
 use Rattle.endian.specs.Bytes.{little_endian}
 use Rattle.lists.specs.Test.{unless}
 use Rattle.receipts.specs.Receipt.{stopped?, flag_of}

@@ -9,7 +9,6 @@ use lib.Seq.{length-take-le}
 use Rattle.argument.specs.Sheet.{Result}
 use Rattle.sheets.specs.Verdict.{result_of}
 use Rattle.sheets.specs.declared.verdict.Verdict.{Verdict}
-use Rattle.sheets.specs.declared.verdict.Verdict.TheVariants.{Accepted, Refused}
 use Rattle.endian.specs.Bytes.{whole32}
 use Rattle.endian.proofs.Reading.{whole_count32}
 use Rattle.lengths.specs.Edge.{edge_count}

@@ -16,7 +16,7 @@ use Rattle.lengths.specs.Table.{length_of, Lengths, Intervals}
 use Rattle.lengths.specs.asks.Rows.{RowAt, Rows, RowFilled}
 use Rattle.lengths.proofs.Tables.{length_symmetric, length_small}
 use Rattle.lengths.specs.Instance.{most_length, point_places}
-use Rattle.rules.specs.asks.Legs.{leg_of, narrowed, LegList, LegsOf, LegsBy, RowLent, RowsLent, row_of, OpenAsked, OpenLegs, NarrowAsked, Narrowed, far}
+use Rattle.rules.specs.asks.Legs.{leg_of, narrowed, LegList, LegsOf, RowLent, RowsLent, row_of, OpenAsked, OpenLegs, NarrowAsked, Narrowed, far}
 use Rattle.rules.specs.asks.Bound.{tightened, tightened_by, bound_of, Short, loose}
 use Rattle.search.specs.asks.Split.{TakenOf, Prepared, Bounded, AllTaken, TriangleAsked, TriangleIn, SplitAsked, SplitOf, TakeAsked, TakenIn, EdgeAsked, EdgeRowsAsked, EdgeRows, EdgeTriangle, EdgeLegsAsked, EdgeLegs, SingleAsked}
 use Rattle.marks.specs.Mark.{open_mark, pending_mark, open_up_to, open_in, unstruck_in}

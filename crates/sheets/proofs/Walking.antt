@@ -8,7 +8,7 @@ use lib.ListN.{length}
 use mathlib.Core.List.{List}
 use native.Mathlib.Omega.{arith}
 use Rattle.lists.proofs.Bools.{and_true}
-use Rattle.lengths.specs.Edge.{Edge, edge, edge_count}
+use Rattle.lengths.specs.Edge.{Edge, edge_count}
 use Rattle.lengths.specs.Table.{length_of}
 use Rattle.marks.specs.Mark.{open_mark, open_in}
 use Rattle.sets.specs.EdgeSet.{with_pair}

@@ -2,7 +2,6 @@
 use Rattle.std.specs.Prelude.{ℕ, min, max, ◌≡◌, cond, ◌&&◌, List, ltb, length}
 use Rattle.lengths.specs.Saving.{gains?}
 use Rattle.lengths.specs.Edge.{Point, edge_count}
-use Rattle.lengths.specs.Instance.{least_points}
 use Rattle.lengths.specs.Table.{Lengths}
 use Rattle.rules.specs.Pair.{exchange_saving}
 use Rattle.sentences.specs.Reason.{Reason, exchange, move}

@@ -1,6 +1,5 @@
 -- What functions ask of each other about the subject of `specs/Mark.antt`, and what they ensure.
 use Rattle.std.specs.Prelude.{ℕ, ◌^◌, ◌<◌, ◌≡◌, List}
-use Rattle.argument.specs.Verdict.{Verdict}
 use Rattle.sheets.specs.Verdict.{result_of}
 use Rattle.sheets.specs.declared.verdict.Verdict as declared
 use Rattle.revosti.specs.Mark.{result_number}

@@ -3,7 +3,6 @@
 -- chain's loop is `Following`, and its measure the records left above the highest entered. Assumes nothing.
 use mathlib.Core.Path.{refl}
 use native.Mathlib.Omega.{arith}
-use borrow.Fn.PlainCycle.{is}
 use Rattle.sheets.proofs.Walking.{chain_split, follow_start, follow_search, follow_few, follow_ends, follow_stops, follow_case, follow_case_stops, follow_falls, follow_on, close_too_deep, close_chain, close_walks, close_three_opt_asked, close_closed, close_no_moves, close_no_saving, close_order_asked, close_by_orders}
 use Rattle.sheets.proofs.walk.+chain_close_case.Goals as goal
 
