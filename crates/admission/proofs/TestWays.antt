@@ -87,8 +87,8 @@ module _ (n : ℕ) {first second : Tested} (points : first ≡ first_failing n (
 
   module _ (low high : List ℕ) {third fourth fifth : Tested} (low-size : second ≡ until first (size_tests (length low))) (high-size : third ≡ until second (size_tests (length high)))
       (low-lengths : fourth ≡ until third (length_tests low)) (high-lengths : fifth ≡ until fourth (length_tests high)) where
-    fifth-told : fifth ≡ first_failing n (lengths_of_both n low high)
-    fifth-told =
+    fifth_told : fifth ≡ first_failing n (lengths_of_both n low high)
+    fifth_told =
         continued n (sizes_of_both n low high ++ length_tests low n) (length_tests high)
         (continued n (sizes_of_both n low high) (length_tests low)
         (continued n (place_tests n (length low)) (size_tests (length high)) (places_told (length low) low-size) high-size)
@@ -98,10 +98,10 @@ module _ (n : ℕ) {first second : Tested} (points : first ≡ first_failing n (
     pub in_order : InOrder fifth low high
     in_order = record {
       alike = λ p g.
-          let q = (all_passed n (lengths_of_both n low high) (sym fifth-told ∙ g)).1 in
+          let q = (all_passed n (lengths_of_both n low high) (sym fifth_told ∙ g)).1 in
           eqb-true (length low) (edge_count n) q.1.0 ∙ sym (eqb-true (length high) (edge_count n) q.1.1.0);
     }
 
     pub intervals_told : {r : Tested} → r ≡ until fifth (order_tests low high) → r ≡ tested_intervals n low high
     unfolding tested_intervals
-    intervals_told h = continued n (lengths_of_both n low high) (order_tests low high) fifth-told h
+    intervals_told h = continued n (lengths_of_both n low high) (order_tests low high) fifth_told h

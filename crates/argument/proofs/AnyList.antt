@@ -45,29 +45,29 @@ module _ (R : Rules) (law : Lawful R) (list : List Edge → ℕ → List Edge) (
       by false e = rw (look, e) (ap (λ (v : Verdict ChainStep). entering s q.last q.high q.index λ _. v) (read_same q (record_at s q.index)))
 
   module _ (go' go : Spot → Verdict ℕ) (same : (q : Spot) → SoundSpot R q → go' q ≡ go q) where
-    close-same : (left : ℕ) (K : List Edge) (i : ℕ) (how : CaseClosing) → Reached R K → ClosingFits R.n how → close (listed_by R list) s go' left K i how ≡ close R s go left K i how
+    close_same : (left : ℕ) (K : List Edge) (i : ℕ) (how : CaseClosing) → Reached R K → ClosingFits R.n how → close (listed_by R list) s go' left K i how ≡ close R s go left K i how
     unfolding close
-    close-same left K i (splits c first) reached fit =
+    close_same left K i (splits c first) reached fit =
         ap (λ (v : Verdict ℕ). guard (ltb 0 left) 13 i λ _. v)
         (ap go' (opening_same left K i c first reached) ∙ same (opening R left K i c first) (sound_opening R law left K i c first reached fit))
-    close-same left K i (three_opts p q r u) reached fit = refl
-    close-same left K i (reorders u v first) reached fit = refl
+    close_same left K i (three_opts p q r u) reached fit = refl
+    close_same left K i (reorders u v first) reached fit = refl
 
-    follow-same : (q : Spot) → SoundSpot R q → follow (listed_by R list) s go' q ≡ follow R s go q
+    follow_same : (q : Spot) → SoundSpot R q → follow (listed_by R list) s go' q ≡ follow R s go q
     unfolding follow act
-    follow-same q st =
+    follow_same q st =
         ap (λ (v : Verdict ChainStep). and_then v (act (listed_by R list) s go' q)) (look_same q) ∙ and_then_agree _ _ _ (λ step e. by step (looked R s q step e))
       where
         by : (step : ChainStep) → LookSays R s q step → act (listed_by R list) s go' q step ≡ act R s go q step
         by ends l = refl
         by (takes a b how next) l =
-            ap (λ (v : Verdict ℕ). and_then v λ high. go' (behind q next high)) (close-same _ _ _ how (reached_case R law q st a b l.named) l.fit.closing-fits)
+            ap (λ (v : Verdict ℕ). and_then v λ high. go' (behind q next high)) (close_same _ _ _ how (reached_case R law q st a b l.named) l.fit.closing-fits)
             ∙ and_then_agree _ _ _ (λ high e. same (behind q next high) (sound_behind R law q st a b l.named next high))
 
   walk_by_same : (fuel : ℕ) (q : Spot) → SoundSpot R q → walk_by (listed_by R list) s fuel q ≡ walk_by R s fuel q
   unfolding walk_by
   walk_by_same zero q st = refl
-  walk_by_same (suc fuel) q st = follow-same (walk_by (listed_by R list) s fuel) (walk_by R s fuel) (walk_by_same fuel) q st
+  walk_by_same (suc fuel) q st = follow_same (walk_by (listed_by R list) s fuel) (walk_by R s fuel) (walk_by_same fuel) q st
 
   walk_same : (q : Spot) → SoundSpot R q → walk (listed_by R list) s q ≡ walk R s q
   unfolding walk
@@ -84,7 +84,7 @@ module _ (R : Rules) (law : Lawful R) (list : List Edge → ℕ → List Edge) (
           guard_agree (fits R.n a b (splits c first)) 11 i _ _ (λ e.
           let f : Fits R.n a b (splits c first) = fits_means R.n a b (splits c first) e in
           ap (λ (v : Verdict ℕ). guard (open? a b) 12 i λ _. and_then v λ high. accepted (strikes a b next high))
-          (close-same (walk (listed_by R list) s) (walk R s) walk_same most_splits (edge a b ∷ []) i (splits c first) (single f.point_a f.point_b f.apart) f.closing-fits))
+          (close_same (walk (listed_by R list) s) (walk R s) walk_same most_splits (edge a b ∷ []) i (splits c first) (single f.point_a f.point_b f.apart) f.closing-fits))
       by (case a b how next) = refl
       by (visit v next) = refl
       by other = refl

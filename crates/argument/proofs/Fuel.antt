@@ -51,21 +51,21 @@ module _ (R : Rules) (s : List ℕ) where
   walk_rises (suc fuel) q h e = follow_rises (walk_by R s fuel) (walk_rises fuel) q h e
 
   module _ (go go' : Spot → Verdict ℕ) (rises : Rises go) where
-    close-agree : (left : ℕ) (K : List Edge) (i : ℕ) (how : CaseClosing) → Agree go go' i → close R s go left K i how ≡ close R s go' left K i how
+    close_agree : (left : ℕ) (K : List Edge) (i : ℕ) (how : CaseClosing) → Agree go go' i → close R s go left K i how ≡ close R s go' left K i how
     unfolding close opening
-    close-agree left K i (splits c first) same = rw (same (opening R left K i c first) (omega arith))
-    close-agree left K i (three_opts p q r u) same = refl
-    close-agree left K i (reorders u v first) same = refl
+    close_agree left K i (splits c first) same = rw (same (opening R left K i c first) (omega arith))
+    close_agree left K i (three_opts p q r u) same = refl
+    close_agree left K i (reorders u v first) same = refl
 
-    follow-agree : (q : Spot) → (q.high < q.index → q.index ≤ records s → Agree go go' q.index) → follow R s go q ≡ follow R s go' q
+    follow_agree : (q : Spot) → (q.high < q.index → q.index ≤ records s → Agree go go' q.index) → follow R s go q ≡ follow R s go' q
     unfolding follow act behind
-    follow-agree q same = and_then_agree _ _ _ (λ step e. by step (looked R s q step e))
+    follow_agree q same = and_then_agree _ _ _ (λ step e. by step (looked R s q step e))
       where
         by : (step : ChainStep) → LookSays R s q step → act R s go q step ≡ act R s go' q step
         by ends l = refl
         by (takes a b how next) l =
             let same' = same l.entered.above l.entered.inside in
-            and_then_agree _ _ _ (λ h e. same' _ (close_rises go rises _ _ _ how h e)) ∙ ap (λ (v : Verdict ℕ). and_then v (λ high. go' (behind q next high))) (close-agree _ _ _ how same')
+            and_then_agree _ _ _ (λ h e. same' _ (close_rises go rises _ _ _ how h e)) ∙ ap (λ (v : Verdict ℕ). and_then v (λ high. go' (behind q next high))) (close_agree _ _ _ how same')
 
   -- as many steps as there are records left above the highest entered, and one, are enough
   pub fuel_enough : (f g : ℕ) (q : Spot) → 1 ≤ f → 1 ≤ g → records s < f + q.high → records s < g + q.high → walk_by R s f q ≡ walk_by R s g q
@@ -73,11 +73,11 @@ module _ (R : Rules) (s : List ℕ) where
   fuel_enough zero g q f₁ g₁ f₂ g₂ = absurd (omega arith)
   fuel_enough (suc f) zero q f₁ g₁ f₂ g₂ = absurd (omega arith)
   fuel_enough (suc f) (suc g) q f₁ g₁ f₂ g₂ =
-      follow-agree (walk_by R s f) (walk_by R s g) (walk_rises f) q
+      follow_agree (walk_by R s f) (walk_by R s g) (walk_rises f) q
       (λ above inside q' le. fuel_enough f g q' (omega arith) (omega arith) (omega arith) (omega arith))
 
   -- the walk goes on as itself: the equation that code is held to
   pub walk_follows : (q : Spot) → walk R s q ≡ follow R s (walk R s) q
   unfolding walk walk_by
-  walk_follows q = follow-agree (walk_by R s (records s)) (walk_by R s (suc (records s))) (walk_rises (records s)) q
+  walk_follows q = follow_agree (walk_by R s (records s)) (walk_by R s (suc (records s))) (walk_rises (records s)) q
       (λ above inside q' le. fuel_enough (records s) (suc (records s)) q' (omega arith) (omega arith) (omega arith) (omega arith))

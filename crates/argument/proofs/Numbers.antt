@@ -86,8 +86,8 @@ module _ (s : List ℕ) where
     read_told q (visit v next) m r named e = tested 10 _ m r (omega arith) (omega arith) named (refused_inj e)
     read_told q other m r named e = tested 10 _ m r (omega arith) (omega arith) named (refused_inj e)
 
-    look-told : (q : Spot) (m r : ℕ) → Readable s q.last → look R s q ≡ refused m r → RefusedAt s m r
-    look-told q m r named e = by (eqb q.index 0) refl
+    look_told : (q : Spot) (m r : ℕ) → Readable s q.last → look R s q ≡ refused m r → RefusedAt s m r
+    look_told q m r named e = by (eqb q.index 0) refl
       where
         by : (b : Bool) → eqb q.index 0 ≡ b → RefusedAt s m r
         by true z =
@@ -95,16 +95,16 @@ module _ (s : List ℕ) where
             (guard_refused _ _ _ _ m r (sym (look_end R s q (eqb-true q.index 0 z)) ∙ e))
         by false z = entering_told _ _ _ _ m r named (λ h. read_told q _ m r (entered h)) (sym (look_on R s q (eqb-false q.index 0 z)) ∙ e)
 
-    close-told : (go : Spot → Verdict ℕ) (left : ℕ) (K : List Edge) (i : ℕ) (how : CaseClosing) (m r : ℕ) → Readable s i →
+    close_told : (go : Spot → Verdict ℕ) (left : ℕ) (K : List Edge) (i : ℕ) (how : CaseClosing) (m r : ℕ) → Readable s i →
         ((q : Spot) → i ≤ q.high → Readable s q.last → go q ≡ refused m r → RefusedAt s m r) → close R s go left K i how ≡ refused m r → RefusedAt s m r
     unfolding close close_by_order opening
-    close-told go left K i (splits c first) m r named f e =
+    close_told go left K i (splits c first) m r named f e =
         ⊎_elim (tested 13 i m r (omega arith) (omega arith) named) (λ z. f (opening R left K i c first) (omega arith) named z.1) (guard_refused _ _ _ _ m r e)
-    close-told go left K i (three_opts p q u v) m r named f e =
+    close_told go left K i (three_opts p q u v) m r named f e =
         let z = refused_by_refused _ _ _ m r e in
         let k = law.closing_number K p q u v (omega (arith, z.0, z.2)) in
         tested (R.closing K p q u v) i m r (omega (arith, k.0)) k.1 named (z.0, z.1)
-    close-told go left K i (reorders u v first) m r named f e =
+    close_told go left K i (reorders u v first) m r named f e =
         ⊎_elim (ordered 23 i m r (omega arith) (omega arith) named)
         (λ z. ⊎_elim (visited_told R.n [] i first m r named)
         (λ w. let y = refused_by_refused _ _ _ m r w.2 in
@@ -112,11 +112,11 @@ module _ (s : List ℕ) where
         ordered (R.reordering K u v w.0.order) i m r k.0 k.1 named (y.0, y.1)) (and_then_refused _ _ m r z.1))
         (guard_refused _ _ _ _ m r e)
 
-    walkBy-told : (fuel : ℕ) (q : Spot) (m r : ℕ) → 1 ≤ fuel → records s < fuel + q.high → Readable s q.last → walk_by R s fuel q ≡ refused m r → RefusedAt s m r
+    walk_by_told : (fuel : ℕ) (q : Spot) (m r : ℕ) → 1 ≤ fuel → records s < fuel + q.high → Readable s q.last → walk_by R s fuel q ≡ refused m r → RefusedAt s m r
     unfolding walk_by follow act behind
-    walkBy-told zero q m r h l named e = absurd (omega arith)
-    walkBy-told (suc fuel) q m r h l named e =
-        ⊎_elim (look-told q m r named) (λ v. by v.0 (looked R s q v.0 v.1) v.2 (λ q' h' l'. walkBy-told fuel q' m r h' l')) (and_then_refused _ _ m r e)
+    walk_by_told zero q m r h l named e = absurd (omega arith)
+    walk_by_told (suc fuel) q m r h l named e =
+        ⊎_elim (look_told q m r named) (λ v. by v.0 (looked R s q v.0 v.1) v.2 (λ q' h' l'. walk_by_told fuel q' m r h' l')) (and_then_refused _ _ m r e)
       where
         by : (step : ChainStep) → LookSays R s q step → act R s (walk_by R s fuel) q step ≡ refused m r →
             ((q' : Spot) → 1 ≤ fuel → records s < fuel + q'.high → Readable s q'.last → walk_by R s fuel q' ≡ refused m r → RefusedAt s m r) → RefusedAt s m r
@@ -124,13 +124,13 @@ module _ (s : List ℕ) where
         by (takes a b how next) k z ih =
             let in-chain : (q' : Spot) → q.index ≤ q'.high → Readable s q'.last → walk_by R s fuel q' ≡ refused m r → RefusedAt s m r =
             λ q' le. ih q' (omega (arith, k.entered)) (omega (arith, k.entered)) in
-            ⊎_elim (close-told (walk_by R s fuel) _ _ _ how m r (entered k.entered) in-chain)
+            ⊎_elim (close_told (walk_by R s fuel) _ _ _ how m r (entered k.entered) in-chain)
             (λ v. in-chain (behind q next v.0) (close_rises R s (walk_by R s fuel) (walk_rises R s fuel) _ _ _ how v.0 v.1) (entered k.entered) v.2)
             (and_then_refused _ _ m r z)
 
-    walk-told : (q : Spot) (m r : ℕ) → Readable s q.last → walk R s q ≡ refused m r → RefusedAt s m r
+    walk_told : (q : Spot) (m r : ℕ) → Readable s q.last → walk R s q ≡ refused m r → RefusedAt s m r
     unfolding walk
-    walk-told q m r named e = walkBy-told (suc (records s)) q m r (omega arith) (omega arith) named e
+    walk_told q m r named e = walk_by_told (suc (records s)) q m r (omega arith) (omega arith) named e
 
     record_told : (open? : ℕ → ℕ → Bool) (i : ℕ) (x : Record) (m r : ℕ) → Readable s i → judge_record R open? s i x ≡ refused m r → RefusedAt s m r
     unfolding judge_record
@@ -141,15 +141,15 @@ module _ (s : List ℕ) where
       where
         inside : and_then (close R s (walk R s) most_splits (edge a b ∷ []) i (splits c first)) (λ high. accepted (strikes a b next high)) ≡ refused m r → RefusedAt s m r
         inside z =
-            ⊎_elim (close-told (walk R s) most_splits (edge a b ∷ []) i (splits c first) m r named (λ q le. walk-told q m r))
+            ⊎_elim (close_told (walk R s) most_splits (edge a b ∷ []) i (splits c first) m r named (λ q le. walk_told q m r))
             (λ v. absurd (refused_accepted (sym v.2))) (and_then_refused _ _ m r z)
     record_told open? i (case a b how next) m r named e = tested 10 i m r (omega arith) (omega arith) named (refused_inj e)
     record_told open? i (visit v next) m r named e = tested 10 i m r (omega arith) (omega arith) named (refused_inj e)
     record_told open? i other m r named e = tested 10 i m r (omega arith) (omega arith) named (refused_inj e)
 
-    judge-told : (open? : ℕ → ℕ → Bool) (i m r : ℕ) → Readable s i → judge R open? s i ≡ refused m r → RefusedAt s m r
+    judge_told : (open? : ℕ → ℕ → Bool) (i m r : ℕ) → Readable s i → judge R open? s i ≡ refused m r → RefusedAt s m r
     unfolding judge
-    judge-told open? i m r named e = record_told open? i (record_at s i) m r named e
+    judge_told open? i m r named e = record_told open? i (record_at s i) m r named e
 
 module _ {M : Type 0} (𝓜 : Marking M) (law : (m : M) → Lawful (𝓜.rules m)) (s : List ℕ) where
   -- where a sheet stands between two lines: behind a line, or before the first
@@ -169,7 +169,7 @@ module _ {M : Type 0} (𝓜 : Marking M) (law : (m : M) → Lawful (𝓜.rules m
   stops_told q v some b (above h) m r e = ⊎_elim (λ named. tested s 8 q.last m r (omega arith) (omega arith) named (refused_inj e)) (λ z. absurd (omega (arith, z.0))) b
   stops_told q v some b (not_above z h l) m r e = ⊎_elim (λ named. tested s 9 q.last m r (omega arith) (omega arith) named (refused_inj e)) (λ y. absurd (omega (arith, y.1, z))) b
   stops_told q v some b (incomplete {number} {rec} h l j) m r e =
-      let t = judge-told s (𝓜.rules q.marks) (law q.marks) (𝓜.open? q.marks) q.index number rec (entered s h) j in
+      let t = judge_told s (𝓜.rules q.marks) (law q.marks) (𝓜.open? q.marks) q.index number rec (entered s h) j in
       let z = refused_inj e in
       subst (λ (k : ℕ). RefusedAt s k r) z.0 (subst (RefusedAt s number) z.1 t)
 

@@ -46,13 +46,13 @@ module _ (s : List ℕ) where
 
     pub laid_orders : (cs : Cases) (high i after : ℕ) → Laid s high i cs after → OrdersIn cs → HasOrder s
     laid_orders none high i after l o = absurd o
-    laid_orders (pair x y t rest) high i after l (inl o) = holds-order t x y l.0 l.1 i l.2 (record { low = omega (arith, l.3); high = l.3.inside }) l.4 l.5 o
+    laid_orders (pair x y t rest) high i after l (inl o) = holds_order t x y l.0 l.1 i l.2 (record { low = omega (arith, l.3); high = l.3.inside }) l.4 l.5 o
     laid_orders (pair x y t rest) high i after l (inr o) = laid_orders rest l.2 l.1 after l.6 o
 
-    holds-order : (t : Closing) (x y : ℕ) (how : CaseClosing) (next i after : ℕ) → Readable s i → record_at s i ≡ case x y how next → Holds s i how t after → OrderIn t → HasOrder s
-    holds-order (split c cs) x y how next i after named reads ho o = laid_orders cs i ho.0 after ho.2 o
-    holds-order (three_opt p q r u) x y how next i after named reads ho o = absurd o
-    holds-order (reorder u v vs) x y how next i after named reads ho o =
+    holds_order : (t : Closing) (x y : ℕ) (how : CaseClosing) (next i after : ℕ) → Readable s i → record_at s i ≡ case x y how next → Holds s i how t after → OrderIn t → HasOrder s
+    holds_order (split c cs) x y how next i after named reads ho o = laid_orders cs i ho.0 after ho.2 o
+    holds_order (three_opt p q r u) x y how next i after named reads ho o = absurd o
+    holds_order (reorder u v vs) x y how next i after named reads ho o =
         record { i = i; readable = named; kind = order_kind (field s i 0) _ _ _ _ _ _ _ (reads ∙ ap (λ (h : CaseClosing). case x y h next) ho.1) }
 
 module _ (R : Rules) (Good : List Edge → Type 0) (Orders : Type 0) (up : Upheld R Good Orders) where
@@ -65,14 +65,14 @@ module _ (R : Rules) (Good : List Edge → Type 0) (Orders : Type 0) (up : Uphel
     pub complete_safe : (t : Closing) (K : List Edge) → (OrderIn t → Orders) → Complete R K t → Good K → ⊥
     complete_safe (split c cs) K may cl g =
         let k = up.keeps K c g cl.0 in
-        cases-safe cs K c may cl.2 k.0 k.1 ((cl.1.exactly k.0 k.1).1 k.2) k.3
+        cases_safe cs K c may cl.2 k.0 k.1 ((cl.1.exactly k.0 k.1).1 k.2) k.3
     complete_safe (three_opt p q r s) K may cl g = up.unclosed K p q r s g cl
     complete_safe (reorder u v vs) K may cl g = up.unordered (may tt) K u v vs g cl
 
-    cases-safe : (cs : Cases) (K : List Edge) (c : ℕ) → (OrdersIn cs → Orders) → AllComplete R K c cs → (x y : ℕ) → Among (names cs) x y → Good (with_pair K c x y) → ⊥
-    cases-safe none K c may cl x y m g = Memᴰ.not-nil m
-    cases-safe (pair a b t more) K c may cl x y m g =
-        ⊎_elim (λ e. complete_safe t (with_pair K c a b) (λ o. may (inl o)) cl.0 (same_pair a b x y K c e g)) (λ n. cases-safe more K c (λ o. may (inr o)) cl.1 x y n g) (Memᴰ.cases_cons m)
+    cases_safe : (cs : Cases) (K : List Edge) (c : ℕ) → (OrdersIn cs → Orders) → AllComplete R K c cs → (x y : ℕ) → Among (names cs) x y → Good (with_pair K c x y) → ⊥
+    cases_safe none K c may cl x y m g = Memᴰ.not-nil m
+    cases_safe (pair a b t more) K c may cl x y m g =
+        ⊎_elim (λ e. complete_safe t (with_pair K c a b) (λ o. may (inl o)) cl.0 (same_pair a b x y K c e g)) (λ n. cases_safe more K c (λ o. may (inr o)) cl.1 x y n g) (Memᴰ.cases_cons m)
       where
         same_pair : (a b x y : ℕ) (K : List Edge) (c : ℕ) → edge x y ≡ edge a b → Good (with_pair K c x y) → Good (with_pair K c a b)
         same_pair a b x y K c e g =

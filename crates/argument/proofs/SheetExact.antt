@@ -31,10 +31,10 @@ module _ {M : Type 0} (𝓜 : Marking M) (s : List ℕ) where
   pub chain_length : (xs : List Struck) (p q : Place M) → CompleteLines 𝓜 s p xs q → length xs + p.lines ≡ q.lines
   unfolding CompleteLines struck
   chain_length [] p q e = omega (arith, ap (λ (z : Place M). z.lines) e)
-  chain_length (x ∷ xs) p q h = omega (arith, chain_length xs (struck 𝓜 p x) q h.2, struck-lines x)
+  chain_length (x ∷ xs) p q h = omega (arith, chain_length xs (struck 𝓜 p x) q h.2, struck_lines x)
     where
-      struck-lines : (x : Struck) → (struck 𝓜 p x).lines ≡ suc p.lines
-      struck-lines (strikes a b next high) = refl
+      struck_lines : (x : Struck) → (struck 𝓜 p x).lines ≡ suc p.lines
+      struck_lines (strikes a b next high) = refl
 
 module _ {M : Type 0} (𝓜 : Marking M) (law : (m : M) → Lawful (𝓜.rules m)) (s : List ℕ) where
   -- a refused step stops for one of the reasons: 8, 9, or a line that is not complete, since a complete one

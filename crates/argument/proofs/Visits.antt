@@ -48,18 +48,18 @@ module _ (n : ℕ) (s : List ℕ) where
     pub visit_entered : Enters s high i → look_visit n s high i ≡ read_visit n i (record_at s i)
     visit_entered h = visit-on (λ z. omega (arith, h)) ∙ pass_entering _ _ _ _ _ h
 
-    read-says : Enters s high i → (x : Record) → record_at s i ≡ x → (step : VisitStep) → read_visit n i x ≡ accepted step → VisitSays high i step
+    read_says : Enters s high i → (x : Record) → record_at s i ≡ x → (step : VisitStep) → read_visit n i x ≡ accepted step → VisitSays high i step
     unfolding read_visit
-    read-says h (line a b c first next) e step z = absurd (refused_accepted z)
-    read-says h (case a b how next) e step z = absurd (refused_accepted z)
-    read-says h (visit v next) e step z =
+    read_says h (line a b c first next) e step z = absurd (refused_accepted z)
+    read_says h (case a b how next) e step z = absurd (refused_accepted z)
+    read_says h (visit v next) e step z =
         let g = guard_passed _ _ _ _ step z in
         let t : VisitSays high i (names v next) = record { entered = h; reads = e; point = is-point n v g.0 } in
         subst (VisitSays high i) (accepted_inj g.1) t
-    read-says h other e step z = absurd (refused_accepted z)
+    read_says h other e step z = absurd (refused_accepted z)
 
-    visit-says : (step : VisitStep) → look_visit n s high i ≡ accepted step → VisitSays high i step
-    visit-says step z = by (eqb i 0) refl
+    visit_says : (step : VisitStep) → look_visit n s high i ≡ accepted step → VisitSays high i step
+    visit_says step z = by (eqb i 0) refl
       where
         by : (b : Bool) → eqb i 0 ≡ b → VisitSays high i step
         by true e =
@@ -67,11 +67,11 @@ module _ (n : ℕ) (s : List ℕ) where
             subst (VisitSays high i) (accepted_inj (sym (visit-ends (eqb-true i 0 e)) ∙ z)) k
         by false e =
             let g = entering_passed _ _ _ _ _ step (sym (visit-on (eqb-false i 0 e)) ∙ z) in
-            read-says g.0 (record_at s i) refl step g.1
+            read_says g.0 (record_at s i) refl step g.1
 
-    visit-names : {v next : ℕ} → Names high i v next → look_visit n s high i ≡ accepted (names v next)
+    visit_names : {v next : ℕ} → Names high i v next → look_visit n s high i ≡ accepted (names v next)
     unfolding read_visit
-    visit-names t = visit_entered t.entered ∙ ap (read_visit n i) t.reads ∙ pass_guard _ 11 i _ (point_is t.point)
+    visit_names t = visit_entered t.entered ∙ ap (read_visit n i) t.reads ∙ pass_guard _ 11 i _ (point_is t.point)
 
   -- an accepted chain names points vs behind those named before it, and its records set them down
   pub record ChainSays (order : List ℕ) (high i : ℕ) (r : Visited) : Type 0 where
@@ -85,7 +85,7 @@ module _ (n : ℕ) (s : List ℕ) where
   visit_by_says zero order high i r e = absurd (refused_accepted e)
   visit_by_says (suc fuel) order high i r e =
       let v = and_then_passed _ _ r e in
-      by v.0 (visit-says high i v.0 v.1) v.2 (λ v' next. visit_by_says fuel (order ++ v' ∷ []) i next r)
+      by v.0 (visit_says high i v.0 v.1) v.2 (λ v' next. visit_by_says fuel (order ++ v' ∷ []) i next r)
     where
       by : (step : VisitStep) → VisitSays high i step → act_visit (visit_by n s fuel) order high i step ≡ accepted r →
           ((v next : ℕ) → visit_by n s fuel (order ++ v ∷ []) i next ≡ accepted r → ChainSays (order ++ v ∷ []) i next r) → ChainSays order high i r
@@ -110,7 +110,7 @@ module _ (n : ℕ) (s : List ℕ) where
   visit_agree : (go go' : List ℕ → ℕ → ℕ → Verdict Visited) (order : List ℕ) (high i : ℕ) →
       (Enters s high i → (v next : ℕ) → go (order ++ v ∷ []) i next ≡ go' (order ++ v ∷ []) i next) → visit_on n s go order high i ≡ visit_on n s go' order high i
   unfolding visit_on act_visit
-  visit_agree go go' order high i same = and_then_agree _ _ _ (λ step e. by step (visit-says high i step e))
+  visit_agree go go' order high i same = and_then_agree _ _ _ (λ step e. by step (visit_says high i step e))
     where
       by : (step : VisitStep) → VisitSays high i step → act_visit go order high i step ≡ act_visit go' order high i step
       by visit_ends k = refl
@@ -147,7 +147,7 @@ module _ (n : ℕ) (s : List ℕ) where
     visited_goes_on v next e = visited_on order high i ∙ pass_and_then _ (act_visit (visited n s) order high i) (names v next) e
 
     pub visit_named : (v next : ℕ) → look_visit n s high i ≡ accepted (names v next) → Names high i v next
-    visit_named v next e = visit-says high i (names v next) e
+    visit_named v next e = visit_says high i (names v next) e
 
   -- records that set points down are accepted, with these points behind those named before
   pub visits_visited : (vs order : List ℕ) (high i after : ℕ) → Visits s high i vs after → Points n vs → visited n s order high i ≡ accepted (record { order = order ++ vs; high = after })
@@ -157,6 +157,6 @@ module _ (n : ℕ) (s : List ℕ) where
       ∙ ap (λ (o : List ℕ). accepted (record { order = o; high = high })) (sym (append-nil order))
       ∙ ap (λ (k : ℕ). accepted (record { order = order ++ []; high = k })) (sym l.1)
   visits_visited (v ∷ vs) order high i after l p =
-      visited_goes_on order high i v l.0 (visit-names high i (record { entered = l.1; reads = l.2; point = p.0 }))
+      visited_goes_on order high i v l.0 (visit_names high i (record { entered = l.1; reads = l.2; point = p.0 }))
       ∙ visits_visited vs (order ++ v ∷ []) i l.0 after l.3 p.1
       ∙ ap (λ (o : List ℕ). accepted (record { order = o; high = after })) (append_assoc order (v ∷ []) vs)

@@ -67,7 +67,7 @@ module _ (K : List Edge) (p q r s : ℕ) where
   placed_of : {x y z w : ℕ} → ThreeOptMoves K p q r s x y z w → placed? K p q r s ≡ true
   unfolding placed? centres_apart?
   placed_of h =
-      let free : has? K r s ≡ false = not-has (has? K r s) refl in
+      let free : has? K r s ≡ false = not_has (has? K r s) refl in
       rw (
         placed?,
         centres_apart?,
@@ -80,9 +80,9 @@ module _ (K : List Edge) (p q r s : ℕ) where
         ne_eqb s q h.s_not_q,
       )
     where
-      not-has : (t : Bool) → has? K r s ≡ t → has? K r s ≡ false
-      not-has true e = absurd (h.rs_free ((has_exact K r s).0 e))
-      not-has false e = e
+      not_has : (t : Bool) → has? K r s ≡ t → has? K r s ≡ false
+      not_has true e = absurd (h.rs_free ((has_exact K r s).0 e))
+      not_has false e = e
 
 module _ (out put : ℕ → ℕ → ℕ) (p q r s : ℕ) where
   -- one labelling: the test and the record

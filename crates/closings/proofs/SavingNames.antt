@@ -88,47 +88,47 @@ module _ (out put : ℕ → ℕ → ℕ) (p q r s : ℕ) where
         same_saving (out q p + out r x + out s w) (out p q + out r x + out s w) (put r s + put q x + put p w) (put r s + put p w + put q x)
         (omega (arith, out-turned q p)) (omega arith)
 
-    second-edge : (y z : ℕ) → second_saving out put q p r s y z ≡ first_saving out put p q r s y z
+    second_edge : (y z : ℕ) → second_saving out put q p r s y z ≡ first_saving out put p q r s y z
     unfolding first_saving second_saving
-    second-edge y z =
+    second_edge y z =
         same_saving (out q p + out r y + out s z) (out p q + out r y + out s z) (put r s + put q z + put p y) (put r s + put p y + put q z)
         (omega (arith, out-turned q p)) (omega arith)
 
-    label-edge : (x y z w : ℕ) → label_saving out put q p r s x y z w ≡ label_saving out put p q r s y x w z
+    label_edge : (x y z w : ℕ) → label_saving out put q p r s x y z w ≡ label_saving out put p q r s y x w z
     unfolding label_saving
-    label-edge x y z w =
-        ap₂ smaller (first_edge x w) (second-edge y z)
+    label_edge x y z w =
+        ap₂ smaller (first_edge x w) (second_edge y z)
         ∙ smaller_turned (second_saving out put p q r s x w) (first_saving out put p q r s y z)
 
     pub three_opt_edge : (x y z w : ℕ) → three_opt_saving out put q p r s x y z w ≡ three_opt_saving out put p q r s x y z w
     unfolding three_opt_saving
     three_opt_edge x y z w =
-        ap₂ larger (label-edge x y z w) (ap₂ larger (label-edge x y w z) (ap₂ larger (label-edge y x z w) (label-edge y x w z)))
+        ap₂ larger (label_edge x y z w) (ap₂ larger (label_edge x y w z) (ap₂ larger (label_edge y x z w) (label_edge y x w z)))
         ∙ all_turned (label_saving out put p q r s x y z w) (label_saving out put p q r s x y w z)
         (label_saving out put p q r s y x z w) (label_saving out put p q r s y x w z)
 
     -- the centres with their ends: again the first move is the second
-    first-centres : (z y : ℕ) → first_saving out put p q s r z y ≡ second_saving out put p q r s y z
+    first_centres : (z y : ℕ) → first_saving out put p q s r z y ≡ second_saving out put p q r s y z
     unfolding first_saving second_saving
-    first-centres z y =
+    first_centres z y =
         same_saving (out p q + out s z + out r y) (out p q + out r y + out s z) (put s r + put p z + put q y) (put r s + put p z + put q y)
         (omega arith) (omega (arith, put-turned s r))
 
-    second-centres : (w x : ℕ) → second_saving out put p q s r w x ≡ first_saving out put p q r s x w
+    second_centres : (w x : ℕ) → second_saving out put p q s r w x ≡ first_saving out put p q r s x w
     unfolding first_saving second_saving
-    second-centres w x =
+    second_centres w x =
         same_saving (out p q + out s w + out r x) (out p q + out r x + out s w) (put s r + put p x + put q w) (put r s + put p x + put q w)
         (omega arith) (omega (arith, put-turned s r))
 
-    label-centres : (x y z w : ℕ) → label_saving out put p q s r z w x y ≡ label_saving out put p q r s x y z w
+    label_centres : (x y z w : ℕ) → label_saving out put p q s r z w x y ≡ label_saving out put p q r s x y z w
     unfolding label_saving
-    label-centres x y z w =
-        ap₂ smaller (first-centres z y) (second-centres w x)
+    label_centres x y z w =
+        ap₂ smaller (first_centres z y) (second_centres w x)
         ∙ smaller_turned (second_saving out put p q r s y z) (first_saving out put p q r s x w)
 
     pub three_opt_centres : (x y z w : ℕ) → three_opt_saving out put p q s r z w x y ≡ three_opt_saving out put p q r s x y z w
     unfolding three_opt_saving
     three_opt_centres x y z w =
-        ap₂ larger (label-centres x y z w) (ap₂ larger (label-centres y x z w) (ap₂ larger (label-centres x y w z) (label-centres y x w z)))
+        ap₂ larger (label_centres x y z w) (ap₂ larger (label_centres y x z w) (ap₂ larger (label_centres x y w z) (label_centres y x w z)))
         ∙ middle_turned (label_saving out put p q r s x y z w) (label_saving out put p q r s x y w z)
         (label_saving out put p q r s y x z w) (label_saving out put p q r s y x w z)

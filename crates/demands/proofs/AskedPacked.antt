@@ -55,15 +55,15 @@ module _ (n : ℕ) (table set s : List ℕ) where
   ill_resolve mark h = rw h
 
   module _ (range : in_range n ≡ true) (w : well_packed n set ≡ true) where
-    well-mark : (mark : ℕ) → (mark_packed_by mark n table set s).marks ≡ packed (mark_by mark n table (marks_of n set) s).marks
+    well_mark : (mark : ℕ) → (mark_packed_by mark n table set s).marks ≡ packed (mark_by mark n table (marks_of n set) s).marks
     unfolding mark_packed_by repacked
-    well-mark mark = rw w
+    well_mark mark = rw w
 
     -- the set that asking leaves, resolved
-    well-resolve : (mark : ℕ) → resolved_set mark n (ask_packed n table set s).marks
+    well_resolve : (mark : ℕ) → resolved_set mark n (ask_packed n table set s).marks
         ≡ packed (resolved_left (resolved_answer n (ask_sheet n table (marks_of n set) s).marks) mark (ask_sheet n table (marks_of n set) s).marks)
-    well-resolve mark =
-        ap (resolved_set mark n) (well-mark pending_mark)
+    well_resolve mark =
+        ap (resolved_set mark n) (well_mark pending_mark)
         ∙ resolve_on_packed (in-range n range).0 (mark_byte_set pending_mark n table s (omega arith) (held_set n set w)) n mark
 
   -- what holds where nothing changes and where the set is well packed holds of every set
@@ -80,13 +80,13 @@ module _ (n : ℕ) (table set s : List ℕ) where
   pub ask_confirm_packed : none_pending (marks_of n set) ≡ true → resolved_set struck_mark n (ask_packed n table set s).marks ≡ (mark_packed n table set s).marks
   ask_confirm_packed none =
       resolved_by struck_mark (out_mark struck_mark) (ill_mark struck_mark)
-      (λ r w. well-resolve r w struck_mark ∙ ap packed (ask_confirm n table (marks_of n set) s none) ∙ sym (well-mark r w struck_mark))
+      (λ r w. well_resolve r w struck_mark ∙ ap packed (ask_confirm n table (marks_of n set) s none) ∙ sym (well_mark r w struck_mark))
 
   -- ASK-WITHDRAW of packed sets
   pub ask_withdraw_packed : none_pending (marks_of n set) ≡ true → resolved_set open_mark n (ask_packed n table set s).marks ≡ set
   ask_withdraw_packed none =
       resolved_by open_mark (λ h. refl) (λ h. refl)
-      (λ r w. well-resolve r w open_mark ∙ ap packed (ask_withdraw n table (marks_of n set) s none) ∙ packed_marks n set w)
+      (λ r w. well_resolve r w open_mark ∙ ap packed (ask_withdraw n table (marks_of n set) s none) ∙ packed_marks n set w)
 
 -- the same of the functions for C
 module _ (n : ℕ) (table set s : List ℕ) where

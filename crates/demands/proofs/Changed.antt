@@ -66,12 +66,12 @@ module _ (mark : ℕ) (other : mark ≡ open_mark → ⊥) (n : ℕ) (out put sh
 
   -- what is struck stays struck, and an edge that no line strikes stays as it is
   module _ (c d : ℕ) (cd : IsEdge n c d) where
-    stays-struck : (xs : List Struck) (p q : Place (List ℕ)) → length p.marks ≡ edge_count n → CompleteLines (marking_between mark n out put) sheet p xs q →
+    stays_struck : (xs : List Struck) (p q : Place (List ℕ)) → length p.marks ≡ edge_count n → CompleteLines (marking_between mark n out put) sheet p xs q →
         open_in n p.marks c d ≡ false → open_in n q.marks c d ≡ false
     unfolding CompleteLines struck
-    stays-struck [] p q whole e h = subst (λ (z : Place (List ℕ)). open_in n z.marks c d ≡ false) e h
-    stays-struck (strikes a b next high ∷ xs) p q whole l h =
-        stays-struck xs (struck (marking_between mark n out put) p (strikes a b next high)) q (length_marked mark n p.marks a b ∙ whole) l.2 (after (joins_dec a b c d))
+    stays_struck [] p q whole e h = subst (λ (z : Place (List ℕ)). open_in n z.marks c d ≡ false) e h
+    stays_struck (strikes a b next high ∷ xs) p q whole l h =
+        stays_struck xs (struck (marking_between mark n out put) p (strikes a b next high)) q (length_marked mark n p.marks a b ∙ whole) l.2 (after (joins_dec a b c d))
       where
         ab : IsEdge n a b
         ab = line_edge p.marks p.index a b next high l.1
@@ -100,16 +100,16 @@ module _ (mark : ℕ) (other : mark ≡ open_mark → ⊥) (n : ℕ) (out put sh
         from (yes j) h = inl j
         from (no k) h = inr (rest.1 (marked_other mark marks ab cd k ∙ h.0, h.1))
 
-    lines-exactly : (xs : List Struck) (p q : Place (List ℕ)) → length p.marks ≡ edge_count n → CompleteLines (marking_between mark n out put) sheet p xs q →
+    lines_exactly : (xs : List Struck) (p q : Place (List ℕ)) → length p.marks ≡ edge_count n → CompleteLines (marking_between mark n out put) sheet p xs q →
         Has (struck_edges xs) c d ↔ ((open_in n p.marks c d ≡ true) × (open_in n q.marks c d ≡ false))
     unfolding CompleteLines struck
-    lines-exactly [] p q whole e =
+    lines_exactly [] p q whole e =
         (λ h. absurd h, λ h. absurd (false≢true (sym h.1 ∙ sym (ap (λ (z : Place (List ℕ)). open_in n z.marks c d) e) ∙ h.0)))
-    lines-exactly (strikes a b next high ∷ xs) p q whole l =
+    lines_exactly (strikes a b next high ∷ xs) p q whole l =
         let p' = struck (marking_between mark n out put) p (strikes a b next high) in
         let whole' = length_marked mark n p.marks a b ∙ whole in
         line-exactly p.marks q.marks xs a b whole (line_edge p.marks p.index a b next high l.1) l.1.at_line.is_open
-        (stays-struck xs p' q whole' l.2) (lines-exactly xs p' q whole' l.2)
+        (stays_struck xs p' q whole' l.2) (lines_exactly xs p' q whole' l.2)
 
   -- a call that passes the tests: the edges are those of its lines
   pub chain_changes : (marks : List ℕ) → length marks ≡ edge_count n → (r : Result (List ℕ)) (m : Answers (marking_between mark n out put) sheet (start marks) r) →
@@ -124,7 +124,7 @@ module _ (mark : ℕ) (other : mark ≡ open_mark → ⊥) (n : ℕ) (out put sh
         counted = ap (differences marks) m.marks_left ∙ s.counted ∙ sym m.counted;
         exactly = λ a b ab.
             subst (λ (left : List ℕ). Has (struck_edges m.lines) a b ↔ ((open_in n marks a b ≡ true) × (open_in n left a b ≡ false))) (sym m.marks_left)
-            (lines-exactly a b ab m.lines (start marks) m.place whole m.chain);
+            (lines_exactly a b ab m.lines (start marks) m.place whole m.chain);
       }
 
 -- nothing changed

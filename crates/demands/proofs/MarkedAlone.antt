@@ -89,10 +89,10 @@ module _ (d n : ℕ) (table set₀ s : List ℕ) (tests-passed : ready n (whole3
       }
 
   module _ (low : 1 ≤ d) where
-    handed-stays : {state : List ℕ} (e : ℕ) {left : List ℕ} → state_bytes ≤ length state → (e ≡ d → has_line state d ≡ true) → HandsIn state e left →
+    handed_stays : {state : List ℕ} (e : ℕ) {left : List ℕ} → state_bytes ≤ length state → (e ≡ d → has_line state d ≡ true) → HandsIn state e left →
         Stays state left
-    handed-stays {state} e room own refused = record { room = room; index = refl; last = refl; counted = refl }
-    handed-stays {state} e room own (taken a free) =
+    handed_stays {state} e room own refused = record { room = room; index = refl; last = refl; counted = refl }
+    handed_stays {state} e room own (taken a free) =
         let other : d ≡ e → ⊥ = λ z. true≢false (sym (own (sym z)) ∙ ap (has_line state) z ∙ free) in
         record {
           room = omega (arith, desk_length a 1 0 0, room);
@@ -125,8 +125,8 @@ module _ (d n : ℕ) (table set₀ s : List ℕ) (tests-passed : ready n (whole3
     happens g nothing = inl g
     happens g (hands_in {x = x} m e b own) =
         ⊎_elim
-        (λ h. inl (going_on (handed-stays e h.room own (fair.hands_in x.state e b)) h))
-        (λ h. inr (gone_on (handed-stays e h.room own (fair.hands_in x.state e b)) h))
+        (λ h. inl (going_on (handed_stays e h.room own (fair.hands_in x.state e b)) h))
+        (λ h. inr (gone_on (handed_stays e h.room own (fair.hands_in x.state e b)) h))
         (happens g m)
     happens g (other_served {x = x} m other b) =
         ⊎_elim (λ h. inl (going_on (turn_stays x.state h.room other b) h))

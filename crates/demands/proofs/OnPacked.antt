@@ -151,11 +151,11 @@ alike tests {n} {bytes} s (other r size q z e) = refused s.number (ap tests e �
 module _ {p : ℕ} {bytes : List ℕ} (some : least_points ≤ p) (b : ByteSet p bytes) (n : ℕ) where
   -- what is marked and listed behind such tests
   module _ (tests : List ℕ → Tested) (shared : Shared tests n) (out put : List ℕ) where
-    marked-alike : (mark : ℕ) (s : List ℕ) →
+    marked_alike : (mark : ℕ) (s : List ℕ) →
         repack n (packed bytes) (mark_tested mark (until_pending (tests (marks_of n (packed bytes))) (marks_of n (packed bytes))) out put (marks_of n (packed bytes)) s)
         ≡ packed_result (mark_tested mark (until_pending (tests bytes) bytes) out put bytes s)
     unfolding repacked
-    marked-alike mark s = on (alike tests shared (meet some b n))
+    marked_alike mark s = on (alike tests shared (meet some b n))
       where
         on : Alike tests n bytes →
             repack n (packed bytes) (mark_tested mark (until_pending (tests (marks_of n (packed bytes))) (marks_of n (packed bytes))) out put (marks_of n (packed bytes)) s)
@@ -166,18 +166,18 @@ module _ {p : ℕ} {bytes : List ℕ} (some : least_points ≤ p) (b : ByteSet p
             ∙ sym (ap (λ (t : Tested). packed_result (mark_tested mark (until_pending t bytes) out put bytes s)) g)
         on (held w e) = ap (λ (m : List ℕ). repack n (packed bytes) (mark_tested mark (until_pending (tests m) m) out put m s)) e ∙ rw w
 
-    listed-alike : (x y c size : ℕ) → list_tested (tests (marks_of n (packed bytes))) out put (marks_of n (packed bytes)) x y c size ≡ list_tested (tests bytes) out put bytes x y c size
-    listed-alike x y c size = on (alike tests shared (meet some b n))
+    listed_alike : (x y c size : ℕ) → list_tested (tests (marks_of n (packed bytes))) out put (marks_of n (packed bytes)) x y c size ≡ list_tested (tests bytes) out put bytes x y c size
+    listed_alike x y c size = on (alike tests shared (meet some b n))
       where
         on : Alike tests n bytes → list_tested (tests (marks_of n (packed bytes))) out put (marks_of n (packed bytes)) x y c size ≡ list_tested (tests bytes) out put bytes x y c size
         on (refused k f g) =
             ap (λ (t : Tested). list_tested t out put (marks_of n (packed bytes)) x y c size) f ∙ sym (ap (λ (t : Tested). list_tested t out put bytes x y c size) g)
         on (held w e) = ap (λ (m : List ℕ). list_tested (tests m) out put m x y c size) e
 
-    list-left-alike : (x y c size : ℕ) (list : List ℕ) →
+    list_left_alike : (x y c size : ℕ) (list : List ℕ) →
         list_left_of (list_tested (tests (marks_of n (packed bytes))) out put (marks_of n (packed bytes)) x y c size) n out put (marks_of n (packed bytes)) x y c list
         ≡ list_left_of (list_tested (tests bytes) out put bytes x y c size) n out put bytes x y c list
-    list-left-alike x y c size list = on (alike tests shared (meet some b n))
+    list_left_alike x y c size list = on (alike tests shared (meet some b n))
       where
         on : Alike tests n bytes →
             list_left_of (list_tested (tests (marks_of n (packed bytes))) out put (marks_of n (packed bytes)) x y c size) n out put (marks_of n (packed bytes)) x y c list
@@ -190,11 +190,11 @@ module _ {p : ℕ} {bytes : List ℕ} (some : least_points ≤ p) (b : ByteSet p
   -- MARKING AND ASKING, and marking over two tables
   pub mark_on_packed : (mark : ℕ) (table s : List ℕ) → mark_packed_by mark n table (packed bytes) s ≡ packed_result (mark_by mark n table bytes s)
   unfolding mark_packed_by mark_by ready
-  mark_on_packed mark table s = marked-alike (tested n table) (shared_tested n table) table table mark s
+  mark_on_packed mark table s = marked_alike (tested n table) (shared_tested n table) table table mark s
 
   pub mark_between_on_packed : (low high s : List ℕ) → mark_between_packed n low high (packed bytes) s ≡ packed_result (mark_between n low high bytes s)
   unfolding mark_between_packed mark_between ready_between
-  mark_between_on_packed low high s = marked-alike (tested_between n low high) (shared_between n low high) low high struck_mark s
+  mark_between_on_packed low high s = marked_alike (tested_between n low high) (shared_between n low high) low high struck_mark s
 
   -- TURNS (Paper 14), whatever the desks' state is: a desk's own, and then the whole call
   turned_alike : (table s : List ℕ) (index owner lines : ℕ) → turn_packed n table (packed bytes) s index owner lines ≡ packed_desk_turn (turn_marks n table bytes s index owner lines)
@@ -254,21 +254,21 @@ module _ {p : ℕ} {bytes : List ℕ} (some : least_points ≤ p) (b : ByteSet p
   -- LISTING PAIRS: the answer, and the list's bytes; and over two tables
   pub list_on_packed : (table : List ℕ) (x y c size : ℕ) → listed n table (marks_of n (packed bytes)) x y c size ≡ listed n table bytes x y c size
   unfolding listed
-  list_on_packed table = listed-alike (tested n table) (shared_tested n table) table table
+  list_on_packed table = listed_alike (tested n table) (shared_tested n table) table table
 
   pub list_left_on_packed : (table : List ℕ) (x y c size : ℕ) (list : List ℕ)
       → list_left_of (listed n table (marks_of n (packed bytes)) x y c size) n table table (marks_of n (packed bytes)) x y c list ≡ list_left_of (listed n table bytes x y c size) n table table bytes x y c list
   unfolding listed
-  list_left_on_packed table = list-left-alike (tested n table) (shared_tested n table) table table
+  list_left_on_packed table = list_left_alike (tested n table) (shared_tested n table) table table
 
   pub list_between_on_packed : (low high : List ℕ) (x y c size : ℕ) → listed_between n low high (marks_of n (packed bytes)) x y c size ≡ listed_between n low high bytes x y c size
   unfolding listed_between
-  list_between_on_packed low high = listed-alike (tested_between n low high) (shared_between n low high) low high
+  list_between_on_packed low high = listed_alike (tested_between n low high) (shared_between n low high) low high
 
   pub list_left_between_on_packed : (low high : List ℕ) (x y c size : ℕ) (list : List ℕ)
       → list_left_of (listed_between n low high (marks_of n (packed bytes)) x y c size) n low high (marks_of n (packed bytes)) x y c list ≡ list_left_of (listed_between n low high bytes x y c size) n low high bytes x y c list
   unfolding listed_between
-  list_left_between_on_packed low high = list-left-alike (tested_between n low high) (shared_between n low high) low high
+  list_left_between_on_packed low high = list_left_alike (tested_between n low high) (shared_between n low high) low high
 
   -- CHECKING A TOUR
   pub tour_on_packed : (table t : List ℕ) → tour_checked n table (marks_of n (packed bytes)) t ≡ tour_checked n table bytes t

@@ -31,7 +31,7 @@ open_few :
 unfolding total
 open_few [] marks edges once opens = omega arith
 open_few {n} (edge a b ∷ es) marks edges once opens =
-    omega (arith, struck_count n marks a b (opens a b here), open_few es (strike_in n marks a b) (λ c d h. edges c d (inr h)) once_after opens-after)
+    omega (arith, struck_count n marks a b (opens a b here), open_few es (strike_in n marks a b) (λ c d h. edges c d (inr h)) once_after opens_after)
   where
     here : Has (edge a b ∷ es) a b
     here = inl (inl (refl, refl))
@@ -43,8 +43,8 @@ open_few {n} (edge a b ∷ es) marks edges once opens =
     another : (c d : ℕ) → Has es c d → Joins (edge a b) c d → ⊥
     another c d h j = omega (arith, once c d (inr h), mark_true c d a b j, has_total es c d h)
 
-    opens-after : (c d : ℕ) → Has es c d → open_in n (strike_in n marks a b) c d ≡ true
-    opens-after c d h = marked_other struck_mark marks (edges a b here) (edges c d (inr h)) (another c d h) ∙ opens c d (inr h)
+    opens_after : (c d : ℕ) → Has es c d → open_in n (strike_in n marks a b) c d ≡ true
+    opens_after c d h = marked_other struck_mark marks (edges a b here) (edges c d (inr h)) (another c d h) ∙ opens c d (inr h)
 
 -- marks in which every edge of a tour is open
 module _ {n : ℕ} (some : least_points ≤ n) {t : List ℕ} (T : Tour n t) (marks : List ℕ) (opens : (a b : ℕ) → Uses t a b → open_in n marks a b ≡ true) where
@@ -68,9 +68,9 @@ module _ {n : ℕ} (some : least_points ≤ n) {t : List ℕ} (T : Tour n t) (ma
 module _ (n : ℕ) (T : Tables) (marks : List ℕ) where
   module _ (some : least_points ≤ n) {table : List ℕ} (served : Serves n T table) (keeps : KeepsTours Shortest n T marks) where
     -- the edges of a tour that is shortest under a table which the marks serve
-    all-open : (a b : ℕ) → Uses (shortest_exists n (length_of n table)).0 a b → open_in n marks a b ≡ true
+    all_open : (a b : ℕ) → Uses (shortest_exists n (length_of n table)).0 a b → open_in n marks a b ≡ true
     unfolding open_up_to
-    all-open a b u = let s = shortest_exists n (length_of n table) in ap (opens open_mark) (keeps table served s.0 s.1 a b u)
+    all_open a b u = let s = shortest_exists n (length_of n table) in ap (opens open_mark) (keeps table served s.0 s.1 a b u)
 
     -- PAPER 9: where marks keep shortest tours, every point has at least two open edges, and at least n edges are open.
     -- Some tour is shortest under a table that the marks serve, and all its edges are open. A point v stands in it
@@ -80,7 +80,7 @@ module _ (n : ℕ) (T : Tables) (marks : List ℕ) where
     -- different ones. Strike the n edges one after the other: each was open until then, so each takes one open mark
     -- away. So at least n were open.
     pub keeps_degree : (v : ℕ) → Point n v → 2 ≤ open_degree n marks v
-    keeps_degree = tour_degree some (shortest_exists n (length_of n table)).1.tour marks all-open
+    keeps_degree = tour_degree some (shortest_exists n (length_of n table)).1.tour marks all_open
 
     pub keeps_count : n ≤ open_count marks
-    keeps_count = tour_count some (shortest_exists n (length_of n table)).1.tour marks all-open
+    keeps_count = tour_count some (shortest_exists n (length_of n table)).1.tour marks all_open

@@ -203,9 +203,9 @@ module _ (d n : ℕ) (table set₀ s : List ℕ) (tests-passed : ready n (whole3
     entered⁰ = record { above = omega (arith, g.above); inside = g.inside }
 
     -- so the turn is one line from where the desk waits
-    turn-here : turn_packed n (whole32 table) x.set (whole16 s) (next_index x.state d) (owner x.state d) (lines_at x.state d)
+    turn_here : turn_packed n (whole32 table) x.set (whole16 s) (next_index x.state d) (owner x.state d) (lines_at x.state d)
         ≡ served_of outcome.served (packed outcome.marks)
-    turn-here =
+    turn_here =
         ap (λ (m : List ℕ). turn_packed n (whole32 table) m (whole16 s) (next_index x.state d) (owner x.state d)
         (lines_at x.state d)) g.marked
         ∙ ap₂ (λ (i o : ℕ). turn_packed n (whole32 table) (packed q.marks) (whole16 s) i o (lines_at x.state d)) g.index g.last
@@ -219,12 +219,12 @@ module _ (d n : ℕ) (table set₀ s : List ℕ) (tests-passed : ready n (whole3
       answer = served_number outcome.served + desk_bit * d;
     }
 
-    turns-to : turn_in_c x.state n table x.set s ≡ record
+    turns_to : turn_in_c x.state n table x.set s ≡ record
         { answer = turned.Desk d outcome.served; state = after.state; marks = after.set }
-    turns-to =
+    turns_to =
         turn-of x.state g.room mine x.set (turn_packed n (whole32 table) x.set (whole16 s))
         ∙ ap (λ (r : DeskTurn (List ℕ)). record
-        { answer = turned.Desk d r.served; state = served_left r.served x.state d; marks = r.marks }) turn-here
+        { answer = turned.Desk d r.served; state = served_left r.served x.state d; marks = r.marks }) turn_here
 
     abbrev pub seen : Seen
     seen = record {
@@ -233,9 +233,9 @@ module _ (d n : ℕ) (table set₀ s : List ℕ) (tests-passed : ready n (whole3
       answer = turned_number (turn_in_c x.state n table x.set s).answer;
     }
 
-    seen-after : seen ≡ after
+    seen_after : seen ≡ after
     unfolding turned_number
-    seen-after = ap (λ (t : Turn). record { state = t.state; set = t.marks; answer = turned_number t.answer }) turns-to
+    seen_after = ap (λ (t : Turn). record { state = t.state; set = t.marks; answer = turned_number t.answer }) turns_to
 
     -- the sheet ends at the place p
     gone : (v : declared.Verdict) (p : Place (List ℕ)) (w : Verdict (Unit {0})) → outcome ≡ served_of (served.Ended v) p.marks →
@@ -264,7 +264,7 @@ module _ (d n : ℕ) (table set₀ s : List ℕ) (tests-passed : ready n (whole3
             marked = ap (λ (o : DeskTurn (List ℕ)). packed o.marks) e ∙ sym (ap (λ (y : Result (List ℕ)). y.marks) to ∙ rw well);
           };
         } in
-        subst (Gone (suc k)) (sym seen-after) there
+        subst (Gone (suc k)) (sym seen_after) there
 
     -- the line is refused
     stops : (number rec : ℕ) → judge (𝓜.rules q.marks) (𝓜.open? q.marks) (whole16 s) q.index ≡ refused number rec →
@@ -280,15 +280,15 @@ module _ (d n : ℕ) (table set₀ s : List ℕ) (tests-passed : ready n (whole3
       abbrev p : Place (List ℕ)
       p = struck 𝓜 q y
 
-      step-here : line_step 𝓜 (whole16 s) q ≡ accepted (onward p)
-      step-here = step_strikes 𝓜 (whole16 s) q entered y j
+      step_here : line_step 𝓜 (whole16 s) q ≡ accepted (onward p)
+      step_here = step_strikes 𝓜 (whole16 s) q entered y j
 
       goes_further : lines_from 𝓜 (whole16 s) q ≡ lines_from 𝓜 (whole16 s) p
-      goes_further = lines_go_on 𝓜 (whole16 s) q p step-here
+      goes_further = lines_go_on 𝓜 (whole16 s) q p step_here
 
-      outcome-here : outcome ≡ served_of (ahead (records (whole16 s)) p.index p.last p.high p.lines) p.marks
+      outcome_here : outcome ≡ served_of (ahead (records (whole16 s)) p.index p.last p.high p.lines) p.marks
       unfolding turn_from step_served
-      outcome-here =
+      outcome_here =
           ap (step_served (whole16 s) q⁰) (step_strikes 𝓜 (whole16 s) q⁰ entered⁰ y j)
           ∙ ap (λ (z : Place (List ℕ)). served_of (ahead (records (whole16 s)) z.index z.last z.high z.lines) z.marks)
           (struck_same 𝓜 q y)
@@ -297,15 +297,15 @@ module _ (d n : ℕ) (table set₀ s : List ℕ) (tests-passed : ready n (whole3
       ends_at : (v : declared.Verdict) (w : Verdict (Unit {0})) →
           served.Ended v ≡ ahead (records (whole16 s)) p.index p.last p.high p.lines → lines_from 𝓜 (whole16 s) p ≡ answer p w
           → result_number (result_of v []) ≡ result_number (answer p w) → Gone (suc k) seen
-      ends_at v w e l r = gone v p w (outcome-here ∙ ap (λ (z : Served). served_of z p.marks) (sym e)) (goes_further ∙ l) r
+      ends_at v w e l r = gone v p w (outcome_here ∙ ap (λ (z : Served). served_of z p.marks) (sym e)) (goes_further ∙ l) r
 
-      struck-lines : (z : Struck) → (struck 𝓜 q z).lines ≡ suc q.lines
+      struck_lines : (z : Struck) → (struck 𝓜 q z).lines ≡ suc q.lines
       unfolding struck
-      struck-lines (strikes a b next high) = refl
+      struck_lines (strikes a b next high) = refl
 
-      struck-last : (z : Struck) → (struck 𝓜 q z).last ≡ q.index
+      struck_last : (z : Struck) → (struck 𝓜 q z).last ≡ q.index
       unfolding struck
-      struck-last (strikes a b next high) = refl
+      struck_last (strikes a b next high) = refl
 
       complete : CompleteAt (𝓜.rules q.marks) (𝓜.open? q.marks) (whole16 s) q.index y
       complete = by y j
@@ -320,15 +320,15 @@ module _ (d n : ℕ) (table set₀ s : List ℕ) (tests-passed : ready n (whole3
           p.high < p.index → p.index ≤ records (whole16 s) → Going (suc k) seen
       unfolding served_number served_left
       waits e above inside =
-          let o : outcome ≡ served_of (served.Waits p.index p.last p.lines) p.marks = outcome-here
+          let o : outcome ≡ served_of (served.Waits p.index p.last p.lines) p.marks = outcome_here
           ∙ ap (λ (z : Served). served_of z p.marks) (sym e) in
           let r : Served = served.Waits p.index p.last p.lines in
           let state-as : after.state ≡ served_left r x.state d = ap (λ (z : DeskTurn (List ℕ)). served_left z.served x.state d) o in
-          let rises = step_rises 𝓜 (whole16 s) q p step-here in
+          let rises = step_rises 𝓜 (whole16 s) q p step_here in
           let kept = step_keeps 𝓜 (λ (m : List ℕ). ByteSet n m × (none_pending m ≡ true))
           (λ m a b h. (struck-set struck_mark n (omega arith) m a b h.0, none_struck n m a b h.1))
-          (whole16 s) q p (g.bytes, g.none) step-here in
-          let lines_now : p.lines ≡ suc k = struck-lines y ∙ ap suc g.all_lines in
+          (whole16 s) q p (g.bytes, g.none) step_here in
+          let lines_now : p.lines ≡ suc k = struck_lines y ∙ ap suc g.all_lines in
           let few = few_records in
           let there : Going (suc k) after
           = record {
@@ -343,7 +343,7 @@ module _ (d n : ℕ) (table set₀ s : List ℕ) (tests-passed : ready n (whole3
             index = ap (λ (z : List ℕ). next_index z d) state-as ∙ served-number asked r (3 * d - 2) (omega (arith, asked.low))
                 ∙ desk_index asked p.index p.last p.lines ∙ omega (arith, inside, few);
             last = ap (λ (z : List ℕ). owner z d) state-as ∙ served-number asked r (3 * d - 1) (omega (arith, asked.low))
-                ∙ desk_owner asked p.index p.last p.lines ∙ omega (arith, struck-last y, g.inside, few);
+                ∙ desk_owner asked p.index p.last p.lines ∙ omega (arith, struck_last y, g.inside, few);
             counted = ap (λ (z : List ℕ). lines_at z d) state-as ∙ served-number asked r (3 * d) (omega (arith, asked.low))
                 ∙ desk_lines asked p.index p.last p.lines ∙ omega (arith, lines_now, g.low, g.above, g.inside, few);
             all_lines = lines_now;
@@ -353,7 +353,7 @@ module _ (d n : ℕ) (table set₀ s : List ℕ) (tests-passed : ready n (whole3
             answered = λ h. ap (λ (z : DeskTurn (List ℕ)). served_number z.served + desk_bit * d) o
                 ∙ ap (λ (m : ℕ). 16777216 * m + line_left_bit + desk_bit * d) lines_now;
           } in
-          subst (Going (suc k)) (sym seen-after) there
+          subst (Going (suc k)) (sym seen_after) there
 
       accepts : Going (suc k) seen ⊎ Gone (suc k) seen
       unfolding result_number answer

@@ -82,13 +82,13 @@ module _ {n : ℕ} (T : Tables) (some : least_points ≤ n) (low-whole : length 
 
   -- and so does a call over low and high
   between_passed : (m : ℕ) (marks : List ℕ) (p : ℕ) → ready_between m T.low T.high marks ≡ Points p → (p ≡ n) × LengthsBetween n T.low T.high table
-  between_passed m marks p e = (same, lengths_between n (served.between (subst (λ (q : ℕ). Ordered q T.low T.high) same interval-passed.listable.intervals.order)))
+  between_passed m marks p e = (same, lengths_between n (served.between (subst (λ (q : ℕ). Ordered q T.low T.high) same interval_passed.listable.intervals.order)))
     where
-      interval-passed : BetweenPassed m T.low T.high marks p
-      interval-passed = passed_ready e
+      interval_passed : BetweenPassed m T.low T.high marks p
+      interval_passed = passed_ready e
 
       same : p ≡ n
-      same = edge_count_injective p n (omega (arith, interval-passed.listable.least)) (omega arith) (sym interval-passed.listable.intervals.out_lengths.whole ∙ low-whole)
+      same = edge_count_injective p n (omega (arith, interval_passed.listable.least)) (omega arith) (sym interval_passed.listable.intervals.out_lengths.whole ∙ low-whole)
 
   sheet_kept : (mark : ℕ) (call : Call) → (HasOrder call.sheet → Orders) → (marks : List ℕ) → Kept n t marks → Kept n t (mark_by mark call.n T.own marks call.sheet).marks
   unfolding mark_by

@@ -52,9 +52,9 @@ module _ (n : ℕ) (table marks s : List ℕ) (i : ℕ) (p : TellPasses n table 
   module _ {r : ℕ} {left : List ℕ} (c : ToldInC n table marks s i buffer r left) {a b next high : ℕ}
       (l : CompleteLine (rules_of n table marks) (open_in n marks) s i a b next high) where
     -- a complete line whose text the buffer holds: the length of the text, and the text
-    told-left : length (line_text n table marks s i) ≤ length buffer
+    told_left : length (line_text n table marks s i) ≤ length buffer
         → (r ≡ 65536 * length (line_text n table marks s i)) × (left ≡ line_text n table marks s i ++ drop (length (line_text n table marks s i)) buffer)
-    told-left h =
+    told_left h =
         let e = (tells_exactly n table marks s i p (length buffer) (Bytes (length (line_text n table marks s i)))).1 (told (strikes a b next high) l h) in (
           c.answered ∙ ap telling_number e ∙ bytes_number (length (line_text n table marks s i)),
           c.text_left ∙ ap (λ (t : Telling). tell_left t (line_text n table marks s i) buffer) e,
@@ -68,7 +68,7 @@ module _ (n : ℕ) (table marks s : List ℕ) (i : ℕ) (p : TellPasses n table 
         × (r ≡ 65536 * length (text_of l.c (line_reasons n table marks s (record_at s i))))
         × (left ≡ text_of l.c (line_reasons n table marks s (record_at s i)) ++ drop (length (text_of l.c (line_reasons n table marks s (record_at s i)))) buffer)
     told_line_in_c h =
-        let k = told-left (omega (arith, told_fits n table marks s i p l)) in
+        let k = told_left (omega (arith, told_fits n table marks s i p l)) in
         let e = told_text n table marks s i p l in (
           told_line n table marks s i p l,
           subst (λ (t : List ℕ). r ≡ 65536 * length t) e k.0,
@@ -87,8 +87,8 @@ pub told_apart_in_c : {n m : ℕ} {table marks s table' marks' s' : List ℕ} {i
     → r ≡ r' → left ≡ left'
     → line_reasons n table marks s (record_at s i) ≡ line_reasons m table' marks' s' (record_at s' j)
 told_apart_in_c {n} {m} {table} {marks} {s} {table'} {marks'} {s'} {i} {j} {buffer} {buffer'} p p' c c' l l' h h' e f =
-    let k = told-left n table marks s i p buffer c l h in
-    let k' = told-left m table' marks' s' j p' buffer' c' l' h' in
+    let k = told_left n table marks s i p buffer c l h in
+    let k' = told_left m table' marks' s' j p' buffer' c' l' h' in
     let t = line_text n table marks s i in
     let u = line_text m table' marks' s' j in
     let same : length t ≡ length u = omega (arith, k.0, k'.0) in

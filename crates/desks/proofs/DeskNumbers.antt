@@ -90,15 +90,15 @@ module _ {state : List ℕ} {e : ℕ} (a : DeskAsked state e) where
   left_desk (Ended v) = (0, 0, 0, refl)
 
   module _ (r : Served) where
-    left-length : length (desk_left r state e) ≡ length state
-    left-length = let z = left_desk r in ap length z.3 ∙ desk_length a z.0 z.1 z.2
+    left_length : length (desk_left r state e) ≡ length state
+    left_length = let z = left_desk r in ap length z.3 ∙ desk_length a z.0 z.1 z.2
 
     room_first : 2 * (0 + 1) ≤ length (desk_left r state e)
-    room_first = omega (arith, left-length, a.room)
+    room_first = omega (arith, left_length, a.room)
 
     pub served_length : length (served_left r state e) ≡ length state
     unfolding served_left
-    served_length = set-length (desk_left r state e) 0 e room_first ∙ left-length
+    served_length = set-length (desk_left r state e) 0 e room_first ∙ left_length
 
     pub served_last : last_served (served_left r state e) ≡ e
     unfolding served_left

@@ -62,15 +62,15 @@ module _ (n : ℕ) (table marks s : List ℕ) {t : Tested} (e : t ≡ ready n ta
   sheet_untested {number} g = ap (λ (x : Tested). until_sheet x s) (sym g ∙ e)
 
   module _ {p : ℕ} (g : t ≡ tests.Points p) {a : SheetAdmission} (w : a ≡ sheet_admission (length s)) where
-    tested-whole : (b : Bool) → whole_sheet (length s) ≡ b → unless b (Refused 7) Done ≡ tested_sheet n table marks s
+    tested_whole : (b : Bool) → whole_sheet (length s) ≡ b → unless b (Refused 7) Done ≡ tested_sheet n table marks s
     unfolding tested_sheet
-    tested-whole b h = ap (λ (x : Bool). unless x (Refused 7) Done) (sym h) ∙ ap (λ (x : Tested). until_sheet x s) (sym g ∙ e)
+    tested_whole b h = ap (λ (x : Bool). unless x (Refused 7) Done) (sym h) ∙ ap (λ (x : Tested). until_sheet x s) (sym g ∙ e)
 
     pub sheet_refuses : a ≡ admitting.Refused → Refused 7 ≡ tested_sheet n table marks s
-    sheet_refuses z = tested-whole false (sheet_refused (length s) (sym w ∙ z))
+    sheet_refuses z = tested_whole false (sheet_refused (length s) (sym w ∙ z))
 
     pub sheet_passes : {x : declared.Sheet} → a ≡ admitting.Admitted x → Done ≡ tested_sheet n table marks s
-    sheet_passes z = tested-whole true (sheet_admitted (sym w ∙ z)).passed
+    sheet_passes z = tested_whole true (sheet_admitted (sym w ∙ z)).passed
 
 -- hand in
 module _ (d : ℕ) where
@@ -111,12 +111,12 @@ module _ (state : List ℕ) (d n : ℕ) (table marks s : List ℕ) where
       hand_in_busy h = handed (rw (long state room, at_desk, h)) refl
 
       module _ (free : has_line state d ≡ false) {r : Handed} (e : r ≡ tested_sheet n table marks s) where
-        handed-tested : {r' : Handed} → r ≡ r' → hand_in_answer state d n table marks s ≡ r'
+        handed_tested : {r' : Handed} → r ≡ r' → hand_in_answer state d n table marks s ≡ r'
         unfolding hand_in_answer
-        handed-tested g = rw (long state room, at_desk, free) (sym e ∙ g)
+        handed_tested g = rw (long state room, at_desk, free) (sym e ∙ g)
 
         pub hand_in_refused : {number : ℕ} → r ≡ Refused number → HandedInAs state d n table marks s (Refused number) state
-        hand_in_refused g = handed (handed-tested g) refl
+        hand_in_refused g = handed (handed_tested g) refl
 
         pub hand_in_done : r ≡ Done → {left : List ℕ} → SetAs state d 1 0 0 left → HandedInAs state d n table marks s Done left
-        hand_in_done g w = handed (handed-tested g) w.written
+        hand_in_done g w = handed (handed_tested g) w.written

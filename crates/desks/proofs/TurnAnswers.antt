@@ -129,12 +129,12 @@ module _ (n : ℕ) (table set s : List ℕ) (index owner lines : ℕ) {t : Teste
   turn_untested g h = ends h ∙ as_tested g
 
   module _ {p : ℕ} (g : t ≡ tests.Points p) {a : SheetAdmission} (w : a ≡ sheet_admission (length s)) where
-    as-whole : (b : Bool) → whole_sheet (length s) ≡ b →
+    as_whole : (b : Bool) → whole_sheet (length s) ≡ b →
         repack_desk_turn n set
         (unless b (served_of (Ended (verdict.Refused 7 0 lines)) (marks_of n set))
         (turn_from (marking_of p table) s (waiting (marks_of n set) index owner lines)))
         ≡ turn_packed n table set s index owner lines
-    as-whole b h =
+    as_whole b h =
         ap (λ (x : Bool). repack_desk_turn n set
         (unless x (served_of (Ended (verdict.Refused 7 0 lines)) (marks_of n set))
         (turn_from (marking_of p table) s (waiting (marks_of n set) index owner lines)))) (sym h)
@@ -142,7 +142,7 @@ module _ (n : ℕ) (table set s : List ℕ) (index owner lines : ℕ) {t : Teste
 
     pub turn_not_whole : {r : Served} → a ≡ admitting.Refused → r ≡ Ended (verdict.Refused 7 0 lines) →
         served_of r set ≡ turn_packed n table set s index owner lines
-    turn_not_whole z h = ends h ∙ as-whole false (sheet_refused (length s) (sym w ∙ z))
+    turn_not_whole z h = ends h ∙ as_whole false (sheet_refused (length s) (sym w ∙ z))
 
     pub turn_marked : {x : declared.Sheet} → a ≡ admitting.Admitted x → {r : Served} {left : List ℕ} →
         served_of r (marks_of p left) ≡ turn_from (marking_of p table) s (waiting (marks_of p set) index owner lines)
@@ -152,7 +152,7 @@ module _ (n : ℕ) (table set s : List ℕ) (index owner lines : ℕ) {t : Teste
         turned_packed p n table s set index owner lines r left (passed_some b) (passed_well set b)
         (ap (λ (k : ℕ). served_of r (marks_of k left)) (sym b.same) ∙ q
         ∙ ap (λ (k : ℕ). turn_from (marking_of p table) s (waiting (marks_of k set) index owner lines)) b.same)
-        ∙ as-whole true (sheet_admitted (sym w ∙ z)).passed
+        ∙ as_whole true (sheet_admitted (sym w ∙ z)).passed
 
 -- the desk's numbers that a turn leaves
 module _ {state : List ℕ} {d : ℕ} {r : Served} where

@@ -67,22 +67,22 @@ module _ {n : ℕ} {table legs : List ℕ} {bound : ℕ} {t : ℕ → ℕ → Bo
       rows_end (ap (λ (j : ℕ). keep t (rows x j)) k)
 
   module _ (h : x < n) where
-    tri-here : tri (n + 1 - x) ≡ tri (n + 1 - (x + 1)) + (n - x)
-    tri-here =
+    tri_here : tri (n + 1 - x) ≡ tri (n + 1 - (x + 1)) + (n - x)
+    tri_here =
         let e : n + 1 - x ≡ suc (n - x) = omega arith in
         let f : n - x ≡ n + 1 - (x + 1) = omega arith in
         omega (arith, ap tri e, tri-suc (n - x), ap tri f)
 
     -- there is room for the pairs of the row
     pub rows_room : (count + (n - x) ≤ most_edges) × (2 * (count + (n - x)) ≤ length found)
-    rows_room = (omega (arith, r.looked, tri-here, all_few), omega (arith, r.looked, tri-here, r.size, a.room, edge_count_tri n))
+    rows_room = (omega (arith, r.looked, tri_here, all_few), omega (arith, r.looked, tri_here, r.size, a.room, edge_count_tri n))
 
     pub rows_row : RowToList n table legs bound x found count
     rows_row = record { lengths = a.lengths; bounded = a.bounded; low = r.from; high = h; few = rows_room.0; room = rows_room.1 }
 
-    rows-here : keep t (rows x (n - x)) ≡ keep t (row x (suc x) (n - x)) ++ keep t (rows (x + 1) (n - (x + 1)))
+    rows_here : keep t (rows x (n - x)) ≡ keep t (row x (suc x) (n - x)) ++ keep t (rows (x + 1) (n - (x + 1)))
     unfolding rows
-    rows-here =
+    rows_here =
         let k : n - x ≡ suc (n - (x + 1)) = omega arith in
         ap (λ (j : ℕ). keep t (rows x j)) k
         ∙ keep_append t (row x (suc x) (suc (n - (x + 1)))) (rows (suc x) (n - (x + 1)))
@@ -98,12 +98,12 @@ module _ {n : ℕ} {table legs : List ℕ} {bound : ℕ} {t : ℕ → ℕ → Bo
           from = omega arith;
           within = omega arith;
           size = same ∙ r.size;
-          looked = omega (arith, r.looked, tri-here, keep_fewer t (row x (suc x) (n - x)), length_row x (suc x) (n - x));
-          counted = omega (arith, r.counted, ap length rows-here, length-append here rest);
+          looked = omega (arith, r.looked, tri_here, keep_fewer t (row x (suc x) (n - x)), length_row x (suc x) (n - x));
+          counted = omega (arith, r.counted, ap length rows_here, length-append here rest);
           written = ap (λ (ys : List ℕ). ys ++ numbers_of rest) w
               ∙ append_assoc (take (2 * count) found) (numbers_of here) (numbers_of rest)
               ∙ ap (λ (ys : List ℕ). take (2 * count) found ++ ys) (sym (numbers_of-append here rest))
-              ∙ ap (λ (es : List Edge). take (2 * count) found ++ numbers_of es) (sym rows-here)
+              ∙ ap (λ (es : List Edge). take (2 * count) found ++ numbers_of es) (sym rows_here)
               ∙ r.written;
         }
 

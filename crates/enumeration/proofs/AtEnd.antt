@@ -88,8 +88,8 @@ module _ {n : ℕ} {table legs : List ℕ} {bound other : ℕ} {found₀ : List 
     pub below_more : {m len : ℕ} → LengthIs n table x other len → m ≡ ones (leb (cost + get_or legs x 0) (len + bound) && not (eqb other 0)) → m ≤ 1
     below_more {m} {len} l e = omega (arith, ones_small (leb (cost + get_or legs x 0) (len + bound) && not (eqb other 0)))
 
-    row-only : keep (at_end? n table legs bound other) (row x (suc x) (n - x)) ≡ keep (at_end? n table legs bound other) (edge x other ∷ [])
-    row-only =
+    row_only : keep (at_end? n table legs bound other) (row x (suc x) (n - x)) ≡ keep (at_end? n table legs bound other) (edge x other ∷ [])
+    row_only =
         keep_only (at_end? n table legs bound other) x other
         (λ z g. end_no n table legs bound other x z (λ e. omega arith) (λ e. g (sym e)))
         (suc x) (n - x) (omega arith) (omega (arith, r.asked.point.high))
@@ -110,11 +110,11 @@ module _ {n : ℕ} {table legs : List ℕ} {bound other : ℕ} {found₀ : List 
           is_cost = r.is_cost;
           rows = rows_on r.asked.asked r.rows inside
               (length-set (set found (2 * count) x) (2 * count + 1) other ∙ length-set found (2 * count) x)
-              (omega (arith, count_pair t [] x other count (t x other) refl, ap length row-only))
+              (omega (arith, count_pair t [] x other count (t x other) refl, ap length row_only))
               (ap (λ (j : ℕ). take (2 * (count + j)) left) f
               ∙ sym (append-nil (take (2 * (count + ones (t x other))) left))
               ∙ write_pair t [] x other count found below_room.1 (t x other) refl
-              ∙ ap (λ (es : List Edge). take (2 * count) found ++ numbers_of es) (sym row-only));
+              ∙ ap (λ (es : List Edge). take (2 * count) found ++ numbers_of es) (sym row_only));
           below = omega arith;
         }
 

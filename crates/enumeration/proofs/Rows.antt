@@ -114,9 +114,9 @@ module _ {n : ℕ} {table legs : List ℕ} {bound x barred : ℕ} {found₀ : Li
     pub has_room : (count < most_edges) × (2 * count + 1 < length found)
     has_room = (omega (arith, r.looked, r.asked.few), omega (arith, r.looked, r.asked.room, r.size))
 
-    test-here : leb (cost + get_or legs (x + 1 + i) 0) (get_or table (first + i) 0 + bound) && not (eqb (x + 1 + i) barred) ≡ unbarred? n table legs bound barred x (x + 1 + i)
+    test_here : leb (cost + get_or legs (x + 1 + i) 0) (get_or table (first + i) 0 + bound) && not (eqb (x + 1 + i) barred) ≡ unbarred? n table legs bound barred x (x + 1 + i)
     unfolding unbarred? passes?
-    test-here =
+    test_here =
         ap₂ (λ (p q : ℕ). leb (p + get_or legs (x + 1 + i) 0) (q + bound) && not (eqb (x + 1 + i) barred))
         r.is_cost
         (ap (λ (j : ℕ). get_or table j 0) place_here ∙ sym (length_up n table x (x + 1 + i) edge_here.up))
@@ -137,7 +137,7 @@ module _ {n : ℕ} {table legs : List ℕ} {bound x barred : ℕ} {found₀ : Li
         let t = unbarred? n table legs bound barred in
         let z = x + 1 + i in
         let rest = row x (x + 1 + (i + 1)) (n - x - (i + 1)) in
-        let f : m ≡ ones (t x z) = e ∙ ap (λ (l : ℕ). ones (leb (cost + get_or legs z 0) (l + bound) && not (eqb z barred))) is ∙ ap ones test-here in
+        let f : m ≡ ones (t x z) = e ∙ ap (λ (l : ℕ). ones (leb (cost + get_or legs z 0) (l + bound) && not (eqb z barred))) is ∙ ap ones test_here in
         record {
           asked = r.asked;
           is_cost = r.is_cost;

@@ -82,13 +82,13 @@ module _ {n a at b place : ℕ} {rule : Rule} {cs table₀ table : List ℕ} (f 
     row_edge : IsEdgeUp n a (b + 1)
     row_edge = record { low = f.asked.first.low; up = omega (arith, f.low); high = omega arith }
 
-    row-place : place_up n a (b + 1) ≡ place
-    row-place =
+    row_place : place_up n a (b + 1) ≡ place
+    row_place =
         let e : a + 1 + (b - a) ≡ b + 1 = omega (arith, f.low) in
         sym (ap (place_up n a) e) ∙ omega (arith, place_up_add n a (a + 1) (b - a) (omega arith), f.asked.place, f.here)
 
     pub row_inside : place < edge_count n
-    row_inside = omega (arith, row-place, place_up_below row_edge, edge_count_tri n)
+    row_inside = omega (arith, row_place, place_up_below row_edge, edge_count_tri n)
 
     pub row_entry : Entry 4 table place
     row_entry = record { inside = omega (arith, row_inside, f.kept, f.asked.size) }
@@ -113,7 +113,7 @@ module _ {n a at b place : ℕ} {rule : Rule} {cs table₀ table : List ℕ} (f 
       here = omega (arith, f.here, f.low);
       kept = p.kept ∙ f.kept;
       written = λ before e. encoding_on (f.written before e) (omega (arith, row_inside, length_measured rule cs n (omega arith)))
-          (is ∙ distance_edge rule cs a (b + 1) is_x is_y ∙ sym (measured_at rule cs row_edge) ∙ ap (λ (k : ℕ). get_or (measured_table rule cs n) k 0) row-place) p;
+          (is ∙ distance_edge rule cs a (b + 1) is_x is_y ∙ sym (measured_at rule cs row_edge) ∙ ap (λ (k : ℕ). get_or (measured_table rule cs n) k 0) row_place) p;
     }
 
     -- the same by a rule that is told to be this one

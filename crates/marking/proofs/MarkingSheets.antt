@@ -101,19 +101,19 @@ module _ (mark n : ℕ) (out put set s : List ℕ) {r base : Tested} (e : r ≡ 
   untested g h = turns_down h ∙ as_tested g
 
   module _ {p : ℕ} (g : r ≡ Points p) {a : SheetAdmission} (w : a ≡ sheet_admission (length s)) where
-    as-whole : (b : Bool) → whole_sheet (length s) ≡ b → repack n set (unless b (turned_down 7 (marks_of n set)) (sheet (marking_between mark p out put) s (marks_of n set)))
+    as_whole : (b : Bool) → whole_sheet (length s) ≡ b → repack n set (unless b (turned_down 7 (marks_of n set)) (sheet (marking_between mark p out put) s (marks_of n set)))
         ≡ repack n set (mark_tested mark base out put (marks_of n set) s)
-    as-whole b h = ap (λ (t : Bool). repack n set (unless t (turned_down 7 (marks_of n set)) (sheet (marking_between mark p out put) s (marks_of n set)))) (sym h) ∙ as_tested g
+    as_whole b h = ap (λ (t : Bool). repack n set (unless t (turned_down 7 (marks_of n set)) (sheet (marking_between mark p out put) s (marks_of n set)))) (sym h) ∙ as_tested g
 
     pub not_whole : {v : Verdict} → a ≡ admitting.Refused → v ≡ verdict.Refused 7 0 0 → result_of v set ≡ repack n set (mark_tested mark base out put (marks_of n set) s)
-    not_whole z h = turns_down h ∙ as-whole false (sheet_refused (length s) (sym w ∙ z))
+    not_whole z h = turns_down h ∙ as_whole false (sheet_refused (length s) (sym w ∙ z))
 
     pub marked : {x : declared.Sheet} → a ≡ admitting.Admitted x → BetweenPassed n out put (marks_of n set) p → (v : Verdict) (left : List ℕ) → mark ≤ pending_mark
         → result_of v (marks_of p left) ≡ sheet (marking_between mark p out put) s (marks_of p set) → result_of v left ≡ repack n set (mark_tested mark base out put (marks_of n set) s)
     marked z t v left l q =
         marked_packed mark p n out put s set v left l (passed_some t) (passed_well set t)
         (ap (λ (k : ℕ). result_of v (marks_of k left)) (sym t.same) ∙ q ∙ ap (λ (k : ℕ). sheet (marking_between mark p out put) s (marks_of k set)) t.same)
-        ∙ as-whole true (sheet_admitted (sym w ∙ z)).passed
+        ∙ as_whole true (sheet_admitted (sym w ∙ z)).passed
 
 -- the ways out of `mark_with`
 module _ (mark n : ℕ) (table set s : List ℕ) {r : Tested} (e : r ≡ ready n table (marks_of n set)) where

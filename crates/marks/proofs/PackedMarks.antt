@@ -61,16 +61,16 @@ module _ (n : ℕ) (s : List ℕ) {at : ℕ} (whole : length (marks_of n s) ≡ 
             ∙ ap (λ (k : ℕ). quarter (get_or s k 0) (i % 4)) (sym e)
         others i d (no g) = ap (λ (b : ℕ). quarter b (i % 4)) (get_or-set_other s (at / 4) (i / 4) r 0 g)
 
-    written-set : ByteSet n written
+    written_set : ByteSet n written
     unfolding written
-    written-set = record { size = mark_size (marks_of n s) at mark ∙ whole; are = marks_set (marks_of n s) at mark is_mark (marks_are n s) }
+    written_set = record { size = mark_size (marks_of n s) at mark ∙ whole; are = marks_set (marks_of n s) at mark is_mark (marks_are n s) }
 
     -- the set with these two bits written holds the marks with this one written
     pub held_written : marks_of n (set s (at / 4) r) ≡ set_mark (marks_of n s) at mark
     unfolding written
     held_written =
-        ap (marks_of n) (packed_as (set s (at / 4) r) written (length-set s (at / 4) r ∙ (well-packed n s held_well).size ∙ ap packed_bytes (sym written-set.size)) small written_at)
-        ∙ marks_packed written-set
+        ap (marks_of n) (packed_as (set s (at / 4) r) written (length-set s (at / 4) r ∙ (well-packed n s held_well).size ∙ ap packed_bytes (sym written_set.size)) small written_at)
+        ∙ marks_packed written_set
       where
         small : (k : ℕ) → get_or (set s (at / 4) r) k 0 ≤ 255
         small k = elim (ℕ_discrete k (at / 4)) [

@@ -89,13 +89,13 @@ module _ (n : ℕ) (s : List ℕ) (h : well_packed n s ≡ true) where
       packed_as (map (resolved_byte to) s) (resolved_marks to (marks_of n s))
       (length-map s (resolved_byte to) ∙ (well-packed n s h).size ∙ ap packed_bytes (sym (resolved_size to (marks_of n s) ∙ marks_size n s h)))
       (λ k. omega (arith, get_or-map (resolved_byte to) s k 0, byte k 0, byte k 1, byte k 2, byte k 3))
-      (λ i. resolved-quarter (i / 4) (i % 4) (omega arith) ∙ ap (resolved_mark to) (marks_quarter n s h i) ∙ sym (resolved_at to (marks_of n s) i))
+      (λ i. resolved_quarter (i / 4) (i % 4) (omega arith) ∙ ap (resolved_mark to) (marks_quarter n s h i) ∙ sym (resolved_at to (marks_of n s) i))
     where
       byte : (k j : ℕ) → resolved_mark to (quarter (get_or s k 0) j) ≤ 3
       byte k j = resolved_small to (quarter (get_or s k 0) j) (omega arith) (quarter_small (get_or s k 0) j)
 
-      resolved-quarter : (k j : ℕ) → j < 4 → quarter (get_or (map (resolved_byte to) s) k 0) j ≡ resolved_mark to (quarter (get_or s k 0) j)
-      resolved-quarter k j g =
+      resolved_quarter : (k j : ℕ) → j < 4 → quarter (get_or (map (resolved_byte to) s) k 0) j ≡ resolved_mark to (quarter (get_or s k 0) j)
+      resolved_quarter k j g =
           ap (λ (b : ℕ). quarter b j) (get_or-map (resolved_byte to) s k 0)
           ∙ quarters_byte (λ (i : ℕ). resolved_mark to (quarter (get_or s k 0) i)) (byte k) j g
 

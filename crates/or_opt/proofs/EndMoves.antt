@@ -71,20 +71,20 @@ module _ {n : ℕ} {out put : List ℕ} {w taken given u v : ℕ} (a : OntoAsked
               ≡ eqb u w || (eqb v w || not (ltb (length_of n high s t + length_of n high u w + length_of n high v w) (length_of n low u v + length_of n low s w + length_of n low t w)))
           tell s t low high rl rh et eg = go (ltb (length_of n high s t + length_of n high u w + length_of n high v w) (length_of n low u v + length_of n low s w + length_of n low t w)) refl
             where
-              is-uw : uw ≡ length_of n high w u
-              is-uw = eu ∙ ap (λ (i : ℕ). get_or put (i + u) 0) e ∙ (rh.row w a.point).each u a.from
+              is_uw : uw ≡ length_of n high w u
+              is_uw = eu ∙ ap (λ (i : ℕ). get_or put (i + u) 0) e ∙ (rh.row w a.point).each u a.from
 
-              is-vw : vw ≡ length_of n high w v
-              is-vw = ev ∙ ap (λ (i : ℕ). get_or put (i + v) 0) e ∙ (rh.row w a.point).each v a.to
+              is_vw : vw ≡ length_of n high w v
+              is_vw = ev ∙ ap (λ (i : ℕ). get_or put (i + v) 0) e ∙ (rh.row w a.point).each v a.to
 
-              is-uv : uv ≡ length_of n low u v
-              is-uv = ei ∙ ap (λ (i : ℕ). get_or out (i + v) 0) f ∙ (rl.row u a.from).each v a.to
+              is_uv : uv ≡ length_of n low u v
+              is_uv = ei ∙ ap (λ (i : ℕ). get_or out (i + v) 0) f ∙ (rl.row u a.from).each v a.to
 
               old : taken + uv ≡ length_of n low u v + length_of n low s w + length_of n low t w
-              old = omega (arith, et, is-uv, length_symmetric n low w s, length_symmetric n low w t)
+              old = omega (arith, et, is_uv, length_symmetric n low w s, length_symmetric n low w t)
 
               new : given + uw + vw ≡ length_of n high s t + length_of n high u w + length_of n high v w
-              new = omega (arith, eg, is-uw, is-vw, length_symmetric n high w u, length_symmetric n high w v)
+              new = omega (arith, eg, is_uw, is_vw, length_symmetric n high w u, length_symmetric n high w v)
 
               go : (b : Bool) → ltb (length_of n high s t + length_of n high u w + length_of n high v w) (length_of n low u v + length_of n low s w + length_of n low t w) ≡ b
                   → leb (taken + uv) (given + uw + vw)

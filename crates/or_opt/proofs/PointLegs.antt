@@ -91,31 +91,31 @@ module _ {n : ℕ} {out put : List ℕ} {c w s t : ℕ} {legs : List ℕ} (a : M
 
         module _ (low high : List ℕ) (rl : Rows n low out) (rh : Rows n high put) where
           -- the comparison is that of `stays?`, at a leg that is a length
-          leg-test : (x : ℕ) → Point n x → (x ≡ w → ⊥)
+          leg_test : (x : ℕ) → Point n x → (x ≡ w → ⊥)
               → leb (length_of n low c x + (sw + tw)) (max (cw + st + get_or put (at + x) 0) (cw + st + get_or put (at + x) 0)) ≡ stays? (length_of n low) (length_of n high) w s t c x
           unfolding stays?
-          leg-test x p nx = go (ltb (length_of n high s t + length_of n high c w + length_of n high x w) (length_of n low c x + length_of n low s w + length_of n low t w)) refl
+          leg_test x p nx = go (ltb (length_of n high s t + length_of n high c w + length_of n high x w) (length_of n low c x + length_of n low s w + length_of n low t w)) refl
             where
-              is-sw : sw ≡ length_of n low w s
-              is-sw = es ∙ ap (λ (i : ℕ). get_or out (i + s) 0) e ∙ (rl.row w a.asked.point).each s a.asked.first
+              is_sw : sw ≡ length_of n low w s
+              is_sw = es ∙ ap (λ (i : ℕ). get_or out (i + s) 0) e ∙ (rl.row w a.asked.point).each s a.asked.first
 
-              is-tw : tw ≡ length_of n low w t
-              is-tw = et ∙ ap (λ (i : ℕ). get_or out (i + t) 0) e ∙ (rl.row w a.asked.point).each t a.asked.second
+              is_tw : tw ≡ length_of n low w t
+              is_tw = et ∙ ap (λ (i : ℕ). get_or out (i + t) 0) e ∙ (rl.row w a.asked.point).each t a.asked.second
 
-              is-cw : cw ≡ length_of n high w c
-              is-cw = ec ∙ ap (λ (i : ℕ). get_or put (i + c) 0) e ∙ (rh.row w a.asked.point).each c a.asked.lent.centre
+              is_cw : cw ≡ length_of n high w c
+              is_cw = ec ∙ ap (λ (i : ℕ). get_or put (i + c) 0) e ∙ (rh.row w a.asked.point).each c a.asked.lent.centre
 
-              is-st : st ≡ length_of n high s t
-              is-st = ei ∙ ap (λ (i : ℕ). get_or put (i + t) 0) f ∙ (rh.row s a.asked.first).each t a.asked.second
+              is_st : st ≡ length_of n high s t
+              is_st = ei ∙ ap (λ (i : ℕ). get_or put (i + t) 0) f ∙ (rh.row s a.asked.first).each t a.asked.second
 
-              is-xw : get_or put (at + x) 0 ≡ length_of n high w x
-              is-xw = ap (λ (i : ℕ). get_or put (i + x) 0) e ∙ (rh.row w a.asked.point).each x p
+              is_xw : get_or put (at + x) 0 ≡ length_of n high w x
+              is_xw = ap (λ (i : ℕ). get_or put (i + x) 0) e ∙ (rh.row w a.asked.point).each x p
 
               old : length_of n low c x + (sw + tw) ≡ length_of n low c x + length_of n low s w + length_of n low t w
-              old = omega (arith, is-sw, is-tw, length_symmetric n low w s, length_symmetric n low w t)
+              old = omega (arith, is_sw, is_tw, length_symmetric n low w s, length_symmetric n low w t)
 
               new : cw + st + get_or put (at + x) 0 ≡ length_of n high s t + length_of n high c w + length_of n high x w
-              new = omega (arith, is-cw, is-st, is-xw, length_symmetric n high w c, length_symmetric n high w x)
+              new = omega (arith, is_cw, is_st, is_xw, length_symmetric n high w c, length_symmetric n high w x)
 
               go : (b : Bool) → ltb (length_of n high s t + length_of n high c w + length_of n high x w) (length_of n low c x + length_of n low s w + length_of n low t w) ≡ b
                   → leb (length_of n low c x + (sw + tw)) (max (cw + st + get_or put (at + x) 0) (cw + st + get_or put (at + x) 0))
@@ -125,52 +125,52 @@ module _ {n : ℕ} {out put : List ℕ} {c w s t : ℕ} {legs : List ℕ} (a : M
               go false i = le-leb (length_of n low c x + (sw + tw)) (max (cw + st + get_or put (at + x) 0) (cw + st + get_or put (at + x) 0)) (omega (arith, old, new, ltb-false (length_of n high s t + length_of n high c w + length_of n high x w) (length_of n low c x + length_of n low s w + length_of n low t w) i))
                   ∙ rw (ne_eqb c w (λ q. a.apart (sym q)), ne_eqb x w nx, i)
 
-          leg-moved : (x : ℕ) → Point n x → (x ≡ w → ⊥) → (g : Bool)
+          leg_moved : (x : ℕ) → Point n x → (x ≡ w → ⊥) → (g : Bool)
               → narrowed_by (cond g (length_of n low c x) far) (cond g (length_of n low c x) far + (sw + tw)) (cw + st + get_or put (at + x) 0) (cw + st + get_or put (at + x) 0)
               ≡ cond (stays? (length_of n low) (length_of n high) w s t c x && g) (length_of n low c x) far
           unfolding narrowed_by
-          leg-moved x p nx true = ap (λ (b : Bool). cond b (length_of n low c x) far) (leg-test x p nx ∙ sym (and_yes (stays? (length_of n low) (length_of n high) w s t c x)))
-          leg-moved x p nx false =
+          leg_moved x p nx true = ap (λ (b : Bool). cond b (length_of n low c x) far) (leg_test x p nx ∙ sym (and_yes (stays? (length_of n low) (length_of n high) w s t c x)))
+          leg_moved x p nx false =
               cond_same (leb (far + (sw + tw)) (max (cw + st + get_or put (at + x) 0) (cw + st + get_or put (at + x) 0))) far
-              ∙ no-and (stays? (length_of n low) (length_of n high) w s t c x)
+              ∙ no_and (stays? (length_of n low) (length_of n high) w s t c x)
             where
-              no-and : (b : Bool) → far ≡ cond (b && false) (length_of n low c x) far
-              no-and true = refl
-              no-and false = refl
+              no_and : (b : Bool) → far ≡ cond (b && false) (length_of n low c x) far
+              no_and true = refl
+              no_and false = refl
 
           -- at the point itself, and at another
-          own-joint : joint? (length_of n low) (length_of n high) c w w s t ≡ eqb s c || eqb t c
+          own_joint : joint? (length_of n low) (length_of n high) c w w s t ≡ eqb s c || eqb t c
           unfolding joint? stays?
-          own-joint = rw (ne_eqb c w (λ q. a.apart (sym q)), eq-eqb w w refl)
+          own_joint = rw (ne_eqb c w (λ q. a.apart (sym q)), eq-eqb w w refl)
 
-          other-joint : (x : ℕ) → (x ≡ w → ⊥) → joint? (length_of n low) (length_of n high) c x w s t ≡ stays? (length_of n low) (length_of n high) w s t c x
+          other_joint : (x : ℕ) → (x ≡ w → ⊥) → joint? (length_of n low) (length_of n high) c x w s t ≡ stays? (length_of n low) (length_of n high) w s t c x
           unfolding joint?
-          other-joint x nx = ap (λ (b : Bool). stays? (length_of n low) (length_of n high) w s t c x && (not b || (eqb s c || eqb t c))) (ne_eqb x w nx) ∙ and_yes (stays? (length_of n low) (length_of n high) w s t c x)
+          other_joint x nx = ap (λ (b : Bool). stays? (length_of n low) (length_of n high) w s t c x && (not b || (eqb s c || eqb t c))) (ne_eqb x w nx) ∙ and_yes (stays? (length_of n low) (length_of n high) w s t c x)
 
-          own-moved : (b d : Bool) → cond b (cond d (length_of n low c w) far) far ≡ cond (b && d) (length_of n low c w) far
-          own-moved true d = refl
-          own-moved false d = refl
+          own_moved : (b d : Bool) → cond b (cond d (length_of n low c w) far) far ≡ cond (b && d) (length_of n low c w) far
+          own_moved true d = refl
+          own_moved false d = refl
 
-          moved-each : (g : ℕ → Bool) → LegsBy n (length_of n low) c g legs
+          moved_each : (g : ℕ → Bool) → LegsBy n (length_of n low) c g legs
               → LegsBy n (length_of n low) c (λ (x : ℕ). joint? (length_of n low) (length_of n high) c x w s t && g x) (set r w own)
-          moved-each g i x p = elim (ℕ_discrete x w) [
+          moved_each g i x p = elim (ℕ_discrete x w) [
             | yes q ↦
                 ap (λ (j : ℕ). get_or (set r w own) j 0) q
                 ∙ stored_here h.list w own own_place
                 ∙ eo
                 ∙ ap (λ (j : ℕ). cond (eqb s c || eqb t c) j far) (i w a.asked.point)
-                ∙ own-moved (eqb s c || eqb t c) (g w)
-                ∙ sym (ap (λ (j : ℕ). cond (joint? (length_of n low) (length_of n high) c j w s t && g j) (length_of n low c j) far) q ∙ ap (λ (b : Bool). cond (b && g w) (length_of n low c w) far) own-joint)
+                ∙ own_moved (eqb s c || eqb t c) (g w)
+                ∙ sym (ap (λ (j : ℕ). cond (joint? (length_of n low) (length_of n high) c j w s t && g j) (length_of n low c j) far) q ∙ ap (λ (b : Bool). cond (b && g w) (length_of n low c w) far) own_joint)
             | no nx ↦
                 get_or-set_other r w x own 0 nx
                 ∙ h.each x p
                 ∙ ap (λ (j : ℕ). narrowed_by j (j + (sw + tw)) (cw + st + get_or put (at + x) 0) (cw + st + get_or put (at + x) 0)) (i x p)
-                ∙ leg-moved x p nx (g x)
-                ∙ sym (ap (λ (b : Bool). cond (b && g x) (length_of n low c x) far) (other-joint x nx))
+                ∙ leg_moved x p nx (g x)
+                ∙ sym (ap (λ (b : Bool). cond (b && g x) (length_of n low c x) far) (other_joint x nx))
           ]
 
         pub moved_told : Moved n out put c w s t legs (set r w own)
-        moved_told = record { list = moved_list; each = moved-each }
+        moved_told = record { list = moved_list; each = moved_each }
 
 -- one test after the other
 pub further_then : {n : ℕ} {out put : List ℕ} {c : ℕ} {legs mid left : List ℕ} (one two both : (l m : ℕ → ℕ → ℕ) → ℕ → Bool)

@@ -102,15 +102,15 @@ module _ {a b len : ℕ} {out : List ℕ} {at : ℕ} (p : LineAsked a b len out 
     second_asked = record { digits = omega (arith, point-digits b p.points.high); room = omega (arith, p.room, past_first, w.kept) }
 
     module _ {mid₂ : List ℕ} {r₂ : ℕ} (w₂ : Wrote mid r (padded 4 b) r₂ mid₂) where
-      past-second : r₂ ≡ at + 7
-      past-second = omega (arith, past_first, w₂.next, padded-length 4 b (omega (arith, point-digits b p.points.high)))
+      past_second : r₂ ≡ at + 7
+      past_second = omega (arith, past_first, w₂.next, padded-length 4 b (omega (arith, point-digits b p.points.high)))
 
       pub third_asked : PaddedAsked 8 len mid₂ r₂
-      third_asked = record { digits = omega (arith, length_digits len p.small); room = omega (arith, p.room, past-second, w.kept, w₂.kept) }
+      third_asked = record { digits = omega (arith, length_digits len p.small); room = omega (arith, p.room, past_second, w.kept, w₂.kept) }
 
       module _ {mid₃ : List ℕ} {r₃ : ℕ} (w₃ : Wrote mid₂ r₂ (padded 8 len) r₃ mid₃) (mark : ℕ) where
         pub end_room : Room mid₃ r₃ (line_end mark)
-        end_room = record { room = omega (arith, p.room, past-second, w₃.next, padded-length 8 len (omega (arith, length_digits len p.small)), w.kept, w₂.kept, w₃.kept, end_length mark) }
+        end_room = record { room = omega (arith, p.room, past_second, w₃.next, padded-length 8 len (omega (arith, length_digits len p.small)), w.kept, w₂.kept, w₃.kept, end_length mark) }
 
         pub line_wrote : {left : List ℕ} {r : ℕ} → Wrote mid₃ r₃ (line_end mark) r left → Wrote out at (line_text a b len mark) r left
         line_wrote v = wrote_as (sym (line_parts p.points p.small mark)) (wrote_both (wrote_both (wrote_both w w₂) w₃) v)

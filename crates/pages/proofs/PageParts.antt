@@ -31,17 +31,17 @@ module _ (n p : ℕ) where
     unfolding is_page page_count
     page_there g = and_both (leb 1 p) (leb p (page_count n)) (le-leb 1 p h) (le-leb p (page_count n) (omega arith))
 
-    lines-there : {first lines : ℕ} → most_lines * (p - 1) < count → first ≡ most_lines * (p - 1) → lines ≡ min most_lines (count - first) → Lines first lines ≡ page_of n p
+    lines_there : {first lines : ℕ} → most_lines * (p - 1) < count → first ≡ most_lines * (p - 1) → lines ≡ min most_lines (count - first) → Lines first lines ≡ page_of n p
     unfolding page_of first_place page_lines
-    lines-there {first} {lines} g e l =
+    lines_there {first} {lines} g e l =
         ap₂ Lines e (omega (arith, is, e, l))
         ∙ sym (ap (λ (t : Bool). cond t (Lines (first_place p) (page_lines n p)) OutOfRange) (page_there g))
 
     pub page_last : {first : ℕ} → first ≡ most_lines * (p - 1) → (count ≤ first → ⊥) → count - first < most_lines → Lines first (count - first) ≡ page_of n p
-    page_last {first} e g l = lines-there (omega (arith, e, g)) e (omega arith)
+    page_last {first} e g l = lines_there (omega (arith, e, g)) e (omega arith)
 
     pub page_full : {first : ℕ} → first ≡ most_lines * (p - 1) → (count ≤ first → ⊥) → most_lines ≤ count - first → Lines first most_lines ≡ page_of n p
-    page_full {first} e g l = lines-there (omega (arith, e, g)) e (omega arith)
+    page_full {first} e g l = lines_there (omega (arith, e, g)) e (omega arith)
 
 -- a page that is there
 pub record Paged (n p first lines : ℕ) : Type 0 where

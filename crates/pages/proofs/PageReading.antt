@@ -107,55 +107,55 @@ module _ (n p : ℕ) (q : PartAsked n (first_place p) (page_lines n p)) (text : 
     read_marks : List ℕ
     read_marks = overlay first (marks_read text k) (zeros n)
 
-    lengths-fit : first + length (lengths_read text k) ≤ edge_count n
-    lengths-fit = omega (arith, lengths_size text k, q.inside)
+    lengths_fit : first + length (lengths_read text k) ≤ edge_count n
+    lengths_fit = omega (arith, lengths_size text k, q.inside)
 
-    marks-fit : first + length (marks_read text k) ≤ edge_count n
-    marks-fit = omega (arith, marks_count text k, q.inside)
+    marks_fit : first + length (marks_read text k) ≤ edge_count n
+    marks_fit = omega (arith, marks_count text k, q.inside)
 
-    are-lengths : Lengths n read_lengths
+    are_lengths : Lengths n read_lengths
     unfolding read_lengths lengths_read
-    are-lengths = record {
+    are_lengths = record {
       few = q.few;
-      whole = overlay-length first (lengths_read text k) (zeros n) (omega (arith, lengths-fit, zeros_length n)) ∙ zeros_length n;
-      small = over_zeros n first most_length (lengths_read text k) lengths-fit (each_small (λ j. length_read (line_at text j)) k most_length (λ j h. (right_of j (omega arith) (right j h)).small));
+      whole = overlay-length first (lengths_read text k) (zeros n) (omega (arith, lengths_fit, zeros_length n)) ∙ zeros_length n;
+      small = over_zeros n first most_length (lengths_read text k) lengths_fit (each_small (λ j. length_read (line_at text j)) k most_length (λ j h. (right_of j (omega arith) (right j h)).small));
     }
 
-    are-marks : ByteSet n read_marks
+    are_marks : ByteSet n read_marks
     unfolding read_marks marks_read
-    are-marks = record {
-      size = overlay-length first (marks_read text k) (zeros n) (omega (arith, marks-fit, zeros_length n)) ∙ zeros_length n;
-      are = at_most_all pending_mark (overlay first (marks_read text k) (zeros n)) (λ i h. over_zeros n first pending_mark (marks_read text k) marks-fit (each_small (λ j. mark_read (line_at text j)) k pending_mark (λ j g. mark_read_small (line_at text j))) i);
+    are_marks = record {
+      size = overlay-length first (marks_read text k) (zeros n) (omega (arith, marks_fit, zeros_length n)) ∙ zeros_length n;
+      are = at_most_all pending_mark (overlay first (marks_read text k) (zeros n)) (λ i h. over_zeros n first pending_mark (marks_read text k) marks_fit (each_small (λ j. mark_read (line_at text j)) k pending_mark (λ j g. mark_read_small (line_at text j))) i);
     }
 
-    line-is : (j : ℕ) → j < k → line_at text j ≡ place_line n read_lengths read_marks (first + j)
+    line_is : (j : ℕ) → j < k → line_at text j ≡ place_line n read_lengths read_marks (first + j)
     unfolding read_lengths read_marks lengths_read marks_read mark_at
-    line-is j h =
+    line_is j h =
         let at = edge_of j (omega arith) in
         let r : RightLine at.a at.b (line_at text j) = right_of j (omega arith) (right j h) in
-        let l = overlay_inside first (lengths_read text k) (zeros n) (omega (arith, lengths-fit, zeros_length n)) j (omega (arith, lengths_size text k)) ∙ singles_at (λ i. length_read (line_at text i)) k j h in
-        let m = overlay_inside first (marks_read text k) (zeros n) (omega (arith, marks-fit, zeros_length n)) j (omega (arith, marks_count text k)) ∙ singles_at (λ i. mark_read (line_at text i)) k j h in
+        let l = overlay_inside first (lengths_read text k) (zeros n) (omega (arith, lengths_fit, zeros_length n)) j (omega (arith, lengths_size text k)) ∙ singles_at (λ i. length_read (line_at text i)) k j h in
+        let m = overlay_inside first (marks_read text k) (zeros n) (omega (arith, marks_fit, zeros_length n)) j (omega (arith, marks_count text k)) ∙ singles_at (λ i. mark_read (line_at text i)) k j h in
         r.made
         ∙ ap₂ (λ (x y : ℕ). line_text at.a at.b x y) (sym l) (sym m)
         ∙ sym (place-line n read_lengths read_marks (first + j) at.is)
 
     wide : (j : ℕ) → j < lines → length (place_line n read_lengths read_marks (first + j)) ≡ line_bytes
-    wide j h = lines_wide read_lengths read_marks q are-lengths.small j h
+    wide j h = lines_wide read_lengths read_marks q are_lengths.small j h
 
-    whole-lines : (k₂ : ℕ) → k₂ ≤ k → line_bytes * k₂ ≤ length text
+    whole_lines : (k₂ : ℕ) → k₂ ≤ k → line_bytes * k₂ ≤ length text
     unfolding line_at
-    whole-lines zero h = omega arith
-    whole-lines (suc j) h =
-        omega (arith, ap length (line-is j h), wide j (omega arith), length-take line_bytes (drop (line_bytes * j) text), length-drop (line_bytes * j) text)
+    whole_lines zero h = omega arith
+    whole_lines (suc j) h =
+        omega (arith, ap length (line_is j h), wide j (omega arith), length-take line_bytes (drop (line_bytes * j) text), length-drop (line_bytes * j) text)
 
     pub begins : BeginsPage n p text k
     unfolding page_text line_at
     begins = record {
       page = page_text n p read_lengths read_marks;
-      is-page = record { lengths = read_lengths; marks = read_marks; instance = record { within = are-lengths; marked = are-marks }; laid_out = refl };
-      whole = whole-lines k (omega arith);
+      is-page = record { lengths = read_lengths; marks = read_marks; instance = record { within = are_lengths; marked = are_marks }; laid_out = refl };
+      whole = whole_lines k (omega arith);
       begun =
-          joined_front line_bytes text k line-is
+          joined_front line_bytes text k line_is
           ∙ sym (joined-take (λ j. place_line n read_lengths read_marks (first + j)) line_bytes lines wide k few);
     }
 

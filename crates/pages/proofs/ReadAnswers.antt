@@ -57,19 +57,19 @@ module _ (n : ℕ) (table s : List ℕ) {m : ℕ} (h : places_tested n (length (
     part_of = paged_part (omega (arith, passed.same, passed.least)) (omega (arith, passed.same, passed.most)) g
 
     module _ (text : List ℕ) {wrong : ℕ} (is : wrong ≡ wrong_line m first lines text) where
-      wrong-is : wrong ≡ wrong_line m (first_place p) (page_lines m p) text
-      wrong-is = is ∙ ap₂ (λ (f l : ℕ). wrong_line m f l text) g.first_is g.lines_are
+      wrong_is : wrong ≡ wrong_line m (first_place p) (page_lines m p) text
+      wrong_is = is ∙ ap₂ (λ (f l : ℕ). wrong_line m f l text) g.first_is g.lines_are
 
       pub wrong_small : wrong ≤ 61
       wrong_small = omega (arith, is, wrong_few m first lines text, part_of.most)
 
       refused_text : is_page_text m p text ≡ false → ReadAs n p text table s (Refused 27 wrong) table s
       unfolding read_answer
-      refused_text f = refused_read (rw (read_answer, h, g.page, f) (ap (Refused 27) (sym wrong-is)))
+      refused_text f = refused_read (rw (read_answer, h, g.page, f) (ap (Refused 27) (sym wrong_is)))
 
       pub read_wrong : wrong ≤ lines → ReadAs n p text table s (Refused 27 wrong) table s
       unfolding is_page_text
-      read_wrong l = refused_text (rw (is_page_text, ne_eqb (wrong_line m (first_place p) (page_lines m p) text) (suc (page_lines m p)) (λ e. omega (arith, e, wrong-is, g.lines_are, l))))
+      read_wrong l = refused_text (rw (is_page_text, ne_eqb (wrong_line m (first_place p) (page_lines m p) text) (suc (page_lines m p)) (λ e. omega (arith, e, wrong_is, g.lines_are, l))))
 
       pub read_surplus : (length text ≡ line_bytes * lines → ⊥) → ReadAs n p text table s (Refused 27 wrong) table s
       unfolding is_page_text
@@ -84,7 +84,7 @@ module _ (n : ℕ) (table s : List ℕ) {m : ℕ} (h : places_tested n (length (
         unfolding is_page_text
         whole =
             and_both (eqb (wrong_line m (first_place p) (page_lines m p) text) (suc (page_lines m p))) (eqb (length text) (line_bytes * page_lines m p))
-            (eq-eqb (wrong_line m (first_place p) (page_lines m p) text) (suc (page_lines m p)) (omega (arith, wrong-is, is, wrong_few m first lines text, g.lines_are, l)))
+            (eq-eqb (wrong_line m (first_place p) (page_lines m p) text) (suc (page_lines m p)) (omega (arith, wrong_is, is, wrong_few m first lines text, g.lines_are, l)))
             (eq-eqb (length text) (line_bytes * page_lines m p) (omega (arith, size, g.lines_are)))
 
         inside : first + lines ≤ edge_count n

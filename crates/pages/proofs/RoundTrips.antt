@@ -71,8 +71,8 @@ module _ {n : ℕ} (p : ℕ) {lengths marks table set : List ℕ} (i : Printable
     unfolding the_page
     line_made = page_line n p part text the_page j l
 
-    length-made : length_read (line_at text j) ≡ get_or lengths (first_place p + j) 0
-    length-made =
+    length_made : length_read (line_at text j) ≡ get_or lengths (first_place p + j) 0
+    length_made =
         let e = edge_there n (first_place p + j) part.few (omega (arith, part.inside)) in
         ap length_read (line_made ∙ place-line n lengths marks (first_place p + j) e.is) ∙ length_again e.points (i.within.small (first_place p + j)) _
 
@@ -92,7 +92,7 @@ module _ {n : ℕ} (p : ℕ) {lengths marks table set : List ℕ} (i : Printable
   lengths_made : lengths_read text (page_lines n p) ≡ part_of n p lengths
   unfolding lengths_read
   lengths_made = ext_get_or 0 (lengths_read text (page_lines n p)) (part_of n p lengths) (lengths_size text (page_lines n p) ∙ sym (part_length lengths i.within.whole))
-      (λ j l. let k : j < page_lines n p = omega (arith, lengths_size text (page_lines n p)) in singles_at (λ m. length_read (line_at text m)) (page_lines n p) j k ∙ length-made j k ∙ sym (part_at lengths j k))
+      (λ j l. let k : j < page_lines n p = omega (arith, lengths_size text (page_lines n p)) in singles_at (λ m. length_read (line_at text m)) (page_lines n p) j k ∙ length_made j k ∙ sym (part_at lengths j k))
 
   marks_made : marks_read text (page_lines n p) ≡ part_of n p marks
   unfolding marks_read
@@ -147,8 +147,8 @@ module _ {n : ℕ} (p : ℕ) {lengths marks table set : List ℕ} (i : Printable
 
   -- what stands at a place after reading: where the page tells it, what was written
   module _ (k : ℕ) (few : k < first_place p + page_lines n p) where
-    over-part : (new old : List ℕ) → length new ≡ edge_count n → length old ≡ edge_count n → (k < first_place p → get_or old k 0 ≡ get_or new k 0) → get_or (overlay (first_place p) (part_of n p new) old) k 0 ≡ get_or new k 0
-    over-part new old size size₂ before =
+    over_part : (new old : List ℕ) → length new ≡ edge_count n → length old ≡ edge_count n → (k < first_place p → get_or old k 0 ≡ get_or new k 0) → get_or (overlay (first_place p) (part_of n p new) old) k 0 ≡ get_or new k 0
+    over_part new old size size₂ before =
         let fits : first_place p + length (part_of n p new) ≤ length old = omega (arith, part_length new size, part.inside) in
         elim (dec_lt k (first_place p)) [
           | yes l ↦ overlay_before (first_place p) (part_of n p new) old fits k l ∙ before l
@@ -161,10 +161,10 @@ module _ {n : ℕ} (p : ℕ) {lengths marks table set : List ℕ} (i : Printable
         ]
 
     pub told_length : (k < first_place p → get_or (whole32 table) k 0 ≡ get_or lengths k 0) → get_or (whole32 (table_after n p (page_text n p lengths marks) table set)) k 0 ≡ get_or lengths k 0
-    told_length before = ap (λ (xs : List ℕ). get_or xs k 0) read_lengths ∙ over-part lengths (whole32 table) i.within.whole (passed t).whole before
+    told_length before = ap (λ (xs : List ℕ). get_or xs k 0) read_lengths ∙ over_part lengths (whole32 table) i.within.whole (passed t).whole before
 
     pub told_mark : (k < first_place p → get_or (marks_of n set) k 0 ≡ get_or marks k 0) → get_or (marks_of n (set_after n p (page_text n p lengths marks) table set)) k 0 ≡ get_or marks k 0
-    told_mark before = ap (λ (xs : List ℕ). get_or xs k 0) read_marks ∙ over-part marks (marks_of n set) i.marked.size (passed t).marked before
+    told_mark before = ap (λ (xs : List ℕ). get_or xs k 0) read_marks ∙ over_part marks (marks_of n set) i.marked.size (passed t).marked before
 
 -- pages 1 to k are read
 record ReadTo (n : ℕ) (lengths marks : List ℕ) (k : ℕ) (b : PageBuffers) : Type 0 where

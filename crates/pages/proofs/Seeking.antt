@@ -55,21 +55,21 @@ module _ {n first lines : ℕ} {text : List ℕ} {a b i : ℕ} (p : PartAsked n 
       omega (arith, none, s.inside)
 
   module _ (h : i < lines) where
-    seek-inside : first + i < edge_count n
-    seek-inside = omega (arith, p.inside)
+    seek_inside : first + i < edge_count n
+    seek_inside = omega (arith, p.inside)
 
     pub seek_edge : IsEdgeUp n a b
-    seek_edge = (s.cursor.here seek-inside).0
+    seek_edge = (s.cursor.here seek_inside).0
 
     pub seek_short : ShortPoints a b
-    seek_short = cursor_short p.few s.cursor seek-inside
+    seek_short = cursor_short p.few s.cursor seek_inside
 
     pub seek_asked : LineOfAsked a b i
     seek_asked = record { points = seek_short; few = omega (arith, p.most) }
 
     module _ {r : Bool} (e : r ≡ is_line a b (line_at text i)) where
       seen : right_line n first text i ≡ r
-      seen = line_of n first text i (cursor_edge s.cursor seek-inside) ∙ sym e
+      seen = line_of n first text i (cursor_edge s.cursor seek_inside) ∙ sym e
 
       pub seek_wrong : not r ≡ true → i + 1 ≡ wrong_line n first lines text
       unfolding wrong_line
@@ -80,7 +80,7 @@ module _ {n first lines : ℕ} {text : List ℕ} {a b i : ℕ} (p : PartAsked n 
       pub seek_on : {low high : ℕ} → not r ≡ false → Follows n a b low high → Seeking n first lines text low high (i + 1)
       seek_on {low} {high} w f = record {
         inside = omega arith;
-        cursor = rw (← add_assoc) (f.next (first + i) (s.cursor.here seek-inside).1);
+        cursor = rw (← add_assoc) (f.next (first + i) (s.cursor.here seek_inside).1);
         right = λ j l. at j l (ℕ_discrete j i);
       }
         where

@@ -64,14 +64,14 @@ module _ (n : ℕ) (lengths s : List ℕ) {m : ℕ} (h : tested n lengths (marks
   write_page {p} g = no_page n lengths (marks_of n s) p here (not_paged n p (ap (λ (k : ℕ). page_of k p) (sym points) ∙ g))
 
   module _ {p first lines : ℕ} (g : Paged m p first lines) where
-    paged-here : Paged n p first lines
-    paged-here = subst (λ (k : ℕ). Paged k p first lines) points g
+    paged_here : Paged n p first lines
+    paged_here = subst (λ (k : ℕ). Paged k p first lines) points g
 
     pub part_of : PartAsked m first lines
     part_of = let q : InstancePassed n lengths (marks_of n s) m = passed h in paged_part q.least q.lengths.few g
 
     pub write_short : (text : List ℕ) → length text < line_bytes * lines → WrittenAs n lengths (marks_of n s) p text (Refused 22 0) text
-    write_short text l = too_short n lengths (marks_of n s) p here paged-here.page text (omega (arith, paged-here.lines_are))
+    write_short text l = too_short n lengths (marks_of n s) p here paged_here.page text (omega (arith, paged_here.lines_are))
 
     held : marks_of m s ≡ marks_of n s
     held = ap (λ (k : ℕ). marks_of k s) points
@@ -87,11 +87,11 @@ module _ (n : ℕ) (lengths s : List ℕ) {m : ℕ} (h : tested n lengths (marks
           let q : InstancePassed n lengths (marks_of n s) m = passed h in
           omega (arith, w.next, part_of.most, lines_length lengths (marks_of m s) part_of q.lengths.small lines (omega arith))
 
-      page-is : lines_from m lengths (marks_of m s) first lines ≡ page_text n p lengths (marks_of n s)
+      page_is : lines_from m lengths (marks_of m s) first lines ≡ page_text n p lengths (marks_of n s)
       unfolding page_text
-      page-is =
+      page_is =
           ap₂ (λ (f l : ℕ). lines_from m lengths (marks_of m s) f l) g.first_is g.lines_are
           ∙ ap (λ (k : ℕ). page_text k p lengths (marks_of k s)) points
 
       pub write_done : line_bytes * lines ≤ length text → WrittenAs n lengths (marks_of n s) p text (Bytes r) left
-      write_done l = page_wrote n lengths (marks_of n s) p here paged-here.page (omega (arith, paged-here.lines_are)) (wrote_as page-is w)
+      write_done l = page_wrote n lengths (marks_of n s) p here paged_here.page (omega (arith, paged_here.lines_are)) (wrote_as page_is w)

@@ -37,17 +37,17 @@ module _ (n : ℕ) (len : ℕ → ℕ → ℕ) (turns : (p q : ℕ) → len p q 
   unfolding pair_outcome struck_at
   told_struck p q t = ⊎_elim at_x at_y (which_leg t.leg)
     where
-      leg-shut : (z : ℕ) → (p ≡ min c z) × (q ≡ max c z) → open? c z ≡ false
-      leg-shut z e = sym (sorted_same open? opens c z) ∙ ap₂ open? (sym e.0) (sym e.1) ∙ t.shut
+      leg_shut : (z : ℕ) → (p ≡ min c z) × (q ≡ max c z) → open? c z ≡ false
+      leg_shut z e = sym (sorted_same open? opens c z) ∙ ap₂ open? (sym e.0) (sym e.1) ∙ t.shut
 
       at_x : (p ≡ min c x) × (q ≡ max c x) → pair_outcome len open? a b c x y ≡ shut (struck p q)
-      at_x e = rw (leg-shut x e, e.0, e.1)
+      at_x e = rw (leg_shut x e, e.0, e.1)
 
       at_y : (p ≡ min c y) × (q ≡ max c y) → pair_outcome len open? a b c x y ≡ shut (struck p q)
       at_y e =
           let o : open? c x ≡ true = never_false (open? c x)
           (λ f. t.lowest (min c x) (max c x) (leg_x c x y P.x_c) (sorted_same open? opens c x ∙ f) (leg_before e)) in
-          rw (o, leg-shut y e, e.0, e.1)
+          rw (o, leg_shut y e, e.0, e.1)
 
   no_third : AtMostTwo (grown a b c x y) → third? a b c x y ≡ false
   no_third two = never_true (third? a b c x y) (λ e. none_at two (third_three a b c x y P.ab (apart P) e))
@@ -82,9 +82,9 @@ module _ (n : ℕ) (len : ℕ → ℕ → ℕ) (turns : (p q : ℕ) → len p q 
     unfolding pair_outcome
     past_three = rw (one.0, one.1, no_third two, no_loop)
 
-    past-four : Four len (edge a b ∷ []) c x y
+    past_four : Four len (edge a b ∷ []) c x y
         → pair_outcome len open? a b c x y ≡ cond (moves? len a b c x y) (shut (move_of len a b c x y)) stands
-    past-four four = let f = four a b (inl (inl (refl, refl))) in past_three ∙ rw (f.0, f.1)
+    past_four four = let f = four a b (inl (inl (refl, refl))) in past_three ∙ rw (f.0, f.1)
 
   pub told_exchange : (p q u v saved : ℕ) → ToldExchange n len open? (edge a b ∷ []) c x y p q u v saved
       → pair_outcome len open? a b c x y ≡ shut (exchange p q u v saved)
@@ -104,7 +104,7 @@ module _ (n : ℕ) (len : ℕ → ℕ → ℕ) (turns : (p q : ℕ) → len p q 
       → pair_outcome len open? a b c x y ≡ shut (move w u v saved)
   unfolding move_of
   told_move w u v saved t =
-      past-four t.one t.two t.three t.four ∙ ap (λ (m : Bool). cond m (shut (move_of len a b c x y)) stands) (moves_test len turns P nc g.0)
+      past_four t.one t.two t.three t.four ∙ ap (λ (m : Bool). cond m (shut (move_of len a b c x y)) stands) (moves_test len turns P nc g.0)
       ∙ ap shut (by who.2)
     where
       who : (End a b c → ⊥) × (move_saving len len c x y a b ≡ pos saved) × Mover a b c x y w u v
@@ -117,14 +117,14 @@ module _ (n : ℕ) (len : ℕ → ℕ → ℕ) (turns : (p q : ℕ) → len p q 
       g = gains_above (move_saving len len c x y a b) saved who.1 t.moved.above
 
       -- an end of ab in the pair is no lower than w, and neither is c
-      no-x : end? a b x ≡ true → x < w → ⊥
-      no-x h l = t.lowest x (min c y) (max c y) _ (x_moves len turns P t.two nc g.0 (end_says a b x h)) (inl l)
+      no_x : end? a b x ≡ true → x < w → ⊥
+      no_x h l = t.lowest x (min c y) (max c y) _ (x_moves len turns P t.two nc g.0 (end_says a b x h)) (inl l)
 
       no_y : end? a b y ≡ true → y < w → ⊥
       no_y h l = t.lowest y (min c x) (max c x) _ (y_moves len turns P t.two nc g.0 (end_says a b y h)) (inl l)
 
-      no-c : c < w → ⊥
-      no-c l = t.lowest c (min a b) (max a b) _ (centre_moves len turns P t.two nc g.0) (inl l)
+      no_c : c < w → ⊥
+      no_c l = t.lowest c (min a b) (max a b) _ (centre_moves len turns P t.two nc g.0) (inl l)
 
       -- a point that is told itself, or stays behind
       passed : (z : ℕ) → (end? a b z ≡ true → z < w → ⊥) → w ≡ c → end? a b z && ltb z c ≡ false
@@ -133,12 +133,12 @@ module _ (n : ℕ) (len : ℕ → ℕ → ℕ) (turns : (p q : ℕ) → len p q 
           (λ h. let k = and_true (end? a b z) (ltb z c) h in low k.0 (omega (arith, ltb-true z c k.1)))
 
       taken : (z : ℕ) → (z ≡ c → ⊥) → w ≡ z → End a b z → end? a b z && ltb z c ≡ true
-      taken z zc e h = and_both _ _ (says_end a b z h) (never_false (ltb z c) (λ f. no-c (omega (arith, ltb-false z c f, zc))))
+      taken z zc e h = and_both _ _ (says_end a b z h) (never_false (ltb z c) (λ f. no_c (omega (arith, ltb-false z c f, zc))))
 
       by : Mover a b c x y w u v → move_of len a b c x y ≡ move w u v saved
       by (centre e j) =
           let k = sorted a b u v j t.moved.up in
-          rw (passed x no-x e, passed y no_y e, e, k.0, k.1, g.1)
+          rw (passed x no_x e, passed y no_y e, e, k.0, k.1, g.1)
       by (lower e ex j) =
           let k = sorted c y u v j t.moved.up in
           rw (taken x P.x_c e ex, e, k.0, k.1, g.1)
@@ -150,7 +150,7 @@ module _ (n : ℕ) (len : ℕ → ℕ → ℕ) (turns : (p q : ℕ) → len p q 
   pub feasible_stands : FeasiblePair n len len open? (edge a b ∷ []) c x y → pair_outcome len open? a b c x y ≡ stands
   unfolding moves?
   feasible_stands f =
-      past-four f.one f.two f.three f.four
+      past_four f.one f.two f.three f.four
       ∙ ap (λ (m : Bool). cond m (shut (move_of len a b c x y)) stands) (never_true (moves? len a b c x y) none)
     where
       none : moves? len a b c x y ≡ true → ⊥

@@ -148,12 +148,12 @@ module _ {a b c x y : ℕ} {S : List Edge} (ab : a ≡ b → ⊥) (A : Adding (e
   cycle_in_order p q r pq qr C =
       in_order c (min a b) (max a b) p q r (omega arith) pq qr (one p (inl refl)) (one q (inr (inl refl))) (one r (inr (inr (inl refl))))
     where
-      sorted-end : (w : ℕ) → End a b w → (w ≡ min a b) ⊎ (w ≡ max a b)
-      sorted-end w (inl e) = by_cases (dec_le a b) (λ h. inl (omega arith)) (λ h. inr (omega arith))
-      sorted-end w (inr e) = by_cases (dec_le a b) (λ h. inr (omega arith)) (λ h. inl (omega arith))
+      sorted_end : (w : ℕ) → End a b w → (w ≡ min a b) ⊎ (w ≡ max a b)
+      sorted_end w (inl e) = by_cases (dec_le a b) (λ h. inl (omega arith)) (λ h. inr (omega arith))
+      sorted_end w (inr e) = by_cases (dec_le a b) (λ h. inr (omega arith)) (λ h. inl (omega arith))
 
       one : (w : ℕ) → In w (p ∷ q ∷ r ∷ []) → OneOf c (min a b) (max a b) w
-      one w i = ⊎_elim (λ e. inl e) (λ h. inr (sorted-end w h)) (cycle_point (p ∷ q ∷ r ∷ []) C w i)
+      one w i = ⊎_elim (λ e. inl e) (λ h. inr (sorted_end w h)) (cycle_point (p ∷ q ∷ r ∷ []) C w i)
 
   -- where both of the pair are ends of ab, c is none, and the three are a cycle
   module _ (ex : End a b x) (ey : End a b y) where
@@ -165,11 +165,11 @@ module _ {a b c x y : ℕ} {S : List Edge} (ab : a ≡ b → ⊥) (A : Adding (e
         ⊎_elim (λ e. absurd (A.x_y e)) (⊎_elim (λ e. subst (λ (w : ℕ). Has S c w) e A.new_x) (λ e. subst (λ (w : ℕ). Has S c w) e A.new_y))
         (pigeon ex ey ez)
 
-    all-joined : (s t : ℕ) → (s ≡ t → ⊥) → (s ≡ c) ⊎ End a b s → (t ≡ c) ⊎ End a b t → Has S s t
-    all-joined s t st (inl e) (inl f) = absurd (st (e ∙ sym f))
-    all-joined s t st (inl e) (inr f) = subst (λ (z : ℕ). Has S z t) (sym e) (to_end t f)
-    all-joined s t st (inr e) (inl f) = has_sym S t s (subst (λ (z : ℕ). Has S z s) (sym f) (to_end s e))
-    all-joined s t st (inr e) (inr f) = A.old s t (ends_joined a b s t e f st)
+    all_joined : (s t : ℕ) → (s ≡ t → ⊥) → (s ≡ c) ⊎ End a b s → (t ≡ c) ⊎ End a b t → Has S s t
+    all_joined s t st (inl e) (inl f) = absurd (st (e ∙ sym f))
+    all_joined s t st (inl e) (inr f) = subst (λ (z : ℕ). Has S z t) (sym e) (to_end t f)
+    all_joined s t st (inr e) (inl f) = has_sym S t s (subst (λ (z : ℕ). Has S z s) (sym f) (to_end s e))
+    all_joined s t st (inr e) (inr f) = A.old s t (ends_joined a b s t e f st)
 
     pub loop_cycle : (min c (min a b) < max (min a b) (min c (max a b))) × (max (min a b) (min c (max a b)) < max c (max a b))
         × Cycle S (min c (min a b) ∷ max (min a b) (min c (max a b)) ∷ max c (max a b) ∷ [])
@@ -185,8 +185,8 @@ module _ {a b c x y : ℕ} {S : List Edge} (ab : a ≡ b → ⊥) (A : Adding (e
         let h = max c (max a b) in (
           up.0,
           up.1,
-          ring S l m h up.0 up.1 (all-joined l m (λ e. omega (arith, up.0)) low.0 mid.1) (all-joined m h (λ e. omega (arith, up.1)) mid.1 high.1)
-              (all-joined l h (λ e. omega (arith, up.0, up.1)) low.0 high.1),
+          ring S l m h up.0 up.1 (all_joined l m (λ e. omega (arith, up.0)) low.0 mid.1) (all_joined m h (λ e. omega (arith, up.1)) mid.1 high.1)
+              (all_joined l h (λ e. omega (arith, up.0, up.1)) low.0 high.1),
         )
 
 -- a point with two neighbours has degree two

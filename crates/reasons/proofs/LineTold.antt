@@ -42,16 +42,16 @@ unfolding content bare
 split_fields kind a b u v c d next {x} {y} {w} {first} {more} e =
     by (eqb kind 1) (eqb kind 2) (eqb kind 3) (eqb kind 4) (eqb kind 5) (eqb u 0 && eqb v 0) (eqb c 0 && eqb 0 0) (eqb b 0 && eqb u 0) (eqb v 0 && eqb c 0) (eqb d 0 && eqb 0 0) e
   where
-    isSplit : Record → Bool
-    isSplit (line a b c first next) = false
-    isSplit (case a b (splits c first) next) = true
-    isSplit (case a b (three_opts p q r s) next) = false
-    isSplit (case a b (reorders u v first) next) = false
-    isSplit (visit v next) = false
-    isSplit other = false
+    is_split : Record → Bool
+    is_split (line a b c first next) = false
+    is_split (case a b (splits c first) next) = true
+    is_split (case a b (three_opts p q r s) next) = false
+    is_split (case a b (reorders u v first) next) = false
+    is_split (visit v next) = false
+    is_split other = false
 
-    never : (r : Record) → isSplit r ≡ false → r ≡ case x y (splits w first) more → (c ≡ w) × (next ≡ more)
-    never r h e = absurd (false≢true (sym h ∙ ap isSplit e))
+    never : (r : Record) → is_split r ≡ false → r ≡ case x y (splits w first) more → (c ≡ w) × (next ≡ more)
+    never r h e = absurd (false≢true (sym h ∙ ap is_split e))
 
     by : (k1 k2 k3 k4 k5 z1 z4 z5 z6 z7 : Bool) →
         elim k1 [

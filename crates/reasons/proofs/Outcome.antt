@@ -55,9 +55,9 @@ module _ (n : ℕ) (len : ℕ → ℕ → ℕ) (turns : (p q : ℕ) → len p q 
       }
 
   module _ (one : One open? c x y) (two : AtMostTwo (grown a b c x y)) (three : NoShortCycle n (grown a b c x y)) where
-    exchange-x : gains? (exchange_saving len len c x a b) ≡ true
+    exchange_x : gains? (exchange_saving len len c x a b) ≡ true
         → ToldExchange n len open? (edge a b ∷ []) c x y (min c x) (max c x) (min a b) (max a b) (gain (exchange_saving len len c x a b))
-    exchange-x g =
+    exchange_x g =
         record {
           one = one;
           two = two;
@@ -68,9 +68,9 @@ module _ (n : ℕ) (len : ℕ → ℕ → ℕ) (turns : (p q : ℕ) → len p q 
               ⊎_elim low (λ e. not_before (sorted a b u v (has_joins s.known) s.up) e.2);
         }
 
-    exchange-y : gains? (exchange_saving len len c x a b) ≡ false → gains? (exchange_saving len len c y a b) ≡ true
+    exchange_y : gains? (exchange_saving len len c x a b) ≡ false → gains? (exchange_saving len len c y a b) ≡ true
         → ToldExchange n len open? (edge a b ∷ []) c x y (min c y) (max c y) (min a b) (max a b) (gain (exchange_saving len len c y a b))
-    exchange-y f g =
+    exchange_y f g =
         record {
           one = one;
           two = two;
@@ -82,11 +82,11 @@ module _ (n : ℕ) (len : ℕ → ℕ → ℕ) (turns : (p q : ℕ) → len p q 
               ⊎_elim low (λ e. not_before (sorted a b u v (has_joins s.known) s.up) e.2);
         }
 
-    move-due : (f : gains? (exchange_saving len len c x a b) ≡ false) (g : gains? (exchange_saving len len c y a b) ≡ false)
+    move_due : (f : gains? (exchange_saving len len c x a b) ≡ false) (g : gains? (exchange_saving len len c y a b) ≡ false)
         → moves? len a b c x y ≡ true
         → (cs : Cases) → Tells n len open? (edge a b ∷ []) c cs x y (move_of len a b c x y)
     unfolding moves? move_of Tells
-    move-due f g h cs = go (end? a b x) (ltb x c) (end? a b y) (ltb y c) refl refl refl refl
+    move_due f g h cs = go (end? a b x) (ltb x c) (end? a b y) (ltb y c) refl refl refl refl
       where
         parts : (not (end? a b c) ≡ true) × (gains? (move_saving len len c x y a b) ≡ true)
         parts = and_true (not (end? a b c)) _ h
@@ -147,19 +147,19 @@ module _ (n : ℕ) (len : ℕ → ℕ → ℕ) (turns : (p q : ℕ) → len p q 
       go (open? c x) (open? c y) (third? a b c x y) (end? a b x) (end? a b y) (gains? (exchange_saving len len c x a b)) (gains? (exchange_saving len len c y a b))
       (moves? len a b c x y) refl refl refl refl refl refl refl refl
     where
-      two-of : third? a b c x y ≡ false → AtMostTwo (grown a b c x y)
-      two-of = third_room a b c x y P.ab (apart P)
+      two_of : third? a b c x y ≡ false → AtMostTwo (grown a b c x y)
+      two_of = third_room a b c x y P.ab (apart P)
 
-      three-of : third? a b c x y ≡ false → (End a b x → End a b y → ⊥) → NoShortCycle n (grown a b c x y)
-      three-of t nb = no_cycle P.ab (adding P (two-of t)) n nb
+      three_of : third? a b c x y ≡ false → (End a b x → End a b y → ⊥) → NoShortCycle n (grown a b c x y)
+      three_of t nb = no_cycle P.ab (adding P (two_of t)) n nb
 
       rest : (o : One open? c x y) (t : third? a b c x y ≡ false) (nb : End a b x → End a b y → ⊥) (f g m : Bool)
           → gains? (exchange_saving len len c x a b) ≡ f
           → gains? (exchange_saving len len c y a b) ≡ g → moves? len a b c x y ≡ m
           → Due cs (cond f (shut (exchange_of len a b c x)) (cond g (shut (exchange_of len a b c y)) (cond m (shut (move_of len a b c x y)) stands)))
-      rest o t nb true g m ef eg em = exchange-x o (two-of t) (three-of t nb) ef
-      rest o t nb false true m ef eg em = exchange-y o (two-of t) (three-of t nb) ef eg
-      rest o t nb false false true ef eg em = move-due o (two-of t) (three-of t nb) ef eg em cs
+      rest o t nb true g m ef eg em = exchange_x o (two_of t) (three_of t nb) ef
+      rest o t nb false true m ef eg em = exchange_y o (two_of t) (three_of t nb) ef eg
+      rest o t nb false false true ef eg em = move_due o (two_of t) (three_of t nb) ef eg em cs
       rest o t nb false false false ef eg em = record {
         rising = P.up;
         point_x = P.point_x;
@@ -167,10 +167,10 @@ module _ (n : ℕ) (len : ℕ → ℕ → ℕ) (turns : (p q : ℕ) → len p q 
         apart_x = P.x_c;
         apart_y = P.y_c;
         one = o;
-        two = two-of t;
-        three = three-of t nb;
+        two = two_of t;
+        three = three_of t nb;
         four = four_of len turns P ef eg;
-        five = unmovable len turns P (two-of t) em;
+        five = unmovable len turns P (two_of t) em;
       }
 
       go : (i j t s s' f g m : Bool) → open? c x ≡ i → open? c y ≡ j → third? a b c x y ≡ t → end? a b x ≡ s → end? a b y ≡ s'
@@ -181,8 +181,8 @@ module _ (n : ℕ) (len : ℕ → ℕ → ℕ) (turns : (p q : ℕ) → len p q 
       go true false t s s' f g m ei ej et es es' ef eg em = struck_y ei ej
       go true true true s s' f g m ei ej et es es' ef eg em = third_due (ei, ej) et
       go true true false true true f g m ei ej et es es' ef eg em =
-          let l = loop_cycle P.ab (adding P (two-of et)) (end_says a b x es) (end_says a b y es') in
-          record { one = (ei, ej); two = two-of et; up = (l.0, l.1); cycle = l.2; short = P.many }
+          let l = loop_cycle P.ab (adding P (two_of et)) (end_says a b x es) (end_says a b y es') in
+          record { one = (ei, ej); two = two_of et; up = (l.0, l.1); cycle = l.2; short = P.many }
       go true true false true false f g m ei ej et es es' ef eg em = rest (ei, ej) et (λ ex ey. no_end a b y es' ey) f g m ef eg em
       go true true false false s' f g m ei ej et es es' ef eg em = rest (ei, ej) et (λ ex ey. no_end a b x es ex) f g m ef eg em
 

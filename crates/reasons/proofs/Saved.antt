@@ -85,10 +85,10 @@ module _ (len : ℕ → ℕ → ℕ) (turns : (p q : ℕ) → len p q ≡ len q 
   module _ (two : AtMostTwo (grown a b c x y)) where
     -- moved points
 
-    can-move : (w s t p q : ℕ) → DegreeTwo (grown a b c x y) w s t → Has (grown a b c x y) p q
+    can_move : (w s t p q : ℕ) → DegreeTwo (grown a b c x y) w s t → Has (grown a b c x y) p q
         → (p ≡ w → ⊥) → (q ≡ w → ⊥) → (p ≡ q → ⊥) → gains? (move_saving len len c x y a b) ≡ true
         → MovedSaves len (grown a b c x y) w (min p q) (max p q) (gain (move_saving len len c x y a b))
-    can-move w s t p q d h np nq pq g =
+    can_move w s t p q d h np nq pq g =
         let off = sorted_off p q w np nq in
         let has = has_sorted (grown a b c x y) p q h in
         let e = gain_is (move_saving len len c x y a b) g in
@@ -107,23 +107,23 @@ module _ (len : ℕ → ℕ → ℕ) (turns : (p q : ℕ) → len p q ≡ len q 
     module _ (nc : End a b c → ⊥) (g : gains? (move_saving len len c x y a b) ≡ true) where
       pub centre_moves : MovedSaves len (grown a b c x y) c (min a b) (max a b) (gain (move_saving len len c x y a b))
       centre_moves =
-          can-move c x y a b (degree_two two (xy P) (adding P two).new_x (adding P two).new_y) ((adding P two).old a b (inl (inl (refl, refl))))
+          can_move c x y a b (degree_two two (xy P) (adding P two).new_x (adding P two).new_y) ((adding P two).old a b (inl (inl (refl, refl))))
           (λ e. nc (inl (sym e))) (λ e. nc (inr (sym e))) P.ab g
 
       -- an end z of ab in the pair, where d is its other point
-      end-moves : (z d : ℕ) → Has (grown a b c x y) c z → Has (grown a b c x y) c d → (z ≡ c → ⊥) → (d ≡ c → ⊥) → (z ≡ d → ⊥) → End a b z
+      end_moves : (z d : ℕ) → Has (grown a b c x y) c z → Has (grown a b c x y) c d → (z ≡ c → ⊥) → (d ≡ c → ⊥) → (z ≡ d → ⊥) → End a b z
           → MovedSaves len (grown a b c x y) z (min c d) (max c d) (gain (move_saving len len c x y a b))
-      end-moves z d cz cd zc dc zd ez =
+      end_moves z d cz cd zc dc zd ez =
           let o = other_end a b P.ab z ez in
-          can-move z c o.0 c d
+          can_move z c o.0 c d
           (degree_two two (λ e. nc (subst (End a b) (sym e) (has_ends a b z o.0 o.1).1)) (has_sym (grown a b c x y) c z cz) ((adding P two).old z o.0 o.1))
           cd (λ e. zc (sym e)) (λ e. zd (sym e)) (λ e. dc (sym e)) g
 
       pub x_moves : End a b x → MovedSaves len (grown a b c x y) x (min c y) (max c y) (gain (move_saving len len c x y a b))
-      x_moves = end-moves x y (adding P two).new_x (adding P two).new_y P.x_c P.y_c (xy P)
+      x_moves = end_moves x y (adding P two).new_x (adding P two).new_y P.x_c P.y_c (xy P)
 
       pub y_moves : End a b y → MovedSaves len (grown a b c x y) y (min c x) (max c x) (gain (move_saving len len c x y a b))
-      y_moves = end-moves y x (adding P two).new_y (adding P two).new_x P.y_c P.x_c (λ e. (xy P) (sym e))
+      y_moves = end_moves y x (adding P two).new_y (adding P two).new_x P.y_c P.x_c (λ e. (xy P) (sym e))
 
     -- who moves, of a move that saves
     pub mover_of : {w u v saved : ℕ} → MovedSaves len (grown a b c x y) w u v saved

@@ -109,8 +109,8 @@ module _ {a b c x y : ℕ} {S : List Edge} (ab : a ≡ b → ⊥) (A : Adding (e
   pub cycle_ends : (vs : List ℕ) → Cycle S vs → End a b x × End a b y
   cycle_ends vs C = by_cases (in_dec c vs) through around
     where
-      end-in : (z : ℕ) → (z ≡ c → ⊥) → In z vs → End a b z
-      end-in z zc i =
+      end_in : (z : ℕ) → (z ≡ c → ⊥) → In z vs → End a b z
+      end_in z zc i =
           let s = cycle_sides S vs C z i in
           ⊎_elim (λ e. absurd (zc e)) (λ h. h.1) (two_neighbours z s.p s.q s.apart s.has_p s.has_q)
 
@@ -124,7 +124,7 @@ module _ {a b c x y : ℕ} {S : List Edge} (ab : a ≡ b → ⊥) (A : Adding (e
       through i =
           let s = cycle_sides S vs C c i in
           let k = both s.p s.q s.apart s.in_p s.in_q (centre_only s.p s.has_p) (centre_only s.q s.has_q) in
-          (end-in x A.x_c k.0, end-in y A.y_c k.1)
+          (end_in x A.x_c k.0, end_in y A.y_c k.1)
 
       alone : (u : ℕ) → In u vs → (In c vs → ⊥) → ⊥
       alone u i nc =
@@ -182,15 +182,15 @@ module _ (len : ℕ → ℕ → ℕ) (turns : (p q : ℕ) → len p q ≡ len q 
     MovedAt w = (s t u v : ℕ) → DegreeTwo S w s t → Has S u v → (u ≡ w → ⊥) → (v ≡ w → ⊥)
         → (End a b c → ⊥) × (move_saving len len w s t u v ≡ move_saving len len c x y a b) × Mover a b c x y w u v
 
-    centre-moved : MovedAt c
-    centre-moved s t u v d h nu nv = (
-      λ ec. no_third_end a b ab u v c (has_apart a b ab u v in-K) nu nv (has_ends a b u v in-K).0 (has_ends a b u v in-K).1 ec,
-      move_named c s t u v x y a b (ends (centre_only ab A s d.has_x) (centre_only ab A t d.has_y)) (has_joins in-K),
-      centre refl (has_joins in-K),
+    centre_moved : MovedAt c
+    centre_moved s t u v d h nu nv = (
+      λ ec. no_third_end a b ab u v c (has_apart a b ab u v in_K) nu nv (has_ends a b u v in_K).0 (has_ends a b u v in_K).1 ec,
+      move_named c s t u v x y a b (ends (centre_only ab A s d.has_x) (centre_only ab A t d.has_y)) (has_joins in_K),
+      centre refl (has_joins in_K),
     )
       where
-        in-K : Has (edge a b ∷ []) u v
-        in-K = ⊎_elim (λ j. absurd (⊎_elim (λ e. nu (sym e.0)) (λ e. nv (sym e.0)) j))
+        in_K : Has (edge a b ∷ []) u v
+        in_K = ⊎_elim (λ j. absurd (⊎_elim (λ e. nu (sym e.0)) (λ e. nv (sym e.0)) j))
             (⊎_elim (λ j. absurd (⊎_elim (λ e. nu (sym e.0)) (λ e. nv (sym e.0)) j)) (λ k. k)) (A.parts u v h)
 
         ends : (s ≡ x) ⊎ (s ≡ y) → (t ≡ x) ⊎ (t ≡ y) → ((s ≡ x) × (t ≡ y)) ⊎ ((s ≡ y) × (t ≡ x))
@@ -199,14 +199,14 @@ module _ (len : ℕ → ℕ → ℕ) (turns : (p q : ℕ) → len p q ≡ len q 
         ends (inr e) (inl f) = inr (e, f)
         ends (inr e) (inr f) = absurd (d.apart (e ∙ sym f))
 
-    lower-moved : End a b x → MovedAt x
-    lower-moved ex s t u v d h nu nv =
+    lower_moved : End a b x → MovedAt x
+    lower_moved ex s t u v d h nu nv =
         let k = second (near ab A x s A.x_c d.has_x) (near ab A x t A.x_c d.has_y) in
         let z = k.0 in
         let g = k.2 in (
           λ ec. no_third_end a b ab x z c (has_apart a b ab x z g) A.x_c k.1 ex (has_ends a b x z g).1 ec,
-          move_named x s t u v c z c y k.3 other-leg ∙ slide c x y z ∙ move_named c x y x z x y a b (inl (refl, refl)) (has_joins g),
-          lower refl ex other-leg,
+          move_named x s t u v c z c y k.3 other_leg ∙ slide c x y z ∙ move_named c x y x z x y a b (inl (refl, refl)) (has_joins g),
+          lower refl ex other_leg,
         )
       where
         second : ((s ≡ c) × ((x ≡ x) ⊎ (x ≡ y))) ⊎ Has (edge a b ∷ []) x s → ((t ≡ c) × ((x ≡ x) ⊎ (x ≡ y))) ⊎ Has (edge a b ∷ []) x t
@@ -216,15 +216,15 @@ module _ (len : ℕ → ℕ → ℕ) (turns : (p q : ℕ) → len p q ≡ len q 
         second (inr g) (inl f) = (s, (λ e. d.apart (e ∙ sym f.0)), g, inr (refl, f.0))
         second (inr g) (inr i) = absurd (d.apart (one_neighbour a b ab x s t g i))
 
-        other-leg : Joins (edge c y) u v
-        other-leg = ⊎_elim (λ j. absurd (⊎_elim (λ e. nv (sym e.1)) (λ e. nu (sym e.1)) j))
+        other_leg : Joins (edge c y) u v
+        other_leg = ⊎_elim (λ j. absurd (⊎_elim (λ e. nv (sym e.1)) (λ e. nu (sym e.1)) j))
             (⊎_elim (λ j. j)
             (λ k. absurd (no_third_end a b ab u v x (has_apart a b ab u v k) nu nv (has_ends a b u v k).0 (has_ends a b u v k).1 ex))) (A.parts u v h)
 
   module _ {a b c x y : ℕ} {S : List Edge} (ab : a ≡ b → ⊥) (A : Adding (edge a b ∷ []) c x y S) where
-    upper-moved : End a b y → MovedAt ab A y
-    upper-moved ey s t u v d h nu nv =
-        let r = lower-moved ab (adding_turned A) ey s t u v d h nu nv in
+    upper_moved : End a b y → MovedAt ab A y
+    upper_moved ey s t u v d h nu nv =
+        let r = lower_moved ab (adding_turned A) ey s t u v d h nu nv in
         (r.0, r.1 ∙ move_from len len turns turns c x y a b, turned r.2)
       where
         turned : Mover a b c y x y u v → Mover a b c x y y u v
@@ -236,9 +236,9 @@ module _ (len : ℕ → ℕ → ℕ) (turns : (p q : ℕ) → len p q ≡ len q 
     -- to ab does; c is then no end of ab
     pub moved : (w : ℕ) → MovedAt ab A w
     moved w s t u v d h nu nv =
-        ⊎_elim (λ e. subst (MovedAt ab A) (sym e) (centre-moved ab A) s t u v d h nu nv)
+        ⊎_elim (λ e. subst (MovedAt ab A) (sym e) (centre_moved ab A) s t u v d h nu nv)
         (λ p. ⊎_elim
-        (λ e. subst (MovedAt ab A) (sym e) (lower-moved ab A (subst (End a b) e p.1)) s t u v d h nu nv)
-        (λ e. subst (MovedAt ab A) (sym e) (upper-moved (subst (End a b) e p.1)) s t u v d h nu nv)
+        (λ e. subst (MovedAt ab A) (sym e) (lower_moved ab A (subst (End a b) e p.1)) s t u v d h nu nv)
+        (λ e. subst (MovedAt ab A) (sym e) (upper_moved (subst (End a b) e p.1)) s t u v d h nu nv)
         p.0)
         (two_neighbours ab A w s t d.apart d.has_x d.has_y)

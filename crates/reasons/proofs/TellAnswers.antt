@@ -154,13 +154,13 @@ module _ (n : ℕ) (table marks s : List ℕ) (i : ℕ) where
             };
           }
 
-          text-is : line_text n table marks s i ≡ split_text n table marks s a b c first
+          text_is : line_text n table marks s i ≡ split_text n table marks s a b c first
           unfolding line_text split_point line_reasons
-          text-is = ap (λ (r : Record). text_of (split_point r) (line_reasons n table marks s r)) reads
+          text_is = ap (λ (r : Record). text_of (split_point r) (line_reasons n table marks s r)) reads
 
           pub record_told : {buffer : List ℕ} {answer : Telling} {left : List ℕ} → TextTold (split_text n table marks s a b c first) buffer answer left
               → RecordTold n table marks s i buffer answer left
-          record_told t = record { answered = rw (there, ← is, h, text-is) t.answered; text_left = rw text-is t.text_left }
+          record_told t = record { answered = rw (there, ← is, h, text_is) t.answered; text_left = rw text_is t.text_left }
 
 -- the ways out of `tell_line`
 module _ (n : ℕ) (table set s : List ℕ) {r : Tested} (e : r ≡ tested n table (marks_of n set)) where
@@ -172,11 +172,11 @@ module _ (n : ℕ) (table set s : List ℕ) {r : Tested} (e : r ≡ tested n tab
       record { answered = h ∙ rw (tell_answer, t); text_left = rw (tell_answer, t) }
 
   module _ {p : ℕ} (g : r ≡ tests.Points p) {a : SheetAdmission} (w : a ≡ sheet_admission (length s)) where
-    tests-passed : InstancePassed n table (marks_of n set) p
-    tests-passed = passed (sym e ∙ g)
+    tests_passed : InstancePassed n table (marks_of n set) p
+    tests_passed = passed (sym e ∙ g)
 
     here : tested n table (marks_of n set) ≡ tests.Points n
-    here = sym e ∙ g ∙ ap tests.Points tests-passed.same
+    here = sym e ∙ g ∙ ap tests.Points tests_passed.same
 
     pub line_not_whole : (i : ℕ) {buffer : List ℕ} {answer : Telling} → a ≡ admitting.Refused → answer ≡ Refused 7 0
         → ToldAs n table (marks_of n set) s i buffer answer buffer
@@ -187,14 +187,14 @@ module _ (n : ℕ) (table set s : List ℕ) {r : Tested} (e : r ≡ tested n tab
 
     module _ {x : declared.Sheet} (z : a ≡ admitting.Admitted x) where
       pub line_admitted : Admitted p table table (marks_of p set) s x.records
-      line_admitted = (admits_between {mark = 0} set (omega arith) (both_passed tests-passed) w z).admitted
+      line_admitted = (admits_between {mark = 0} set (omega arith) (both_passed tests_passed) w z).admitted
 
       pub line_told : (i : ℕ) {buffer : List ℕ} {answer : Telling} {left : List ℕ}
           → RecordTold p table (marks_of p set) s i buffer answer left → ToldAs n table (marks_of n set) s i buffer answer left
       unfolding tell_answer
       line_told i {buffer} {answer} {left} t =
           let t' : RecordTold n table (marks_of n set) s i buffer answer left =
-          subst (λ (k : ℕ). RecordTold k table (marks_of k set) s i buffer answer left) tests-passed.same t in
+          subst (λ (k : ℕ). RecordTold k table (marks_of k set) s i buffer answer left) tests_passed.same t in
           let q = (sheet_admitted (sym w ∙ z)).passed in
           let is : answer ≡ tell_answer n table (marks_of n set) s i (length buffer) = t'.answered ∙ rw (tell_answer, here, q) in
           record {

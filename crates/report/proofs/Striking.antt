@@ -93,8 +93,8 @@ module _ {n at : ℕ} {marks out₀ out : List ℕ} {a b i next : ℕ} (p : Stri
   mark_room e = subst (λ (o : Bool). Room out next (mark_line o a b)) (sym e) room_here
 
   module _ {r : ℕ} {left : List ℕ} (w : Wrote out next (mark_line (open_at open_mark marks i) a b) r left) where
-    text-on : take r left ++ mark_lines (drop (i + 1) (edges n)) marks (i + 1) ≡ take at out₀ ++ struck_lines n marks
-    text-on =
+    text_on : take r left ++ mark_lines (drop (i + 1) (edges n)) marks (i + 1) ≡ take at out₀ ++ struck_lines n marks
+    text_on =
         ap (λ (l : List ℕ). l ++ mark_lines (drop (i + 1) (edges n)) marks (i + 1)) w.front
         ∙ append_assoc (take next out) (mark_line (open_at open_mark marks i) a b) (mark_lines (drop (i + 1) (edges n)) marks (i + 1))
         ∙ ap (λ (l : List ℕ). take next out ++ l) (sym lines_here)
@@ -106,7 +106,7 @@ module _ {n at : ℕ} {marks out₀ out : List ℕ} {a b i next : ℕ} (p : Stri
       kept = w.kept ∙ s.kept;
       within = omega (arith, w.next, w.kept, room_here.room);
       rest = rest_on out₀ s.rest w;
-      whole = text-on;
+      whole = text_on;
     }
 
   pub striking_on : {is_open : Bool} {r low high : ℕ} {left : List ℕ} → is_open ≡ open_at open_mark marks i → Wrote out next (mark_line is_open a b) r left → Follows n a b low high

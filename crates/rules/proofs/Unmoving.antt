@@ -64,9 +64,9 @@ module _ (out put : ℕ → ℕ → ℕ) (out-turns : (a b : ℕ) → out a b �
       (λ u v i. (stays_iff out put c y x u v).1 (λ nu nv m. (stays_iff out put c x y u v).0 (every_has (stays? out put c x y) (stays_turn c x y) K h u v i) nu nv (moves_ends c y x u v m)))
 
   module _ (c x : ℕ) where
-    apart-turn : (p q u v : ℕ) → apart? out put c x p q u v ≡ true → apart? out put c x p q v u ≡ true
+    apart_turn : (p q u v : ℕ) → apart? out put c x p q u v ≡ true → apart? out put c x p q v u ≡ true
     unfolding apart?
-    apart-turn p q u v h = go (meeting? out put c x p u q v) (meeting? out put c x p v q u) (meeting? out put c x q u p v) (meeting? out put c x q v p u) h
+    apart_turn p q u v h = go (meeting? out put c x p u q v) (meeting? out put c x p v q u) (meeting? out put c x q u p v) (meeting? out put c x q v p u) h
       where
         go : (i j k m : Bool) → i && (j && (k && m)) ≡ true → j && (i && (m && k)) ≡ true
         go true true true true h = refl
@@ -93,29 +93,29 @@ module _ (out put : ℕ → ℕ → ℕ) (out-turns : (a b : ℕ) → out a b �
       ]
     ]
 
-    first-meets : (p q w s t : ℕ) → (s ≡ t → ⊥) → (w ≡ c → ⊥) → Joins (edge p q) w s → apart? out put c x p q w t ≡ true → joint? out put c x w s t ≡ true
+    first_meets : (p q w s t : ℕ) → (s ≡ t → ⊥) → (w ≡ c → ⊥) → Joins (edge p q) w s → apart? out put c x p q w t ≡ true → joint? out put c x w s t ≡ true
     unfolding apart?
-    first-meets p q w s t st wc (inl e) h =
+    first_meets p q w s t st wc (inl e) h =
         met w s t st wc (ap₂ (λ (a b : ℕ). meeting? out put c x a w b t) (sym e.0) (sym e.1) ∙ and_left _ _ h)
-    first-meets p q w s t st wc (inr e) h =
+    first_meets p q w s t st wc (inr e) h =
         met w s t st wc
         (ap₂ (λ (a b : ℕ). meeting? out put c x a w b t) (sym e.1) (sym e.0) ∙ and_left _ _ (and_right (meeting? out put c x p t q w) _ (and_right (meeting? out put c x p w q t) _ h)))
 
     -- two edges of K that meet in a point that is not c
-    degree-two-joint : (K : List Edge) → degree_two_stays? out put K c x ≡ true → (w s t : ℕ) → (s ≡ t → ⊥) → (w ≡ c → ⊥) → Has K w s → Has K w t
+    degree_two_joint : (K : List Edge) → degree_two_stays? out put K c x ≡ true → (w s t : ℕ) → (s ≡ t → ⊥) → (w ≡ c → ⊥) → Has K w s → Has K w t
         → (joint? out put c x w s t ≡ true) ⊎ (joint? out put c x w t s ≡ true)
     unfolding degree_two_stays?
-    degree-two-joint [] h w s t st wc hs ht = absurd hs
-    degree-two-joint (edge p q ∷ es) h w s t st wc (inl i) (inl j) = absurd (st (joins_one p q w s t i j))
-    degree-two-joint (edge p q ∷ es) h w s t st wc (inl i) (inr j) =
-        inl (first-meets p q w s t st wc i (every_has (apart? out put c x p q) (apart-turn p q) es (and_left (every (apart? out put c x p q) es) _ h) w t j))
-    degree-two-joint (edge p q ∷ es) h w s t st wc (inr i) (inl j) =
-        inr (first-meets p q w t s (λ e. st (sym e)) wc j (every_has (apart? out put c x p q) (apart-turn p q) es (and_left (every (apart? out put c x p q) es) _ h) w s i))
-    degree-two-joint (edge p q ∷ es) h w s t st wc (inr i) (inr j) = degree-two-joint es (and_right (every (apart? out put c x p q) es) _ h) w s t st wc i j
+    degree_two_joint [] h w s t st wc hs ht = absurd hs
+    degree_two_joint (edge p q ∷ es) h w s t st wc (inl i) (inl j) = absurd (st (joins_one p q w s t i j))
+    degree_two_joint (edge p q ∷ es) h w s t st wc (inl i) (inr j) =
+        inl (first_meets p q w s t st wc i (every_has (apart? out put c x p q) (apart_turn p q) es (and_left (every (apart? out put c x p q) es) _ h) w t j))
+    degree_two_joint (edge p q ∷ es) h w s t st wc (inr i) (inl j) =
+        inr (first_meets p q w t s (λ e. st (sym e)) wc j (every_has (apart? out put c x p q) (apart_turn p q) es (and_left (every (apart? out put c x p q) es) _ h) w s i))
+    degree_two_joint (edge p q ∷ es) h w s t st wc (inr i) (inr j) = degree_two_joint es (and_right (every (apart? out put c x p q) es) _ h) w s t st wc i j
 
-    joint-turn : (w s t : ℕ) → joint? out put c x w s t ≡ true → joint? out put c x w t s ≡ true
+    joint_turn : (w s t : ℕ) → joint? out put c x w s t ≡ true → joint? out put c x w t s ≡ true
     unfolding joint?
-    joint-turn w s t h =
+    joint_turn w s t h =
         let b = and_true (stays? out put w s t c x) _ h in
         and_both _ _ ((stays_iff out put w t s c x).1 (λ nc nx m. (stays_iff out put w s t c x).0 b.0 nc nx (moves_ends w t s c x m))) (ap (λ (d : Bool). not (eqb x w) || d) (or_swap (eqb t c) (eqb s c)) ∙ b.1)
 
@@ -127,21 +127,21 @@ module _ (out put : ℕ → ℕ → ℕ) (out-turns : (a b : ℕ) → out a b �
         (λ u v j. and_both _ _ (at p u q v i j) (and_both _ _ (at p v q u i (has_sym es u v j)) (and_both _ _ (at q u p v (has_sym es p q i) j) (at q v p u (has_sym es p q i) (has_sym es u v j)))))
       where
         at : (w z s t : ℕ) → Has es w s → Has es z t → meeting? out put c x w z s t ≡ true
-        at w z s t hs ht = meets w z s t (λ e st wc. ⊎_elim (λ j. j) (λ j. joint-turn w t s j) (degree-two-joint es h w s t st wc hs (subst (λ (r : ℕ). Has es r t) (sym e) ht)))
+        at w z s t hs ht = meets w z s t (λ e st wc. ⊎_elim (λ j. j) (λ j. joint_turn w t s j) (degree_two_joint es h w s t st wc hs (subst (λ (r : ℕ). Has es r t) (sym e) ht)))
 
     -- a point of degree two of K does not move between c and x
-    degree-two-stays : (K : List Edge) → degree_two_stays? out put K c x ≡ true → (w s t : ℕ) → DegreeTwo K w s t → (c ≡ w → ⊥) → (x ≡ w → ⊥) → MoveSaves out put w s t c x → ⊥
+    degree_two_stays : (K : List Edge) → degree_two_stays? out put K c x ≡ true → (w s t : ℕ) → DegreeTwo K w s t → (c ≡ w → ⊥) → (x ≡ w → ⊥) → MoveSaves out put w s t c x → ⊥
     unfolding joint?
-    degree-two-stays K h w s t d nc nx m =
+    degree_two_stays K h w s t d nc nx m =
         ⊎_elim
         (λ j. (stays_iff out put w s t c x).0 (and_left _ _ j) nc nx m)
         (λ j. (stays_iff out put w t s c x).0 (and_left _ _ j) nc nx (moves_ends w s t c x m))
-        (degree-two-joint K h w s t d.apart (λ e. nc (sym e)) d.has_x d.has_y)
+        (degree_two_joint K h w s t d.apart (λ e. nc (sym e)) d.has_x d.has_y)
 
     -- x between c and the other end of an edge of K stays where the edges of K are
-    end-stays-at : (K : List Edge) → end_stays? out put K c x ≡ true → (t : ℕ) → Has K x t → (t ≡ c → ⊥) → every (stays? out put x c t) K ≡ true
+    end_stays_at : (K : List Edge) → end_stays? out put K c x ≡ true → (t : ℕ) → Has K x t → (t ≡ c → ⊥) → every (stays? out put x c t) K ≡ true
     unfolding end_stays? end_at?
-    end-stays-at K h t i tc =
+    end_stays_at K h t i tc =
         let e : not (eqb x x) || (eqb t c || every (stays? out put x c t) K) ≡ true = and_left (end_at? out put K c x x t) (end_at? out put K c x t x) (every_has (λ (p q : ℕ). end_at? out put K c x p q && end_at? out put K c x q p) turn K h x t i) in
         rw (eq-eqb x x refl, ne_eqb t c tc) at e
       where
@@ -220,19 +220,19 @@ module _ (out put : ℕ → ℕ → ℕ) (out-turns : (a b : ℕ) → out a b �
       (λ k. ⊎_elim
       (λ j. ⊎_elim (λ e. onto (subst (λ (q : ℕ). MoveSaves out put x c t c q) (sym e.1) (subst (λ (q : ℕ). MoveSaves out put x c t q v) (sym e.0) m)))
       (λ e. onto (moves_edge out put out-turns put-turns x c t y c (subst (λ (q : ℕ). MoveSaves out put x c t y q) (sym e.0) (subst (λ (q : ℕ). MoveSaves out put x c t q v) (sym e.1) m)))) j)
-      (λ i. (stays_iff out put x c t u v).0 (every_has (stays? out put x c t) (stays_turn out put out-turns put-turns x c t) K (end-stays-at out put out-turns put-turns c x K h t in-K (λ q. d.apart (sym q))) u v i) nu nv m)
+      (λ i. (stays_iff out put x c t u v).0 (every_has (stays? out put x c t) (stays_turn out put out-turns put-turns x c t) K (end_stays_at out put out-turns put-turns c x K h t in_K (λ q. d.apart (sym q))) u v i) nu nv m)
       k)
       (a.parts u v g)
     where
-      in-K : Has K x t
-      in-K = ⊎_elim (λ j. absurd (⊎_elim (λ e. a.x_c (sym e.0)) (λ e. d.apart e.0) j))
+      in_K : Has K x t
+      in_K = ⊎_elim (λ j. absurd (⊎_elim (λ e. a.x_c (sym e.0)) (λ e. d.apart e.0) j))
           (λ k. ⊎_elim (λ j. absurd (⊎_elim (λ e. a.x_c (sym e.0)) (λ e. a.x_y (sym e.1)) j)) (λ i. i) k)
           (a.parts x t d.has_y)
 
       -- x onto cy is c onto xt
       onto : MoveSaves out put x c t c y → ⊥
       onto o =
-          (stays_iff out put c x y x t).0 (every_has (stays? out put c x y) (stays_turn out put out-turns put-turns c x y) K hc x t in-K) (λ q. a.x_c q) (λ q. d.apart (sym q))
+          (stays_iff out put c x y x t).0 (every_has (stays? out put c x y) (stays_turn out put out-turns put-turns c x y) K hc x t in_K) (λ q. a.x_c q) (λ q. d.apart (sym q))
           ((move_sum out put c x y x t).1 (omega (arith, (move_sum out put x c t c y).0 o, out-turns c x, out-turns c y, out-turns t x, put-turns c x, put-turns c t, put-turns y x)))
 
   end_unmoved : {K S : List Edge} {c x y : ℕ} → Adding K c x y S → unmoved? out put K c x y ≡ true → end_stays? out put K c x ≡ true → (s t u v : ℕ) → DegreeTwo S x s t → Has S u v
@@ -266,15 +266,15 @@ module _ (out put : ℕ → ℕ → ℕ) (out-turns : (a b : ℕ) → out a b �
   other_unmoved : {K S : List Edge} {c x y : ℕ} → Adding K c x y S → Unmovable out put K → degree_two_stays? out put K c x ≡ true → degree_two_stays? out put K c y ≡ true
       → (w s t u v : ℕ) → (c ≡ w → ⊥) → (x ≡ w → ⊥) → (y ≡ w → ⊥) → DegreeTwo S w s t → Has S u v → (u ≡ w → ⊥) → (v ≡ w → ⊥) → MoveSaves out put w s t u v → ⊥
   other_unmoved {K} {S} {c} {x} {y} a free hx hy w s t u v nc nx ny d g nu nv m =
-      ⊎_elim (λ j. onto x hx nx j) (λ k. ⊎_elim (λ j. onto y hy ny j) (λ i. free w s t u v in-K i nu nv m) k) (a.parts u v g)
+      ⊎_elim (λ j. onto x hx nx j) (λ k. ⊎_elim (λ j. onto y hy ny j) (λ i. free w s t u v in_K i nu nv m) k) (a.parts u v g)
     where
-      in-K : DegreeTwo K w s t
-      in-K = other_in_K a nc nx ny d
+      in_K : DegreeTwo K w s t
+      in_K = other_in_K a nc nx ny d
 
       onto : (z : ℕ) → degree_two_stays? out put K c z ≡ true → (z ≡ w → ⊥) → Joins (edge c z) u v → ⊥
-      onto z h nz (inl e) = degree-two-stays out put out-turns put-turns c z K h w s t in-K nc nz (subst (λ (r : ℕ). MoveSaves out put w s t c r) (sym e.1) (subst (λ (r : ℕ). MoveSaves out put w s t r v) (sym e.0) m))
+      onto z h nz (inl e) = degree_two_stays out put out-turns put-turns c z K h w s t in_K nc nz (subst (λ (r : ℕ). MoveSaves out put w s t c r) (sym e.1) (subst (λ (r : ℕ). MoveSaves out put w s t r v) (sym e.0) m))
       onto z h nz (inr e) =
-          degree-two-stays out put out-turns put-turns c z K h w s t in-K nc nz
+          degree_two_stays out put out-turns put-turns c z K h w s t in_K nc nz
           (moves_edge out put out-turns put-turns w s t z c (subst (λ (r : ℕ). MoveSaves out put w s t z r) (sym e.0) (subst (λ (r : ℕ). MoveSaves out put w s t r v) (sym e.1) m)))
 
   -- the tests pass: S is unmovable
@@ -298,9 +298,9 @@ module _ (out put : ℕ → ℕ → ℕ) (out-turns : (a b : ℕ) → out a b �
     unmovable_centre = has_every (stays? out put c x y) K (λ u v h. (stays_iff out put c x y u v).1 (free c x y u v (centre_two a) (a.old u v h)))
 
     -- two edges of K that meet
-    meeting-at : (w z s t : ℕ) → Has K w s → Has K z t → meeting? out put c x w z s t ≡ true
+    meeting_at : (w z s t : ℕ) → Has K w s → Has K z t → meeting? out put c x w z s t ≡ true
     unfolding joint?
-    meeting-at w z s t hs ht = meets out put out-turns put-turns c x w z s t (λ e st wc. joint-at w s t hs (subst (λ (r : ℕ). Has K r t) (sym e) ht) st)
+    meeting_at w z s t hs ht = meets out put out-turns put-turns c x w z s t (λ e st wc. joint_at w s t hs (subst (λ (r : ℕ). Has K r t) (sym e) ht) st)
       where
         third : (w s t : ℕ) → Has K w s → Has K w t → (s ≡ t → ⊥) → not (eqb x w) || (eqb s c || eqb t c) ≡ true
         third w s t hs ht st = elim (ℕ_discrete x w) [
@@ -310,14 +310,14 @@ module _ (out put : ℕ → ℕ → ℕ) (out-turns : (a b : ℕ) → out a b �
               (a.two w s t c (a.old w s hs) (a.old w t ht) (subst (λ (r : ℕ). Has S r c) e (has_sym S c x a.new_x)))))
         ]
 
-        joint-at : (w s t : ℕ) → Has K w s → Has K w t → (s ≡ t → ⊥) → joint? out put c x w s t ≡ true
-        joint-at w s t hs ht st =
+        joint_at : (w s t : ℕ) → Has K w s → Has K w t → (s ≡ t → ⊥) → joint? out put c x w s t ≡ true
+        joint_at w s t hs ht st =
             and_both _ _ ((stays_iff out put w s t c x).1 (λ nc nx m. free w s t c x (degree_two a st (a.old w s hs) (a.old w t ht)) a.new_x nc nx m)) (third w s t hs ht st)
 
-    degree-two-in : (es : List Edge) → ((u v : ℕ) → Has es u v → Has K u v) → degree_two_stays? out put es c x ≡ true
+    degree_two_in : (es : List Edge) → ((u v : ℕ) → Has es u v → Has K u v) → degree_two_stays? out put es c x ≡ true
     unfolding degree_two_stays? apart?
-    degree-two-in [] i = refl
-    degree-two-in (edge p q ∷ es) i =
+    degree_two_in [] i = refl
+    degree_two_in (edge p q ∷ es) i =
         let pq : Has K p q = i p q (inl (inl (refl, refl))) in
         let qp : Has K q p = has_sym K p q pq in
         and_both _ _
@@ -325,11 +325,11 @@ module _ (out put : ℕ → ℕ → ℕ) (out-turns : (a b : ℕ) → out a b �
         (λ u v h.
         let uv : Has K u v = i u v (inr h) in
         let vu : Has K v u = has_sym K u v uv in
-        and_both _ _ (meeting-at p u q v pq uv) (and_both _ _ (meeting-at p v q u pq vu) (and_both _ _ (meeting-at q u p v qp uv) (meeting-at q v p u qp vu)))))
-        (degree-two-in es (λ u v h. i u v (inr h)))
+        and_both _ _ (meeting_at p u q v pq uv) (and_both _ _ (meeting_at p v q u pq vu) (and_both _ _ (meeting_at q u p v qp uv) (meeting_at q v p u qp vu)))))
+        (degree_two_in es (λ u v h. i u v (inr h)))
 
     pub unmovable_leg : degree_two_stays? out put K c x ≡ true
-    unmovable_leg = degree-two-in K (λ u v h. h)
+    unmovable_leg = degree_two_in K (λ u v h. h)
 
     pub unmovable_end : end_stays? out put K c x ≡ true
     unfolding end_stays? end_at?

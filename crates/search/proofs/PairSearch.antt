@@ -121,26 +121,26 @@ module _ {n : ℕ} {table legs candidates rank : List ℕ} {bound c : ℕ} {cent
 
   module _ (z : ℕ) (found : z ≡ first_from (fits? n table legs bound centre (edge_list k) c a) (suc b) (n - b)) where
     module _ (out : List ℕ) (open? : ℕ → ℕ → Bool) (taken : Lengths n out) (p : Prepared n (length_of n out) (length_of n table) open? (edge_list k) c legs bound) (q : centre ≡ neighbours_of (edge_list k) c) where
-      walk-feasible : (i : ℕ) → b < i → i ≤ n → feasible? n (length_of n out) (length_of n table) open? (edge_list k) c a i ≡ fits? n table legs bound centre (edge_list k) c a i
-      walk-feasible i h g = feasible_fits taken w.asked.beside.row.lengths p q a i record { low = w.low; high = omega arith } record { low = omega arith; high = g }
+      walk_feasible : (i : ℕ) → b < i → i ≤ n → feasible? n (length_of n out) (length_of n table) open? (edge_list k) c a i ≡ fits? n table legs bound centre (edge_list k) c a i
+      walk_feasible i h g = feasible_fits taken w.asked.beside.row.lengths p q a i record { low = w.low; high = omega arith } record { low = omega arith; high = g }
 
       -- What is left after ab is the row of a from b + 1 on, then the rows above. A point of the row that does not fit
       -- makes no feasible pair with a, so that the row may be entered at the first point z that fits:
       -- nothing kept is lost.
-      walk-skip : feasible_after n (length_of n out) (length_of n table) open? (edge_list k) c a b
+      walk_skip : feasible_after n (length_of n out) (length_of n table) open? (edge_list k) c a b
           ≡ keep (feasible? n (length_of n out) (length_of n table) open? (edge_list k) c) (row a z (n + 1 - z) ++ rows (suc a) (n - suc a))
       unfolding feasible_after pairs_after
-      walk-skip =
+      walk_skip =
           let t = feasible? n (length_of n out) (length_of n table) open? (edge_list k) c in
           let e : suc b + (n - b) - first_from (fits? n table legs bound centre (edge_list k) c a) (suc b) (n - b) ≡ n + 1 - z = omega (arith, walk_within) in
           keep_append t (row a (suc b) (n - b)) (rows (suc a) (n - suc a))
           ∙ ap (λ (es : List Edge). es ++ keep t (rows (suc a) (n - suc a)))
-          (keep_skip (fits? n table legs bound centre (edge_list k) c a) t a (suc b) (n - b) (λ i h g f. walk-feasible i h (omega (arith, walk_within)) ∙ f) ∙ ap₂ (λ (i j : ℕ). keep t (row a i j)) (sym found) e)
+          (keep_skip (fits? n table legs bound centre (edge_list k) c a) t a (suc b) (n - b) (λ i h g f. walk_feasible i h (omega (arith, walk_within)) ∙ f) ∙ ap₂ (λ (i j : ℕ). keep t (row a i j)) (sym found) e)
           ∙ sym (keep_append t (row a z (n + 1 - z)) (rows (suc a) (n - suc a)))
 
-      walk-fits : z ≤ n → feasible? n (length_of n out) (length_of n table) open? (edge_list k) c a z ≡ true
-      walk-fits h =
-          walk-feasible z (omega (arith, first_from_low (fits? n table legs bound centre (edge_list k) c a) (suc b) (n - b))) h
+      walk_fits : z ≤ n → feasible? n (length_of n out) (length_of n table) open? (edge_list k) c a z ≡ true
+      walk_fits h =
+          walk_feasible z (omega (arith, first_from_low (fits? n table legs bound centre (edge_list k) c a) (suc b) (n - b))) h
           ∙ ap (fits? n table legs bound centre (edge_list k) c a) found
           ∙ first_from_found (fits? n table legs bound centre (edge_list k) c a) (suc b) (n - b) (omega (arith, walk_within))
 
@@ -148,7 +148,7 @@ module _ {n : ℕ} {table legs candidates rank : List ℕ} {bound c : ℕ} {cent
       unfolding pairs_after row
       walk_at h =
           let e : n + 1 - z ≡ suc (n - z) = omega arith in
-          walk-skip
+          walk_skip
           ∙ ap (λ (i : ℕ). keep (feasible? n (length_of n out) (length_of n table) open? (edge_list k) c) (row a z i ++ rows (suc a) (n - suc a))) e
 
     -- the first point that fits is the next pair
@@ -157,7 +157,7 @@ module _ {n : ℕ} {table legs candidates rank : List ℕ} {bound c : ℕ} {cent
     walk_found h = record {
       first = λ out open? l p q.
           let t = feasible? n (length_of n out) (length_of n table) open? (edge_list k) c in
-          sym (ap first_of (sym (w.same out open? l p q) ∙ walk_at out open? l p q h ∙ keep_yes t a z (pairs_after n a z) (walk-fits out open? l p q h)));
+          sym (ap first_of (sym (w.same out open? l p q) ∙ walk_at out open? l p q h ∙ keep_yes t a z (pairs_after n a z) (walk_fits out open? l p q h)));
     }
 
     -- the row is done: the rows up to the next candidate have no feasible pair
@@ -169,7 +169,7 @@ module _ {n : ℕ} {table legs candidates rank : List ℕ} {bound c : ℕ} {cent
         let e : n + 1 - z ≡ 0 = omega arith in
         ap (keep t) (sym (rows_after n (suc a)))
         ∙ ap (λ (i : ℕ). keep t (row a z i ++ rows (suc a) (n - suc a))) (sym e)
-        ∙ sym (walk-skip out open? l p q)
+        ∙ sym (walk_skip out open? l p q)
 
     pub walk_row : n < z → Walking n table legs candidates rank bound c centre k x y (get_or candidates (get_or rank (a + 1) 0) 0) (get_or candidates (get_or rank (a + 1) 0) 0)
     walk_row h =

@@ -150,8 +150,8 @@ module _ {n : ℕ} {out put outrows putrows : List ℕ} {c u v : ℕ} {legs : Li
 
   module _ {t : Triangle} (r : TriangleIn n outrows putrows c u v t) where
     -- what narrowing and tightening read stands in the rows
-    take-hand : AtHand n out put putrows c u v t.ps t.qs t.pq t.cp t.cq
-    take-hand = record {
+    take_hand : AtHand n out put putrows c u v t.ps t.qs t.pq t.cp t.cq
+    take_hand = record {
       intervals = a.asked.intervals;
       row_p = rw r.start_p (a.in_put.row u a.asked.from);
       row_q = rw r.start_q (a.in_put.row v a.asked.to);
@@ -161,14 +161,14 @@ module _ {n : ℕ} {out put outrows putrows : List ℕ} {c u v : ℕ} {legs : Li
     }
 
     pub take_short : Short t.pq t.cp t.cq
-    take_short = hand_short take-hand
+    take_short = hand_short take_hand
 
     pub take_narrow : NarrowAsked n putrows legs t.ps t.qs t.pq t.cp t.cq
-    take_narrow = hand_asks take-hand a.bounded.list
+    take_narrow = hand_asks take_hand a.bounded.list
 
     pub taken_in : {legs' : List ℕ} {bound' : ℕ} → Narrowed n putrows legs t.ps t.qs t.pq t.cp t.cq legs'
         → bound' ≡ tightened_by c u v t.pq t.cp t.cq bound → TakenIn n out put c u v legs bound legs' bound'
-    taken_in w e = record { list = w.list; each = λ open? K s. hand_legs take-hand open? K s w; least = hand_tightened take-hand bound e }
+    taken_in w e = record { list = w.list; each = λ open? K s. hand_legs take_hand open? K s w; least = hand_tightened take_hand bound e }
 
 module _ {n : ℕ} {out put outrows putrows marks : List ℕ} {k : EdgeSet} {c : ℕ} {legs : List ℕ} {bound i : ℕ} (s : Taking n out put outrows putrows marks k c legs bound i) (h : i < k.count) where
   pub take_edge : TakeAsked n out put outrows putrows c (get_or k.from i 0) (get_or k.to i 0) legs bound
@@ -296,8 +296,8 @@ module _ {n : ℕ} {out put marks rows : List ℕ} {a b c : ℕ} (q : EdgeLegsAs
   edge_open = record { few = q.asked.intervals.out_lengths.few; marked = q.marked; centre = q.asked.centre; row = row_lent q.asked.intervals.out_lengths s.row_c }
 
   module _ {t : Triangle} (i : EdgeTriangle n out put a b c t) {legs : List ℕ} (o : OpenLegs pending_mark n marks rows c 0 legs) where
-    edge-hand : AtHand n out put rows c a b t.ps t.qs t.pq t.cp t.cq
-    edge-hand = record {
+    edge_hand : AtHand n out put rows c a b t.ps t.qs t.pq t.cp t.cq
+    edge_hand = record {
       intervals = q.asked.intervals;
       row_p = rw i.start_a s.row_a;
       row_q = rw i.start_b s.row_b;
@@ -307,10 +307,10 @@ module _ {n : ℕ} {out put marks rows : List ℕ} {a b c : ℕ} (q : EdgeLegsAs
     }
 
     pub edge_narrow : NarrowAsked n rows legs t.ps t.qs t.pq t.cp t.cq
-    edge_narrow = hand_asks edge-hand o.list
+    edge_narrow = hand_asks edge_hand o.list
 
     pub edge_legs : {r : List ℕ} → Narrowed n rows legs t.ps t.qs t.pq t.cp t.cq r → EdgeLegs n out put marks a b c r
-    edge_legs w = record { list = w.list; each = hand_legs edge-hand (unstruck_in n marks) [] (row_opens (length_of n put) s.row_c o) w }
+    edge_legs w = record { list = w.list; each = hand_legs edge_hand (unstruck_in n marks) [] (row_opens (length_of n put) s.row_c o) w }
 
 -- the set of one edge: its only edge is the first that is stored
 module _ {n : ℕ} {out put marks : List ℕ} {k : EdgeSet} {c : ℕ} (g : SingleAsked n out put marks k c) where

@@ -47,25 +47,25 @@ ranked_start legs {candidates} {rank} a = record {
   low = omega arith;
   high = omega arith;
   fewer = omega arith;
-  last = rank-one;
+  last = rank_one;
   below = λ i h. absurd (omega arith);
-  inside = λ w h g. let e : w ≡ 1 = omega arith in omega (arith, ap (λ (i : ℕ). get_or (set rank 1 0) i 0) e, rank-one);
+  inside = λ w h g. let e : w ≡ 1 = omega arith in omega (arith, ap (λ (i : ℕ). get_or (set rank 1 0) i 0) e, rank_one);
   first = λ w h g.
       let e : w ≡ 1 = omega arith in
       let f : 1 - w ≡ 0 = omega arith in
       ap (λ (i : ℕ). get_or (set candidates 0 1) (get_or (set rank 1 0) i 0) 0) e
-      ∙ ap (λ (i : ℕ). get_or (set candidates 0 1) i 0) rank-one
-      ∙ candidates-zero
+      ∙ ap (λ (i : ℕ). get_or (set candidates 0 1) i 0) rank_one
+      ∙ candidates_zero
       ∙ ap₂ (first_from (candidate? legs)) (sym e) (sym f);
   next = λ w h g e. absurd (omega arith);
   same = λ w h g e. absurd (omega arith);
 }
   where
-    rank-one : get_or (set rank 1 0) 1 0 ≡ 0
-    rank-one = get_or-set_same rank 1 0 0 (omega (arith, a.rank_room))
+    rank_one : get_or (set rank 1 0) 1 0 ≡ 0
+    rank_one = get_or-set_same rank 1 0 0 (omega (arith, a.rank_room))
 
-    candidates-zero : get_or (set candidates 0 1) 0 0 ≡ 1
-    candidates-zero = get_or-set_same candidates 0 1 0 (omega (arith, a.candidates_room))
+    candidates_zero : get_or (set candidates 0 1) 0 0 ≡ 1
+    candidates_zero = get_or-set_same candidates 0 1 0 (omega (arith, a.candidates_room))
 
 -- one more point: the count goes on to m where the point x is a candidate, and stays where it is not
 module _ {n : ℕ} {legs candidates rank : List ℕ} {count x : ℕ} (r : Ranked n legs candidates rank count x) (inside : x ≤ n) (m : ℕ)
@@ -119,19 +119,19 @@ module _ {n : ℕ} {legs candidates rank : List ℕ} {count x : ℕ} (r : Ranked
     sum = omega arith
 
     -- where the first candidate from w on is below x, or x is a candidate, it stays the first
-    first-stays : (get_or rank w 0 ≡ m → ⊥) → (first_from (candidate? legs) w (x - w) ≡ w + (x - w) → candidate? legs (w + (x - w)) ≡ true)
+    first_stays : (get_or rank w 0 ≡ m → ⊥) → (first_from (candidate? legs) w (x - w) ≡ w + (x - w) → candidate? legs (w + (x - w)) ≡ true)
         → get_or candidates' (get_or rank w 0) 0 ≡ first_from (candidate? legs) w (suc (x - w))
-    first-stays ne k = candidates_old (get_or rank w 0) ne ∙ r.first w h g ∙ sym (first_from_stays (candidate? legs) w (x - w) k)
+    first_stays ne k = candidates_old (get_or rank w 0) ne ∙ r.first w h g ∙ sym (first_from_stays (candidate? legs) w (x - w) k)
 
-    first-old : (t : Bool) → candidate? legs x ≡ t → get_or candidates' (get_or rank w 0) 0 ≡ first_from (candidate? legs) w (suc (x - w))
-    first-old true e = first-stays (λ q. omega (arith, r.inside w h g, up e)) (λ q. ap (candidate? legs) sum ∙ e)
-    first-old false e = elim (ℕ_discrete (get_or rank w 0) count) [
+    first_old : (t : Bool) → candidate? legs x ≡ t → get_or candidates' (get_or rank w 0) 0 ≡ first_from (candidate? legs) w (suc (x - w))
+    first_old true e = first_stays (λ q. omega (arith, r.inside w h g, up e)) (λ q. ap (candidate? legs) sum ∙ e)
+    first_old false e = elim (ℕ_discrete (get_or rank w 0) count) [
       | yes q ↦
           let none : first_from (candidate? legs) w (x - w) ≡ w + (x - w) =
           sym (r.first w h g) ∙ ap (λ (i : ℕ). get_or candidates i 0) q ∙ candidates_last ∙ sym sum in
           ap (λ (i : ℕ). get_or candidates' i 0) (q ∙ sym (stay e)) ∙ candidates_new ∙ add-one x
           ∙ ap suc (sym sum) ∙ sym (first_from_ends (candidate? legs) w (x - w) none (ap (candidate? legs) sum ∙ e))
-      | no q ↦ first-stays (λ s. q (s ∙ stay e))
+      | no q ↦ first_stays (λ s. q (s ∙ stay e))
           (λ s. absurd (omega (arith, r.first w h g, r.below (get_or rank w 0) (omega (arith, r.inside w h g)))))
     ]
 
@@ -145,7 +145,7 @@ module _ {n : ℕ} {legs candidates rank : List ℕ} {count x : ℕ} (r : Ranked
     | no q ↦
         let l : w ≤ x = omega arith in
         let e : suc (x - w) ≡ x + 1 - w = omega arith in
-        ap (λ (i : ℕ). get_or candidates' i 0) (rank_old w l) ∙ first-old w h l (candidate? legs x) refl ∙ ap (first_from (candidate? legs) w) e
+        ap (λ (i : ℕ). get_or candidates' i 0) (rank_old w l) ∙ first_old w h l (candidate? legs x) refl ∙ ap (first_from (candidate? legs) w) e
   ]
 
   next_on : (w : ℕ) → 1 ≤ w → w < x + 1 → candidate? legs w ≡ true → get_or rank' (w + 1) 0 ≡ get_or rank' w 0 + 1

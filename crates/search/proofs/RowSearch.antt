@@ -181,19 +181,19 @@ module _ {n : ℕ} {table legs candidates rank : List ℕ} {bound x y : ℕ} (r 
   with_own a h e = e ∙ first_from_same (passes? n table legs bound x) (allowed? n table legs bound (One a) x) (λ i. rw (eq-eqb a x h)) (suc y) (n - y)
 
   module _ (a : ℕ) (apart : a ≡ x → ⊥) where
-    with-other : (i : ℕ) → (a ≡ i → ⊥) → allowed? n table legs bound (One a) x i ≡ false
+    with_other : (i : ℕ) → (a ≡ i → ⊥) → allowed? n table legs bound (One a) x i ≡ false
     unfolding allowed? within? either?
-    with-other i h = rw (ne_eqb a x apart, ne_eqb a i h)
+    with_other i h = rw (ne_eqb a x apart, ne_eqb a i h)
 
-    with-this : allowed? n table legs bound (One a) x a ≡ passes? n table legs bound x a
+    with_this : allowed? n table legs bound (One a) x a ≡ passes? n table legs bound x a
     unfolding allowed? within? either?
-    with-this = rw (ne_eqb a x apart, eq-eqb a a refl)
+    with_this = rw (ne_eqb a x apart, eq-eqb a a refl)
 
     pub with_past : a ≤ y → n + 1 ≡ first_from (allowed? n table legs bound (One a) x) (suc y) (n - y)
-    with_past h = row_none (One a) (λ i l u. with-other i (λ e. omega arith))
+    with_past h = row_none (One a) (λ i l u. with_other i (λ e. omega arith))
 
     pub with_over : n < a → n + 1 ≡ first_from (allowed? n table legs bound (One a) x) (suc y) (n - y)
-    with_over h = row_none (One a) (λ i l u. with-other i (λ e. omega (arith, r.high)))
+    with_over h = row_none (One a) (λ i l u. with_other i (λ e. omega (arith, r.high)))
 
     pub with_found : y < a → a ≤ n → {m : ℕ} → m ≡ length_of n table x a → get_or legs x 0 + most_length + get_or legs a 0 ≤ m + bound
         → a ≡ first_from (allowed? n table legs bound (One a) x) (suc y) (n - y)
@@ -202,7 +202,7 @@ module _ {n : ℕ} {table legs candidates rank : List ℕ} {bound x y : ℕ} (r 
         let t : leb (get_or legs x 0 + most_length + get_or legs a 0) (length_of n table x a + bound) ≡ true =
         le-leb (get_or legs x 0 + most_length + get_or legs a 0) (length_of n table x a + bound) (omega arith) in
         sym (first_from_at (allowed? n table legs bound (One a) x) (suc y) (n - y) a (omega arith) (omega (arith, r.high))
-        (λ i l u. with-other i (λ q. omega arith)) (with-this ∙ t))
+        (λ i l u. with_other i (λ q. omega arith)) (with_this ∙ t))
 
     pub with_refused : {m : ℕ} → m ≡ length_of n table x a → m + bound < get_or legs x 0 + most_length + get_or legs a 0
         → n + 1 ≡ first_from (allowed? n table legs bound (One a) x) (suc y) (n - y)
@@ -211,8 +211,8 @@ module _ {n : ℕ} {table legs candidates rank : List ℕ} {bound x y : ℕ} (r 
         let t : leb (get_or legs x 0 + most_length + get_or legs a 0) (length_of n table x a + bound) ≡ false =
         lt-leb (get_or legs x 0 + most_length + get_or legs a 0) (length_of n table x a + bound) (omega arith) in
         row_none (One a) (λ i l u. elim (ℕ_discrete a i) [
-          | yes q ↦ ap (allowed? n table legs bound (One a) x) (sym q) ∙ with-this ∙ t
-          | no q ↦ with-other i q
+          | yes q ↦ ap (allowed? n table legs bound (One a) x) (sym q) ∙ with_this ∙ t
+          | no q ↦ with_other i q
         ])
 
   -- next_beside: what c has

@@ -52,9 +52,9 @@ module _ (a b c : ℕ) (apart : a ≡ b → ⊥) (c-a : c ≡ a → ⊥) (c-b : 
   beyond_other x h g = rw (ne_eqb a x h, ne_eqb b x g)
 
   module _ (n : ℕ) (least : 4 ≤ n) (x y : ℕ) (x_y : x ≡ y → ⊥) where
-    shuts-pair : shuts? n (edge a b ∷ []) x y (beyond (neighbours_of (edge a b ∷ []) x) c) (beyond (neighbours_of (edge a b ∷ []) y) c) ≡ joins? a b x y
+    shuts_pair : shuts? n (edge a b ∷ []) x y (beyond (neighbours_of (edge a b ∷ []) x) c) (beyond (neighbours_of (edge a b ∷ []) y) c) ≡ joins? a b x y
     unfolding shuts? joins?
-    shuts-pair = elim (ℕ_discrete a x) [
+    shuts_pair = elim (ℕ_discrete a x) [
       | yes e ↦ elim (ℕ_discrete b y) [
         | yes f ↦ rw (beyond_first x e, beyond_second y f, reaches_at_once (n - 3) (edge a b ∷ []) x b y (omega arith) f, eq-eqb a x e, eq-eqb b y f)
         | no f ↦ rw (
@@ -92,9 +92,9 @@ module _ (a b c : ℕ) (apart : a ≡ b → ⊥) (c-a : c ≡ a → ⊥) (c-b : 
         ]
 
     -- conditions 2 and 3 are one test
-    shape-single : shape? n (edge a b ∷ []) c x y ≡ not (joins? a b x y)
+    shape_single : shape? n (edge a b ∷ []) c x y ≡ not (joins? a b x y)
     unfolding shape?
-    shape-single = rw (at_centre x y, shuts-pair)
+    shape_single = rw (at_centre x y, shuts_pair)
 
 -- c is an end of the edge
 
@@ -151,7 +151,7 @@ pub single_feasible : {n : ℕ} {out table : List ℕ} {open? : ℕ → ℕ → 
     → (x y : ℕ) → Point n x → Point n y → (x ≡ y → ⊥)
     → feasible? n (length_of n out) (length_of n table) open? (edge a b ∷ []) c x y ≡ passes? n table legs bound x y && not (joins? a b x y)
 single_feasible {n} {out} {table} {open?} {a} {b} {c} {legs} {bound} f h p least apart c-a c-b x y px py x_y =
-    feasible_passes f h p x y px py ∙ ap (λ (t : Bool). passes? n table legs bound x y && t) (shape-single a b c apart c-a c-b n least x y x_y)
+    feasible_passes f h p x y px py ∙ ap (λ (t : Bool). passes? n table legs bound x y && t) (shape_single a b c apart c-a c-b n least x y x_y)
 
 -- two tests that agree on the pairs x < y of 1 to n keep the same pairs
 keep_agree : (n : ℕ) (t u : ℕ → ℕ → Bool) → ((x y : ℕ) → IsEdgeUp n x y → t x y ≡ u x y) → (es : List Edge) → PairsInOrder n es → keep t es ≡ keep u es

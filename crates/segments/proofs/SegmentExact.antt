@@ -83,15 +83,15 @@ module _ {n : ℕ} {K : List Edge} (shape : Shape n K) (u v : ℕ) where
       }
 
   module _ (uv : u ≡ v → ⊥) (ne : Has K u v → ⊥) where
-    over-found : (a : ℕ) → Has K u a → (over K u v a ≡ [] → ⊥) → Path K u v (over K u v a)
-    over-found a h some =
+    over_found : (a : ℕ) → Has K u a → (over K u v a ≡ [] → ⊥) → Path K u v (over K u v a)
+    over_found a h some =
         let r = over_path K u v shape.two shape.plain uv a h some in
         record { once = once_of_distinct (u ∷ over K u v a ++ v ∷ []) r.1; inside = r.0 }
 
     -- the one way that leads to v is the segment
-    only-over : (a : ℕ) → Has K u a → (over K u v a ≡ [] → ⊥) → ((c : ℕ) → Has K u c → (c ≡ a) ⊎ (over K u v c ≡ []))
+    only_over : (a : ℕ) → Has K u a → (over K u v a ≡ [] → ⊥) → ((c : ℕ) → Has K u c → (c ≡ a) ⊎ (over K u v c ≡ []))
         → Segment K u v (over K u v a)
-    only-over a h some others = record { path = over-found a h some; inner = some; only = only' }
+    only_over a h some others = record { path = over_found a h some; inner = some; only = only' }
       where
         only' : (xs : List ℕ) → Path K u v xs → xs ≡ over K u v a
         only' xs P =
@@ -99,22 +99,22 @@ module _ {n : ℕ} {K : List Edge} (shape : Shape n K) (u v : ℕ) where
             ⊎_elim (λ e. sym r.is ∙ ap (over K u v) e)
             (λ e. absurd (ne (path_edge (subst (λ (ys : List ℕ). Path K u v ys) (sym r.is ∙ e) P)))) (others r.b r.near)
 
-    between-sound : (m : Neighbours) → NeighboursAre K u m → (between K u v m ≡ [] → ⊥) → Segment K u v (between K u v m)
+    between_sound : (m : Neighbours) → NeighboursAre K u m → (between K u v m ≡ [] → ⊥) → Segment K u v (between K u v m)
     unfolding between only_way
-    between-sound None h some = absurd (some refl)
-    between-sound (One a) h some = only-over a h.0 some (λ c k. inl (h.1 c k))
-    between-sound (Two a b) h some = go (over K u v a) refl (over K u v b) refl some
+    between_sound None h some = absurd (some refl)
+    between_sound (One a) h some = only_over a h.0 some (λ c k. inl (h.1 c k))
+    between_sound (Two a b) h some = go (over K u v a) refl (over K u v b) refl some
       where
         go : (xs : List ℕ) → over K u v a ≡ xs → (ys : List ℕ) → over K u v b ≡ ys → (only_way xs ys ≡ [] → ⊥)
             → Segment K u v (only_way xs ys)
         go [] e ys f s =
             subst (Segment K u v) f
-            (only-over b h.has_y (λ q. s (sym f ∙ q)) (λ c k. ⊎_elim (λ p. inr (ap (over K u v) p ∙ e)) inl (h.only c k)))
+            (only_over b h.has_y (λ q. s (sym f ∙ q)) (λ c k. ⊎_elim (λ p. inr (ap (over K u v) p ∙ e)) inl (h.only c k)))
         go (x ∷ xs) e [] f s =
             subst (Segment K u v) e
-            (only-over a h.has_x (λ q. s (sym e ∙ q)) (λ c k. ⊎_elim inl (λ p. inr (ap (over K u v) p ∙ f)) (h.only c k)))
+            (only_over a h.has_x (λ q. s (sym e ∙ q)) (λ c k. ⊎_elim inl (λ p. inr (ap (over K u v) p ∙ f)) (h.only c k)))
         go (x ∷ xs) e (y ∷ ys) f s = absurd (s refl)
-    between-sound More h some = absurd (some refl)
+    between_sound More h some = absurd (some refl)
 
     -- beside the way of the segment no other leads to v
     no_other : (ws : List ℕ) → Segment K u v ws → (a b : ℕ) → (a ≡ b → ⊥) → Has K u b → over K u v a ≡ ws → over K u v b ≡ []
@@ -124,7 +124,7 @@ module _ {n : ℕ} {K : List Edge} (shape : Shape n K) (u v : ℕ) where
         clash some =
             let r = over_first K u v b some in
             let s = over_first K u v a (λ q. S.inner (sym e ∙ q)) in
-            let one : over K u v b ≡ over K u v a = S.only (over K u v b) (over-found b hb some) ∙ sym e in
+            let one : over K u v b ≡ over K u v a = S.only (over K u v b) (over_found b hb some) ∙ sym e in
             let heads : a ∷ s.0 ≡ b ∷ r.0 = sym s.1 ∙ sym one ∙ r.1 in
             ab (cc)
 
@@ -135,11 +135,11 @@ module _ {n : ℕ} {K : List Edge} (shape : Shape n K) (u v : ℕ) where
             never : y ∷ ys ≡ [] → ⊥
             never q = let z : ◌≡◌ {A = ℕ} 0 1 = cc in omega arith
 
-    between-complete : (ws : List ℕ) → Segment K u v ws → (m : Neighbours) → NeighboursAre K u m → FoundOver K u v ws → between K u v m ≡ ws
+    between_complete : (ws : List ℕ) → Segment K u v ws → (m : Neighbours) → NeighboursAre K u m → FoundOver K u v ws → between K u v m ≡ ws
     unfolding between
-    between-complete ws S None h r = absurd (h r.b r.near)
-    between-complete ws S (One a) h r = ap (over K u v) (sym (h.1 r.b r.near)) ∙ r.is
-    between-complete ws S (Two a b) h r = ⊎_elim first second (h.only r.b r.near)
+    between_complete ws S None h r = absurd (h r.b r.near)
+    between_complete ws S (One a) h r = ap (over K u v) (sym (h.1 r.b r.near)) ∙ r.is
+    between_complete ws S (Two a b) h r = ⊎_elim first second (h.only r.b r.near)
       where
         first : r.b ≡ a → only_way (over K u v a) (over K u v b) ≡ ws
         first e =
@@ -150,7 +150,7 @@ module _ {n : ℕ} {K : List Edge} (shape : Shape n K) (u v : ℕ) where
         second e =
             let is_b : over K u v b ≡ ws = ap (over K u v) (sym e) ∙ r.is in
             only_right (over K u v a) (over K u v b) (no_other ws S b a (λ q. h.apart (sym q)) h.has_x is_b) ∙ is_b
-    between-complete ws S More h r =
+    between_complete ws S More h r =
         absurd (⊎_elim h.a_b (⊎_elim h.a_c h.b_c) (shape.two u h.a h.b h.c h.has_a h.has_b h.has_c))
 
     far : has? K u v ≡ false
@@ -161,7 +161,7 @@ module _ {n : ℕ} {K : List Edge} (shape : Shape n K) (u v : ℕ) where
   unfolding segment?
   segment_sound h =
       subst (Segment K u v) by
-      (between-sound uv ne (neighbours_of K u) (neighbours_exact K u) (λ e. some (sym by ∙ e)))
+      (between_sound uv ne (neighbours_of K u) (neighbours_exact K u) (λ e. some (sym by ∙ e)))
     where
       some : segment_of K u v ≡ [] → ⊥
       some = some_true (segment_of K u v) h
@@ -179,7 +179,7 @@ module _ {n : ℕ} {K : List Edge} (shape : Shape n K) (u v : ℕ) where
   pub segment_complete : (ws : List ℕ) → Segment K u v ws → segment_of K u v ≡ ws
   segment_complete ws S =
       sym (segment_by K u v (neighbours_of K u) uv (far uv ne) refl)
-      ∙ between-complete uv ne ws S (neighbours_of K u) (neighbours_exact K u) (found_over ws S.path ne)
+      ∙ between_complete uv ne ws S (neighbours_of K u) (neighbours_exact K u) (found_over ws S.path ne)
     where
       uv : u ≡ v → ⊥
       uv = path_apart S.path
@@ -236,23 +236,23 @@ module _ {n : ℕ} {K : List Edge} (shape : Shape n K) (u v : ℕ) where
     unfolding reordering reordered same? shorter?
     answer = rw (segment_complete ws S)
 
-    is-23 : (s t : Bool) → refusal_of (cond s (cond t Closed NotShorter) OtherPoints) ≡ 23 → s ≡ false
+    is_23 : (s t : Bool) → refusal_of (cond s (cond t Closed NotShorter) OtherPoints) ≡ 23 → s ≡ false
     unfolding refusal_of
-    is-23 true true e = absurd (omega arith)
-    is-23 true false e = absurd (omega arith)
-    is-23 false t e = refl
+    is_23 true true e = absurd (omega arith)
+    is_23 true false e = absurd (omega arith)
+    is_23 false t e = refl
 
-    is-24 : (s t : Bool) → refusal_of (cond s (cond t Closed NotShorter) OtherPoints) ≡ 24 → (s ≡ true) × (t ≡ false)
+    is_24 : (s t : Bool) → refusal_of (cond s (cond t Closed NotShorter) OtherPoints) ≡ 24 → (s ≡ true) × (t ≡ false)
     unfolding refusal_of
-    is-24 true true e = absurd (omega arith)
-    is-24 true false e = (refl, refl)
-    is-24 false t e = absurd (omega arith)
+    is_24 true true e = absurd (omega arith)
+    is_24 true false e = (refl, refl)
+    is_24 false t e = absurd (omega arith)
 
     -- THEOREM: refusal 23 of a segment: the order does not name its inner points, each once
     pub other_points_exact : (reordering out put K u v vs ≡ 23) ↔ (((x : ℕ) → count x vs ≡ count x ws) → ⊥)
     unfolding refusal_of same?
     other_points_exact = (
-      λ h e. true≢false (sym (same_complete vs ws e) ∙ is-23 same? shorter? (sym answer ∙ h)),
+      λ h e. true≢false (sym (same_complete vs ws e) ∙ is_23 same? shorter? (sym answer ∙ h)),
       λ ne. answer ∙ rw (never_true same? (λ h. ne (same_sound vs ws (inner_distinct S.path) h))),
     )
 
@@ -262,7 +262,7 @@ module _ {n : ℕ} {K : List Edge} (shape : Shape n K) (u v : ℕ) where
     unfolding refusal_of same? shorter?
     not_shorter_exact = (
       λ h.
-          let t = is-24 same? shorter? (sym answer ∙ h) in (
+          let t = is_24 same? shorter? (sym answer ∙ h) in (
             same_sound vs ws (inner_distinct S.path) t.0,
             ltb-false (total put (path_edges u vs v)) (total out (path_edges u ws v)) t.1,
           ),

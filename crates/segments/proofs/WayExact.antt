@@ -81,9 +81,9 @@ module _ (K : List Edge) (u v : ℕ) where
 
   module _ (two : AtMostTwo K) (plain : (x : ℕ) → Has K x x → ⊥) (uv : u ≡ v → ⊥) where
     -- no way goes on from u
-    from-u : {from at : ℕ} {passed ws : List ℕ} → Way K u v from at passed ws → at ≡ u → ⊥
-    from-u (here e) f = uv (sym f ∙ e)
-    from-u (on ne l w) f = ne f
+    from_u : {from at : ℕ} {passed ws : List ℕ} → Way K u v from at passed ws → at ≡ u → ⊥
+    from_u (here e) f = uv (sym f ∙ e)
+    from_u (on ne l w) f = ne f
 
     -- a path of K from u to `at`, no point twice, that came over `from`
     record Come (from at : ℕ) (passed : List ℕ) : Type 0 where
@@ -107,20 +107,20 @@ module _ (K : List Edge) (u v : ℕ) where
             ⊎_elim (λ e. wu (sym e))
             (λ h. ⊎_elim inner (λ e. plain w (subst (λ (t : ℕ). Has K t w) e l.has)) (in_snoc w at passed h))
 
-    way-path : {from at : ℕ} {passed ws : List ℕ} → Way K u v from at passed ws → Come from at passed
+    way_path : {from at : ℕ} {passed ws : List ℕ} → Way K u v from at passed ws → Come from at passed
         → Inside (path_edges u ws v) K × Distinct (u ∷ ws ++ v ∷ [])
-    way-path (here {passed = passed} e) c = (
+    way_path (here {passed = passed} e) c = (
       subst (λ (t : ℕ). Inside (path_edges u passed t) K) e c.inside,
       subst (λ (t : ℕ). Distinct (u ∷ passed ++ t ∷ [])) e c.distinct,
     )
-    way-path (on ne l w) c = way-path w (go_on_lem c l (from-u w))
+    way_path (on ne l w) c = way_path w (go_on_lem c l (from_u w))
 
     -- what is found over a neighbour of u is a path
     pub over_path : (a : ℕ) → Has K u a → (over K u v a ≡ [] → ⊥)
         → Inside (path_edges u (over K u v a) v) K × Distinct (u ∷ over K u v a ++ v ∷ [])
     unfolding over path_edges
     over_path a h some =
-        way-path (found_way (length K) u a [] some)
+        way_path (found_way (length K) u a [] some)
         (record {
           inside = inside_cons [] K u a h (inside_nil K);
           distinct = (⊎_elim (λ e. plain u (subst (λ (t : ℕ). Has K u t) e h)) (λ k. k), ((λ k. k), tt));
@@ -128,22 +128,22 @@ module _ (K : List Edge) (u v : ℕ) where
         })
 
     -- b's one other neighbour
-    onward-to : (b from c : ℕ) → Has K b from → Has K b c → (c ≡ from → ⊥) → beyond (neighbours_of K b) from ≡ On c
-    onward-to b from c hf hc ne = go (beyond (neighbours_of K b) from) (onward_exact K b from)
+    onward_to : (b from c : ℕ) → Has K b from → Has K b c → (c ≡ from → ⊥) → beyond (neighbours_of K b) from ≡ On c
+    onward_to b from c hf hc ne = go (beyond (neighbours_of K b) from) (onward_exact K b from)
       where
         go : (m : PathStep) → Onward K b from m → m ≡ On c
         go Stop h = absurd (ne (h c hc))
         go (On w) h = ap On (sym (h.only c hc ne))
         go Fork h = absurd (⊎_elim h.a_b (⊎_elim h.a_from h.b_from) (two b h.a h.b from h.has_a h.has_b hf))
 
-    one-step : (f from b c : ℕ) (passed : List ℕ) → (b ≡ v → ⊥) → (b ≡ u → ⊥) → Has K b from → Has K b c → (c ≡ from → ⊥)
+    one_step : (f from b c : ℕ) (passed : List ℕ) → (b ≡ v → ⊥) → (b ≡ u → ⊥) → Has K b from → Has K b c → (c ≡ from → ⊥)
         → followed (suc f) K u v from b passed ≡ followed f K u v b c (passed ++ b ∷ [])
     unfolding followed led_to
-    one-step f from b c passed nv nu hf hc ne = rw (ne_eqb b v nv, ne_eqb b u nu, onward-to b from c hf hc ne)
+    one_step f from b c passed nv nu hf hc ne = rw (ne_eqb b v nv, ne_eqb b u nu, onward_to b from c hf hc ne)
 
-    at-v : (f from : ℕ) (passed : List ℕ) → followed (suc f) K u v from v passed ≡ passed
+    at_v : (f from : ℕ) (passed : List ℕ) → followed (suc f) K u v from v passed ≡ passed
     unfolding followed
-    at-v f from passed = rw (eq-eqb v v refl)
+    at_v f from passed = rw (eq-eqb v v refl)
 
     -- the rest of a path is found
     follows : (f from b : ℕ) (xs passed : List ℕ) → Inside (path_edges from (b ∷ xs) v) K → Distinct (from ∷ b ∷ xs ++ v ∷ [])
@@ -153,11 +153,11 @@ module _ (K : List Edge) (u v : ℕ) where
     follows zero from b xs passed ins d nu fuel = absurd (omega arith)
     follows (suc zero) from b xs passed ins d nu fuel = absurd (omega arith)
     follows (suc (suc f)) from b [] passed ins d nu fuel =
-        one-step (suc f) from b v passed (λ e. d.1.0 (inl (sym e))) (λ e. nu (inl e)) (ins b from (inl (inr (refl, refl))))
+        one_step (suc f) from b v passed (λ e. d.1.0 (inl (sym e))) (λ e. nu (inl e)) (ins b from (inl (inr (refl, refl))))
         (ins b v (inr (inl (inl (refl, refl))))) (λ e. d.0 (inr (inl e)))
-        ∙ at-v f b (passed ++ b ∷ [])
+        ∙ at_v f b (passed ++ b ∷ [])
     follows (suc (suc f)) from b (c ∷ xs) passed ins d nu fuel =
-        one-step (suc f) from b c passed (λ e. d.1.0 (subst (λ (w : ℕ). In w (c ∷ xs ++ v ∷ [])) (sym e) (snoc_last v (c ∷ xs)))) (λ e. nu (inl e))
+        one_step (suc f) from b c passed (λ e. d.1.0 (subst (λ (w : ℕ). In w (c ∷ xs ++ v ∷ [])) (sym e) (snoc_last v (c ∷ xs)))) (λ e. nu (inl e))
         (ins b from (inl (inr (refl, refl))))
         (ins b c (inr (inl (inl (refl, refl))))) (λ e. d.0 (inr (inl e)))
         ∙ follows (suc f) b c xs (passed ++ b ∷ []) (λ p q h. ins p q (inr h)) d.1 (λ h. nu (inr h)) (omega arith)

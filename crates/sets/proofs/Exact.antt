@@ -70,8 +70,8 @@ module _ (n : ℕ) (K : List Edge) (c x y : ℕ) (shape : Shape n K) (apart : Ap
 
   module _ (two : AtMostTwo (with_pair K c x y)) (vs : List ℕ) (C : Cycle (with_pair K c x y) vs) where
     -- the points of a cycle are closed under neighbours
-    neighbour-in : (u v : ℕ) → In u vs → Has (with_pair K c x y) u v → In v vs
-    neighbour-in u v h k =
+    neighbour_in : (u v : ℕ) → In u vs → Has (with_pair K c x y) u v → In v vs
+    neighbour_in u v h k =
         let s = cycle_sides (with_pair K c x y) vs C u h in
         ⊎_elim (λ e. absurd (s.apart e))
         (⊎_elim (λ e. subst (λ (t : ℕ). In t vs) e s.in_p) (λ e. subst (λ (t : ℕ). In t vs) e s.in_q))
@@ -91,13 +91,13 @@ module _ (n : ℕ) (K : List Edge) (c x y : ℕ) (shape : Shape n K) (apart : Ap
     unfolding shuts?
     seen_by short ci Fork my hx hy = refl
     seen_by short ci Stop Fork hx hy = refl
-    seen_by short ci Stop Stop hx hy = absurd (leaves x (neighbour-in c x ci (pair_x K c x y)) apart.x_c hx)
-    seen_by short ci Stop (On u) hx hy = absurd (leaves x (neighbour-in c x ci (pair_x K c x y)) apart.x_c hx)
+    seen_by short ci Stop Stop hx hy = absurd (leaves x (neighbour_in c x ci (pair_x K c x y)) apart.x_c hx)
+    seen_by short ci Stop (On u) hx hy = absurd (leaves x (neighbour_in c x ci (pair_x K c x y)) apart.x_c hx)
     seen_by short ci (On v) Fork hx hy = refl
-    seen_by short ci (On v) Stop hx hy = absurd (leaves y (neighbour-in c y ci (pair_y K c x y)) apart.y_c hy)
+    seen_by short ci (On v) Stop hx hy = absurd (leaves y (neighbour_in c y ci (pair_y K c x y)) apart.y_c hy)
     seen_by short ci (On v) (On u) hx hy =
-        let xi : In x vs = neighbour-in c x ci (pair_x K c x y) in
-        let vi : In v vs = neighbour-in x v xi (pair_keeps K c x y x v hx.has) in
+        let xi : In x vs = neighbour_in c x ci (pair_x K c x y) in
+        let vi : In v vs = neighbour_in x v xi (pair_keeps K c x y x v hx.has) in
         met K c x y two pair_plain n vs short (cycle_sides (with_pair K c x y) vs C) (n - 3) v x (c ∷ []) (start v hx)
         (λ w. ⊎_elim (λ e. rw (← e) vi) (⊎_elim (λ e. rw (← e) xi) (⊎_elim (λ e. rw (← e) ci) (λ h. absurd h)))) (omega arith)
 

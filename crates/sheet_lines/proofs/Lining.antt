@@ -56,19 +56,19 @@ module _ (R : Rules) (open? : ℕ → ℕ → Bool) (s : List ℕ) (i a b c firs
     line_struck o = sym (pass_guard _ 11 i _ f ∙ fail_guard _ 12 i _ o)
 
     module _ (o : open? a b ≡ true) {k : EdgeSet} (one : Single a b k) {v : Walked} (z : walked_of v ≡ walk R s (opening R most_splits (edge_list k) i c first)) where
-      line-walks : {v' : Walked} → v ≡ v' → judge_record R open? s i (line a b c first next) ≡ and_then (walked_of v') λ high. accepted (strikes a b next high)
+      line_walks : {v' : Walked} → v ≡ v' → judge_record R open? s i (line a b c first next) ≡ and_then (walked_of v') λ high. accepted (strikes a b next high)
       unfolding judge_record
-      line-walks g =
+      line_walks g =
           pass_guard _ 11 i _ f ∙ pass_guard _ 12 i _ o ∙ ap (λ (w : Verdict ℕ). and_then w (λ high. accepted (strikes a b next high)))
           (close_splits R s most_splits (edge a b ∷ []) i c first (omega arith) ∙ ap (λ (K : List Edge). walk R s (opening R most_splits K i c first)) (sym one.edges) ∙ sym z ∙ ap walked_of g)
 
       pub line_strikes : {high : ℕ} → v ≡ walked.Closed high → accepted (strikes a b next high) ≡ judge_record R open? s i (line a b c first next)
       unfolding and_then
-      line_strikes g = sym (line-walks g)
+      line_strikes g = sym (line_walks g)
 
       pub line_stops : {m r : ℕ} → v ≡ walked.Refused m r → refused m r ≡ judge_record R open? s i (line a b c first next)
       unfolding and_then
-      line_stops g = sym (line-walks g)
+      line_stops g = sym (line_walks g)
 
 module _ {n : ℕ} {out put outrows putrows marks s : List ℕ} {count i : ℕ} (asked : LineAsked n out put outrows putrows marks s count i) (a b c first : ℕ) (f : fits n a b (splits c first) ≡ true) where
   pub line_marked : MarkAsked n marks a b

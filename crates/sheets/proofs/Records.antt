@@ -74,13 +74,13 @@ pub sheet_admitted : {numbers : ℕ} {s : Sheet} → sheet_admission numbers ≡
 unfolding sheet_admission
 sheet_admitted {numbers} {s} h = go (whole_sheet numbers) refl
   where
-    records-of : {i j : Sheet} → Admitted i ≡ Admitted j → i.records ≡ j.records
-    records-of {i} {j} g = let e : i ≡ j = cc in ap (λ (k : Sheet). k.records) e
+    records_of : {i j : Sheet} → Admitted i ≡ Admitted j → i.records ≡ j.records
+    records_of {i} {j} g = let e : i ≡ j = cc in ap (λ (k : Sheet). k.records) e
 
     go : (b : Bool) → whole_sheet numbers ≡ b → SheetIs numbers s
     go true e =
         let g : Admitted (record { records = numbers / record_size }) ≡ Admitted s = rw (sheet_admission, e) at h in
-        record { passed = e; counted = sym (records-of g); whole = whole-sheet numbers e }
+        record { passed = e; counted = sym (records_of g); whole = whole-sheet numbers e }
     go false e =
         let g : Refused ≡ Admitted s = rw (sheet_admission, e) at h in
         absurd (let z : ◌≡◌ {A = ℕ} 0 1 = cc in omega arith)
@@ -204,23 +204,23 @@ module _ (kind a b u v c d next : ℕ) where
       pub other_above : (kind ≡ 5 → ⊥) → other ≡ content kind a b u v c d next
       other_above h = sym (above ∙ rw (ne_eqb kind 4 n4, ne_eqb kind 5 h))
 
-      visit-as : kind ≡ 5 → content kind a b u v c d next ≡ bare b u (bare v c (bare d 0 (visit a next)))
-      visit-as h = above ∙ rw (ne_eqb kind 4 n4, eq-eqb kind 5 h)
+      visit_as : kind ≡ 5 → content kind a b u v c d next ≡ bare b u (bare v c (bare d 0 (visit a next)))
+      visit_as h = above ∙ rw (ne_eqb kind 4 n4, eq-eqb kind 5 h)
 
       pub other_b : kind ≡ 5 → (b ≡ 0 → ⊥) → other ≡ content kind a b u v c d next
-      other_b h z = sym (visit-as h ∙ bare_not b u _ (rw (ne_eqb b 0 z)))
+      other_b h z = sym (visit_as h ∙ bare_not b u _ (rw (ne_eqb b 0 z)))
 
       pub other_visit_u : kind ≡ 5 → b ≡ 0 → (u ≡ 0 → ⊥) → other ≡ content kind a b u v c d next
-      other_visit_u h y z = sym (visit-as h ∙ bare_not b u _ (rw (y, ne_eqb u 0 z)))
+      other_visit_u h y z = sym (visit_as h ∙ bare_not b u _ (rw (y, ne_eqb u 0 z)))
 
       pub other_visit_v : kind ≡ 5 → b ≡ 0 → u ≡ 0 → (v ≡ 0 → ⊥) → other ≡ content kind a b u v c d next
-      other_visit_v h y x z = sym (visit-as h ∙ bare_is b u _ y x ∙ bare_not v c _ (rw (ne_eqb v 0 z)))
+      other_visit_v h y x z = sym (visit_as h ∙ bare_is b u _ y x ∙ bare_not v c _ (rw (ne_eqb v 0 z)))
 
       pub other_d : kind ≡ 5 → b ≡ 0 → u ≡ 0 → v ≡ 0 → c ≡ 0 → (d ≡ 0 → ⊥) → other ≡ content kind a b u v c d next
-      other_d h y x w q z = sym (visit-as h ∙ bare_is b u _ y x ∙ bare_is v c _ w q ∙ bare_not d 0 _ (rw (ne_eqb d 0 z)))
+      other_d h y x w q z = sym (visit_as h ∙ bare_is b u _ y x ∙ bare_is v c _ w q ∙ bare_not d 0 _ (rw (ne_eqb d 0 z)))
 
       pub visit_content : kind ≡ 5 → b ≡ 0 → u ≡ 0 → v ≡ 0 → c ≡ 0 → d ≡ 0 → visit a next ≡ content kind a b u v c d next
-      visit_content h y x w q z = sym (visit-as h ∙ bare_is b u _ y x ∙ bare_is v c _ w q ∙ bare_is d 0 _ z refl)
+      visit_content h y x w q z = sym (visit_as h ∙ bare_is b u _ y x ∙ bare_is v c _ w q ∙ bare_is d 0 _ z refl)
 
 -- the numbers read are the record
 pub record_read : (s : List ℕ) (i : ℕ) {kind a b u v c d next : ℕ}

@@ -85,12 +85,12 @@ module _ {n : ℕ} {s : List ℕ} {i first : ℕ} {order : Order} {high index : 
   visit_refused {m} {a} g = record { named = f.named; ends = sym (visited_stops n s f.named high index m a (looks g)) ∙ f.goes; keeps = f.keeps; listed = f.listed }
 
   module _ {v after : ℕ} (g : r ≡ next.Names v after) where
-    names-it : Names n s high index v after
-    names-it = visit_named n s f.named high index v after (looks g)
+    names_it : Names n s high index v after
+    names_it = visit_named n s f.named high index v after (looks g)
 
     -- the records left above the highest entered fall
     pub visit_less : records s - index < records s - high
-    visit_less = omega (arith, names-it.entered)
+    visit_less = omega (arith, names_it.entered)
 
     pub visit_again : {order' : Order} → NamesThen order v order' → Visiting n s i first order' index after
     visit_again t =
@@ -98,7 +98,7 @@ module _ {n : ℕ} {s : List ℕ} {i first : ℕ} {order : Order} {high index : 
           named = f.named ++ v ∷ [];
           goes = sym (visited_goes_on n s f.named high index v after (looks g)) ∙ f.goes;
           keeps = t.names ∙ ap (λ (vs : List ℕ). kept (vs ++ v ∷ [])) f.keeps ∙ kept_then f.named v;
-          listed = t.listed n f.listed names-it.point;
+          listed = t.listed n f.listed names_it.point;
         }
 
 -- the new order: no segment, a refused chain, and what the comparison answers

@@ -195,9 +195,9 @@ module _ {n : ℕ} {out put outrows putrows marks sheet : List ℕ} {count : ℕ
         w ∙ ap (λ (m : ℕ). walk case_rules sheet (opening case_rules m (edge_list k) i point first)) l ∙ sym (close_splits case_rules sheet left (edge_list k) i point first (omega arith)) ∙ closed_as i e
 
   module _ {p q r s : ℕ} (e : closing ≡ ThreeOpt p q r s) where
-    three-opt-over : {table : List ℕ} → length table ≡ edge_count n → ThreeOptAsked n table k p q r s
+    three_opt_over : {table : List ℕ} → length table ≡ edge_count n → ThreeOptAsked n table k p q r s
     unfolding closing_fits
-    three-opt-over whole =
+    three_opt_over whole =
         let h = and_true _ _ (fitting e) in
         let g = and_true _ _ h.1 in
         let f = and_true _ _ g.1 in
@@ -208,23 +208,23 @@ module _ {n : ℕ} {out put outrows putrows marks sheet : List ℕ} {count : ℕ
         }
 
     pub close_three_opt_asked : ThreeOptAsked n out k p q r s × ThreeOptAsked n put k p q r s
-    close_three_opt_asked = let l = asked.tried.admitted.intervals in (three-opt-over l.out_lengths.whole, three-opt-over l.put_lengths.whole)
+    close_three_opt_asked = let l = asked.tried.admitted.intervals in (three_opt_over l.out_lengths.whole, three_opt_over l.put_lengths.whole)
 
     module _ (i : ℕ) {v : ThreeOptOutcome} (z : v ≡ three_opt_outcome (length_of n out) (length_of n put) (edge_list k) p q r s) where
-      outcome-as : {v' : ThreeOptOutcome} → v ≡ v' → refused_by (refusal_of v') i i ≡ close case_rules sheet (walk case_rules sheet) left (edge_list k) i (closing_of closing)
-      outcome-as g = ap (λ (x : ThreeOptOutcome). refused_by (refusal_of x) i i) (sym g ∙ z) ∙ sym (close_three_opts case_rules sheet left (edge_list k) i p q r s) ∙ closed_as i e
+      outcome_as : {v' : ThreeOptOutcome} → v ≡ v' → refused_by (refusal_of v') i i ≡ close case_rules sheet (walk case_rules sheet) left (edge_list k) i (closing_of closing)
+      outcome_as g = ap (λ (x : ThreeOptOutcome). refused_by (refusal_of x) i i) (sym g ∙ z) ∙ sym (close_three_opts case_rules sheet left (edge_list k) i p q r s) ∙ closed_as i e
 
       pub close_closed : v ≡ Closed → accepted i ≡ close case_rules sheet (walk case_rules sheet) left (edge_list k) i (closing_of closing)
       unfolding refusal_of refused_by
-      close_closed g = outcome-as g
+      close_closed g = outcome_as g
 
       pub close_no_moves : v ≡ NoMoves → refused 15 i ≡ close case_rules sheet (walk case_rules sheet) left (edge_list k) i (closing_of closing)
       unfolding refusal_of refused_by
-      close_no_moves g = outcome-as g
+      close_no_moves g = outcome_as g
 
       pub close_no_saving : v ≡ NoSaving → refused 16 i ≡ close case_rules sheet (walk case_rules sheet) left (edge_list k) i (closing_of closing)
       unfolding refusal_of refused_by
-      close_no_saving g = outcome-as g
+      close_no_saving g = outcome_as g
 
   module _ {u v first : ℕ} (e : closing ≡ Reorder u v first) where
     pub close_order_asked : OrderAsked n out put sheet count k u v

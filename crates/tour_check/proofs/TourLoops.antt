@@ -64,22 +64,22 @@ module _ {n : ℕ} {places t : List ℕ} (g : TourAsked n places t) where
   preceding_start is = record { low = omega arith; high = first_there; here = is }
 
   module _ {a i : ℕ} (r : Preceding t a i) where
-    preceding-point : Point n a
-    preceding-point = rw r.here (at_point (i - 1) (omega (arith, r)))
+    preceding_point : Point n a
+    preceding_point = rw r.here (at_point (i - 1) (omega (arith, r)))
 
-    preceding-on : {v : ℕ} → i < length t → v ≡ get_or t i 0 → Preceding t v (i + 1)
-    preceding-on h is = record { low = omega arith; high = omega arith; here = is ∙ ap (λ (j : ℕ). get_or t j 0) (let e : i ≡ i + 1 - 1 = omega arith in e) }
+    preceding_on : {v : ℕ} → i < length t → v ≡ get_or t i 0 → Preceding t v (i + 1)
+    preceding_on h is = record { low = omega arith; high = omega arith; here = is ∙ ap (λ (j : ℕ). get_or t j 0) (let e : i ≡ i + 1 - 1 = omega arith in e) }
 
     pub spans_on : {v : ℕ} → i < length t → v ≡ get_or t i 0 → Spans n places a v
-    spans_on h is = record { first = preceding-point; second = rw is (at_point i h); whole = g.whole }
+    spans_on h is = record { first = preceding_point; second = rw is (at_point i h); whole = g.whole }
 
     pub spans_end : {v : ℕ} → v ≡ get_or t 0 0 → Spans n places a v
-    spans_end is = record { first = preceding-point; second = rw is (at_point 0 first_there); whole = g.whole }
+    spans_end is = record { first = preceding_point; second = rw is (at_point 0 first_there); whole = g.whole }
 
     pub marked_on : {v : ℕ} → i < length t → v ≡ get_or t i 0 → MarkAsked n places a v
     marked_on h is = record {
       is-edge = record {
-        first = preceding-point;
+        first = preceding_point;
         second = rw is (at_point i h);
         apart = λ e. once_apart t (tour_once tour) (i - 1) i (omega (arith, r.low)) h (sym r.here ∙ e ∙ is);
       };
@@ -89,7 +89,7 @@ module _ {n : ℕ} {places t : List ℕ} (g : TourAsked n places t) where
     pub marked_end : {v : ℕ} → length t ≤ i → v ≡ get_or t 0 0 → MarkAsked n places a v
     marked_end h is = record {
       is-edge = record {
-        first = preceding-point;
+        first = preceding_point;
         second = rw is (at_point 0 first_there);
         apart = λ e.
             once_apart t (tour_once tour) 0 (i - 1) (omega (arith, r, tour_size, g.some)) (omega (arith, r, first_there)) (sym is ∙ sym e ∙ r.here);
@@ -122,7 +122,7 @@ module _ {n : ℕ} {table t : List ℕ} {sum a i d : ℕ} (g : TourAsked n table
   pub summing_on : {v : ℕ} → i < length t → v ≡ get_or t i 0 → LengthIs n table a v d → Summing n table t (sum + d) v (i + 1)
   unfolding total
   summing_on h e is = record {
-    preceding = preceding-on g s.preceding h e;
+    preceding = preceding_on g s.preceding h e;
     small = omega (arith, s.small, is.bits);
     summed = omega (arith, s.summed, is.at, ap (total (length_of n table)) (left_on t a i h e));
   }
@@ -148,7 +148,7 @@ module _ {n : ℕ} {marks t : List ℕ} {a i : ℕ} (g : TourAsked n marks t) (o
 
     pub checking_on : {b : Bool} → b ≡ unstruck_in n marks a v → b ≡ true → CheckingOpen n marks t v (i + 1)
     checking_on is e = record {
-      preceding = preceding-on g o.preceding h to;
+      preceding = preceding_on g o.preceding h to;
       opened = and_go (sym is ∙ e) refl ∙ sym edge_on ∙ o.opened;
     }
 

@@ -56,8 +56,8 @@ seeing_start e = record {
 module _ {n : ℕ} {t : List ℕ} {seen : List Bool} {i : ℕ} (s : Seeing n t seen i) where
   module _ {w : ℕ} (few : n ≤ most_points) (h : i < length t) (is : w ≡ get_or t i 0) where
     -- one number more is counted
-    count-taken : (v : ℕ) → count v (take (suc i) t) ≡ count v (take i t) + same w v
-    count-taken v = count-take v t i h ∙ ap (λ (u : ℕ). count v (take i t) + same u v) (sym is)
+    count_taken : (v : ℕ) → count v (take (suc i) t) ≡ count v (take i t) + same w v
+    count_taken v = count-take v t i h ∙ ap (λ (u : ℕ). count v (take i t) + same u v) (sym is)
 
     pub not_point : is_point n w ≡ false → false ≡ is_tour n t
     not_point p = no_tour n t (λ T. true≢false (sym (point_is (T.only w (subst (λ (u : ℕ). 1 ≤ count u t) (sym is) (count_at t i h)))) ∙ p))
@@ -74,12 +74,12 @@ module _ {n : ℕ} {t : List ℕ} {seen : List Bool} {i : ℕ} (s : Seeing n t s
             ltb-true 0 (count w (take i t)) (sym (s.flags w flag_inside) ∙ f),
             tour_once T w,
             count_front w t (suc i),
-            count-taken w,
+            count_taken w,
             same_self w,
           ))
 
       further : (v : ℕ) → count v (take (i + 1) t) ≡ count v (take i t) + same w v
-      further v = ap (λ (j : ℕ). count v (take j t)) (add-one i) ∙ count-taken v
+      further v = ap (λ (j : ℕ). count v (take j t)) (add-one i) ∙ count_taken v
 
       pub seeing_on : get_or seen w false ≡ false → Seeing n t (set seen w true) (i + 1)
       seeing_on f = record {

@@ -166,15 +166,15 @@ module _ {text : List ℕ} {skip : ℕ} {out₀ : List ℕ} {at : ℕ} {p : Part
     rest : List ℕ
     rest = taken_from (place_behind (get_or text i 0) p) (drop (i + 1) text)
 
-    next-split : drop skip (taken_from Between text) ≡ w.done ++ (drop spot.skip (ended_by (get_or text i 0) p) ++ drop (spot.skip - length (ended_by (get_or text i 0) p)) rest)
+    next_split : drop skip (taken_from Between text) ≡ w.done ++ (drop spot.skip (ended_by (get_or text i 0) p) ++ drop (spot.skip - length (ended_by (get_or text i 0) p)) rest)
     unfolding taken_from rest
-    next-split =
+    next_split =
         w.split
         ∙ ap (λ (t : List ℕ). w.done ++ drop spot.skip (taken_from p t)) (drop-cons text i 0 h ∙ ap (λ (k : ℕ). get_or text i 0 ∷ drop k text) (sym (add-one i)))
         ∙ ap (λ (t : List ℕ). w.done ++ t) (drop_both spot.skip (ended_by (get_or text i 0) p) rest)
 
     pub ended_room : RoomFor out₀ at (drop skip (taken_from Between text)) → RoomFor out spot.at (drop spot.skip (ended_by (get_or text i 0) p))
-    ended_room m = next_room (drop spot.skip (ended_by (get_or text i 0) p)) (drop (spot.skip - length (ended_by (get_or text i 0) p)) rest) m next-split w.wrote
+    ended_room m = next_room (drop spot.skip (ended_by (get_or text i 0) p)) (drop (spot.skip - length (ended_by (get_or text i 0) p)) rest) m next_split w.wrote
 
     module _ {spot' : Slot} {out' : List ℕ} (e : WroteTo out spot (ended_by (get_or text i 0) p) spot' out') where
       pub writing_on : {q : Partial} → q ≡ place_behind (get_or text i 0) p → Writing text skip out₀ at q spot' (i + 1) out'
@@ -183,7 +183,7 @@ module _ {text : List ℕ} {skip : ℕ} {out₀ : List ℕ} {at : ℕ} {p : Part
         inside = omega arith;
         done = w.done ++ drop spot.skip (ended_by (get_or text i 0) p);
         split =
-            next-split
+            next_split
             ∙ sym (append_assoc w.done (drop spot.skip (ended_by (get_or text i 0) p)) (drop (spot.skip - length (ended_by (get_or text i 0) p)) rest))
             ∙ ap₂
             (λ (k : ℕ) (x : Partial). (w.done ++ drop spot.skip (ended_by (get_or text i 0) p)) ++ drop k (taken_from x (drop (i + 1) text)))
@@ -228,21 +228,21 @@ module _ {text : List ℕ} {skip : ℕ} {out₀ : List ℕ} {from at : ℕ} {out
     gathering_unfinished e = all_done (ap (gathered skip) (lines_none (drop from text) (last_part f e)))
 
     module _ (h : r ≡ length text → ⊥) where
-      next-lines : gathered skip (lines_of text) ≡ g.done ++ (drop skip (numbers_of (line_of (take (r - from) (drop from text)))) ++ gathered skip (lines_of (drop (r + 1) text)))
+      next_lines : gathered skip (lines_of text) ≡ g.done ++ (drop skip (numbers_of (line_of (take (r - from) (drop from text)))) ++ gathered skip (lines_of (drop (r + 1) text)))
       unfolding gathered
-      next-lines =
+      next_lines =
           g.split
           ∙ ap (λ (t : List ℕ). g.done ++ gathered skip (lines_of t)) (next_line f h)
           ∙ ap (λ (ls : List TextLine). g.done ++ gathered skip ls) (lines_next (take (r - from) (drop from text)) (drop (r + 1) text) f.passed)
 
       pub line_room : RoomFor out₀ 0 (gathered skip (lines_of text)) → RoomFor out at (drop skip (numbers_of (line_of (take (r - from) (drop from text)))))
-      line_room m = next_room (drop skip (numbers_of (line_of (take (r - from) (drop from text))))) (gathered skip (lines_of (drop (r + 1) text))) m next-lines g.wrote
+      line_room m = next_room (drop skip (numbers_of (line_of (take (r - from) (drop from text))))) (gathered skip (lines_of (drop (r + 1) text))) m next_lines g.wrote
 
       pub gathering_on : {at' : ℕ} {out' : List ℕ} → WroteNumbers out at (drop skip (numbers_of (line_of (take (r - from) (drop from text))))) at' out' → Gathering text skip out₀ (r + 1) at' out'
       gathering_on w = record {
         inside = omega (arith, f.high, h);
         done = g.done ++ drop skip (numbers_of (line_of (take (r - from) (drop from text))));
-        split = next-lines ∙ sym (append_assoc g.done (drop skip (numbers_of (line_of (take (r - from) (drop from text))))) (gathered skip (lines_of (drop (r + 1) text))));
+        split = next_lines ∙ sym (append_assoc g.done (drop skip (numbers_of (line_of (take (r - from) (drop from text))))) (gathered skip (lines_of (drop (r + 1) text))));
         wrote = wrote_more g.wrote w;
       }
 

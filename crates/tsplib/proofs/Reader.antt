@@ -132,12 +132,12 @@ pub refused_left : {text table left : List ℕ} {number line : ℕ} → ReadAs t
 unfolding read_as left_as of_measured table_after
 refused_left {text} {table} {left} {number} {line} r = r.table-left ∙ go (judged text) r.answered
   where
-    by-measure : (n : ℕ) (cs : List ℕ) (m : Outcome) (rule : NamedRule) → Refused number line ≡ of_measured n m → left_by m rule n cs table ≡ table
-    by-measure n cs measure.Done rule e = let z : ◌≡◌ {A = ℕ} 0 1 = cc in absurd (omega arith)
-    by-measure n cs (measure.Refused a b) rule e = refl
+    by_measure : (n : ℕ) (cs : List ℕ) (m : Outcome) (rule : NamedRule) → Refused number line ≡ of_measured n m → left_by m rule n cs table ≡ table
+    by_measure n cs measure.Done rule e = let z : ◌≡◌ {A = ℕ} 0 1 = cc in absurd (omega arith)
+    by_measure n cs (measure.Refused a b) rule e = refl
 
     go : (j : JudgedText) → Refused number line ≡ read_as j (lines_of text) (length (whole32 table)) → left_as j (lines_of text) table ≡ table
     go (Fault l) e = refl
     go (Described n (Rule r) m) e =
-        by-measure n (coordinates_of (lines_of text)) (measured n r (coordinates_of (lines_of text)) (length (whole32 table))) (rule_of r) e
+        by_measure n (coordinates_of (lines_of text)) (measured n r (coordinates_of (lines_of text)) (length (whole32 table))) (rule_of r) e
     go (Described n Explicit m) e = ap (λ (x : Read). filled_with x (weights_of (lines_of text)) table) (sym e)

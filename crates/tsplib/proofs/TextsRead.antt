@@ -89,19 +89,19 @@ module _ {text : List ℕ} {n : ℕ} (rule : ℕ) (table : List ℕ) (a : Coordi
       record { answered = sym (ap (of_measured n) d); table-left = rw (table_after, d) }
 
   module _ {cs left : List ℕ} {answer : Outcome} (e : cs ≡ coordinates_of (lines_of text)) (d : MeasuredAs n rule cs table answer left) where
-    measured-read : {x : Read} → x ≡ of_measured n answer → CoordinatesRead text n rule table x left
-    measured-read f = record {
+    measured_read : {x : Read} → x ≡ of_measured n answer → CoordinatesRead text n rule table x left
+    measured_read f = record {
       answered = f ∙ ap (of_measured n) (d.answered ∙ ap (λ (ys : List ℕ). measured n rule ys (length (whole32 table))) e);
       table-left = d.table-left ∙ ap (λ (ys : List ℕ). table_after n rule ys table) e;
     }
 
     pub measured_done : answer ≡ measure.Done → CoordinatesRead text n rule table (Points n) left
     unfolding of_measured
-    measured_done h = measured-read (sym (ap (of_measured n) h))
+    measured_done h = measured_read (sym (ap (of_measured n) h))
 
     pub measured_refused : {number rec : ℕ} → answer ≡ measure.Refused number rec → CoordinatesRead text n rule table (Refused number 0) left
     unfolding of_measured
-    measured_refused h = measured-read (sym (ap (of_measured n) h))
+    measured_refused h = measured_read (sym (ap (of_measured n) h))
 
 -- the buffer of coordinates
 module _ {text : List ℕ} {n : ℕ} (buffer : List ℕ) (a : GatheredAsked text n buffer) where

@@ -89,10 +89,10 @@ module _ (K : List Edge) (c x y : ℕ) (ap : Apart c x y) where
 
   -- with room for the pair no point gets three edges
   pub two_of_room : AtMostTwo K → RoomForPair K c x y → AtMostTwo (with_pair K c x y)
-  two_of_room two r v a b d ha hb hd = by_cases (ℕ_discrete v c) at-c' rest
+  two_of_room two r v a b d ha hb hd = by_cases (ℕ_discrete v c) at_c' rest
     where
-      at-c' : v ≡ c → (a ≡ b) ⊎ ((a ≡ d) ⊎ (b ≡ d))
-      at-c' e = pigeon (neighbour_c r.at_c v a e ha) (neighbour_c r.at_c v b e hb) (neighbour_c r.at_c v d e hd)
+      at_c' : v ≡ c → (a ≡ b) ⊎ ((a ≡ d) ⊎ (b ≡ d))
+      at_c' e = pigeon (neighbour_c r.at_c v a e ha) (neighbour_c r.at_c v b e hb) (neighbour_c r.at_c v d e hd)
 
       beside : (v ≡ c → ⊥) → (Forks K v c → ⊥) → (a ≡ b) ⊎ ((a ≡ d) ⊎ (b ≡ d))
       beside nc nf =

@@ -69,12 +69,12 @@ module _ (K : List Edge) (c x y : ℕ) (two : AtMostTwo (with_pair K c x y)) (pl
       ext : Trail (with_pair K c x y) c y a.w at (from ∷ rest)
       ext = extend (with_pair K c x y) two plain c y (pair_y K c x y) at from a.w rest t (eqb-false at y e) a.has a.new
 
-      c-in : In c (from ∷ rest)
-      c-in = last_in c from rest t.ends
+      c_in : In c (from ∷ rest)
+      c_in = last_in c from rest t.ends
 
       old : Has K at a.w
       old =
-          old_edge K c x y at a.w a.has (λ q. t.distinct.0 (subst (λ (u : ℕ). In u (from ∷ rest)) (sym q) c-in)) (λ q. ext.distinct.0 (inr (subst (λ (u : ℕ). In u (from ∷ rest)) (sym q) c-in)))
+          old_edge K c x y at a.w a.has (λ q. t.distinct.0 (subst (λ (u : ℕ). In u (from ∷ rest)) (sym q) c_in)) (λ q. ext.distinct.0 (inr (subst (λ (u : ℕ). In u (from ∷ rest)) (sym q) c_in)))
 
       go : (m : PathStep) → Onward K at from m → goes_on m (λ v. reaches? f K at v y) ≡ true
       go Stop h = absurd (a.new (h a.w old))
