@@ -101,11 +101,13 @@ pub record Visited : Type 0 where
   pub high : ℕ
 
 -- a chain of points at its next index i, behind the points `order`, whose further points are left to `go`
-unfoldable pub act_visit : (go : (order : List ℕ) (high i : ℕ) → Verdict Visited) (order : List ℕ) (high i : ℕ) → VisitStep → Verdict Visited
+unfoldable pub act_visit : (go : (order : List ℕ) (high i : ℕ) → Verdict Visited) (order : List ℕ) (high i : ℕ) → VisitStep
+    → Verdict Visited
 act_visit go order high i visit_ends = accepted (record { order = order; high = high })
 act_visit go order high i (names v next) = go (order ++ v ∷ []) i next
 
-unfoldable pub visit_on : ℕ → List ℕ → (go : (order : List ℕ) (high i : ℕ) → Verdict Visited) (order : List ℕ) (high i : ℕ) → Verdict Visited
+unfoldable pub visit_on : ℕ → List ℕ → (go : (order : List ℕ) (high i : ℕ) → Verdict Visited) (order : List ℕ) (high i : ℕ)
+    → Verdict Visited
 visit_on n s go order high i = and_then (look_visit n s high i) (act_visit go order high i)
 
 unfoldable pub visit_by : ℕ → List ℕ → (fuel : ℕ) (order : List ℕ) (high i : ℕ) → Verdict Visited

@@ -88,7 +88,8 @@ pub record PartAlone (d n : ℕ) (table set s : List ℕ) (turns : ℕ) (x : See
   pub lines : List Struck
   pub place : Place (List ℕ)
   pub chain : CompleteLines (marking_of n (whole32 table)) (whole16 s) (start (marks_of n set)) lines place
-  pub goes_on : lines_from (marking_of n (whole32 table)) (whole16 s) place ≡ sheet (marking_of n (whole32 table)) (whole16 s) (marks_of n set)
+  pub goes_on : lines_from (marking_of n (whole32 table)) (whole16 s) place
+      ≡ sheet (marking_of n (whole32 table)) (whole16 s) (marks_of n set)
   pub marked : x.set ≡ packed place.marks
   pub counted : lines_at x.state d ≡ turns
   pub all_lines : place.lines ≡ turns

@@ -64,4 +64,5 @@ pub record AnswersInC (𝓜 : Marking (List ℕ)) (s marks : List ℕ) (r : ℕ)
 -- rising, on every set that an argument comes to
 abbrev pub ListsExactly : ℕ → (out put : List ℕ) → (lists : List ℕ → List Edge → ℕ → List Edge) → Type 0
 ListsExactly n out put lists =
-    (m : List ℕ) (K : List Edge) (c : ℕ) → Reached (rules_between n out put m) K → NamesFeasible (rules_between n out put m) K c (lists m K c)
+    (m : List ℕ) (K : List Edge) (c : ℕ) → Reached (rules_between n out put m) K
+    → NamesFeasible (rules_between n out put m) K c (lists m K c)

@@ -42,7 +42,8 @@ pub record ByteSet (n : ℕ) (marks : List ℕ) : Type 0 where
 -- 6 of a packed set is "wrong size, a mark of 3, or an unused bit set"; and each of its numbers is a byte
 unfoldable pub well_packed : ℕ → List ℕ → Bool
 well_packed n set =
-    eqb (length set) (packed_size n) && (all_at_most 255 set && (are_marks (quarters set) && all_at_most 0 (drop (edge_count n) (quarters set))))
+    eqb (length set) (packed_size n)
+    && (all_at_most 255 set && (are_marks (quarters set) && all_at_most 0 (drop (edge_count n) (quarters set))))
 
 -- the marks that a packed set of n points holds, one number an edge; a set that is not well packed holds none,
 -- which is a wrong size

@@ -27,7 +27,8 @@ exchange_saved n table p q x y =
 -- moving c from between x and y to between u and v
 unfoldable pub move_saved : ℕ → List ℕ → (c x y u v : ℕ) → Saved
 move_saved n table c x y u v =
-    saved_tested (tested_table n table) (edge u v ∷ edge x c ∷ edge y c ∷ []) (move_saving (length_of n table) (length_of n table) c x y u v)
+    saved_tested (tested_table n table) (edge u v ∷ edge x c ∷ edge y c ∷ [])
+    (move_saving (length_of n table) (length_of n table) c x y u v)
 
 -- a 3-opt closing by pq with the centres r and s, x and y the other ends of r, z and w those of s
 unfoldable pub three_opt_saved : ℕ → List ℕ → (p q r s x y z w : ℕ) → Saved

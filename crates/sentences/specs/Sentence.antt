@@ -98,7 +98,8 @@ sentence c x y (exchange p q u v saved) =
     field_text exchanging_word p ++ field_text dash q ++ field_text and_word u ++ field_text dash v ++ field_text saves_word saved
     ++ pair_text and_shuts_words c x y
 sentence c x y (move w u v saved) =
-    field_text moving_word w ++ field_text between_word u ++ field_text and_word v ++ field_text saves_word saved ++ pair_text and_shuts_words c x y
+    field_text moving_word w ++ field_text between_word u ++ field_text and_word v ++ field_text saves_word saved
+    ++ pair_text and_shuts_words c x y
 sentence c x y (three_opt p q r s saved) =
     field_text crossing_word p ++ field_text dash q ++ field_text centres_words r ++ field_text and_word s ++ field_text saves_word saved
     ++ pair_text and_settles_words c x y

@@ -54,7 +54,8 @@ go_on stepped.Fault k on = Fault (k + 1)
 -- from a state on, after k lines whose largest number is m
 unfoldable pub judged_from : State → ℕ → ℕ → List TextLine → List ℕ → JudgedText
 judged_from s k m [] rest = judged_end s k m rest
-judged_from s k m (l ∷ ls) rest = go_on (step_of s (told_of l)) k (λ (t : State). judged_from t (k + 1) (max m (maximum_of (told_of l))) ls rest)
+judged_from s k m (l ∷ ls) rest =
+    go_on (step_of s (told_of l)) k (λ (t : State). judged_from t (k + 1) (max m (maximum_of (told_of l))) ls rest)
 
 -- n, how it is weighed and the largest number; or the line at fault
 unfoldable pub judged : List ℕ → JudgedText

@@ -30,4 +30,5 @@ pub record WeightsAsked (text : List ℕ) (n maximum : ℕ) : Type 0 where
 
 pub record WeightsRead (text : List ℕ) (n : ℕ) (table : List ℕ) (answer : Read) (left : List ℕ) : Type 0 where
   pub answered : answer ≡ of_weights n (weights_of (lines_of text)) (length (whole32 table))
-  pub table-left : left ≡ filled_with (of_weights n (weights_of (lines_of text)) (length (whole32 table))) (weights_of (lines_of text)) table
+  pub table-left : left
+      ≡ filled_with (of_weights n (weights_of (lines_of text)) (length (whole32 table))) (weights_of (lines_of text)) table
