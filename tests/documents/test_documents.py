@@ -129,7 +129,7 @@ class Told(unittest.TestCase):
     """Made-up texts: what is not so is told, and nothing else."""
 
     def test_what_is_there(self):
-        for text in ("`three-opt`", "`demand_3`", "`place`", "`Sheet::MOST_RECORDS`", "`refusal::PAGE`", "`revosti_mark_of`", "`REVOSTI_OPEN`",
+        for text in ("`three-opt`", "`demand_3`", "`place`", "`Sheet::MOST_RECORDS`", "`Refusal::Page`", "`revosti_mark_of`", "`REVOSTI_OPEN`",
                      "`mark_of`", "`marking`", "`says_18_unseen`", "`marking/says_18_unseen`", "`lengths/specs/Edge.antt`",
                      "`specs/asks/`", "`bin/mark`", "`target/made.a`", f"`{PROGRAM} mark FILE --high BOARD`", "`marks_of n set`",
                      "`mark_sheet(n, table, marks, sheet)`", "`1 1 3 0 0 2 0 2`", "`points 4 edges 6`", "```\n`no-such`\n```",

@@ -8,7 +8,7 @@ from tests.support import ROOT
 from tests.support.examples import FUNCTIONS, STDOUT, Fault, Run, lines
 
 SIGNATURES = ROOT / "crates/example_text/src/signatures.rt"
-LIST = re.compile(r'let list = b"([^"]*)"')
+LIST = re.compile(r'\(\s*Function::\w+,\s*"([^"]*)",?\s*\)')
 BITS = {"h": 16, "w": 32, "l": 64}  # a letter of the list; the others are buffers
 
 GOOD = "mark_sheet n=4 table=10,14,10,10,14,10 marks=85,5,85/2 sheet=1,1,3,0,0,2,0,0 -> 16777216 marks=81,5,85"
@@ -58,7 +58,7 @@ class Examples(unittest.TestCase):
             self.assertTrue(str(caught.exception).startswith(told), caught.exception)
 
     def test_the_list_of_functions_is_the_header_s(self):
-        listed = [line.split(" ") for line in LIST.search(SIGNATURES.read_text(encoding="utf-8"))[1].splitlines()]
+        listed = [line.split(" ") for line in LIST.findall(SIGNATURES.read_text(encoding="utf-8"))]
         found = {name: [(part[:-2], BITS.get(part[-1], 0)) for part in parts] for name, *parts in listed}
         self.assertEqual(found, FUNCTIONS)
 

@@ -20,8 +20,8 @@ use Rattle.marks.proofs.PackedSets.{whole_well, some_edges}
 use Rattle.admission.specs.Tested.{first_failing, mark_tests, pending_tests}
 use Rattle.admission.specs.Tests.{place_tests, table_tests, interval_tests, tested_table, places_tested, tested, ready, tested_intervals, tested_between, ready_between, until_marks}
 use Rattle.admission.specs.asks.Tests.{Listable}
-use Rattle.admission.specs.declared.tested.Tested.{Tested}
-use Rattle.admission.specs.declared.tested.Tested.TheVariants.{Points}
+use Rattle.std.specs.Prelude.{Result, Ok}
+use Rattle.lengths.specs.declared.refusal.Refusal.{Refusal}
 use Rattle.admission.proofs.Deciding.{all_passed, pass_all, until_passed}
 
 -- test 1 says that n is within the limits
@@ -47,7 +47,7 @@ pub record TablePassed (n : ℕ) (table : List ℕ) (m : ℕ) : Type 0 where
   pub small : all_at_most most_length table ≡ true
   pub same : m ≡ n
 
-pub table_passed : {n : ℕ} {table : List ℕ} {m : ℕ} → tested_table n table ≡ Points m → TablePassed n table m
+pub table_passed : {n : ℕ} {table : List ℕ} {m : ℕ} → tested_table n table ≡ Ok m → TablePassed n table m
 unfolding tested_table
 table_passed {n} {table} h =
     let p = all_passed n (table_tests n table) h in
@@ -61,7 +61,7 @@ table_lengths p = lengths_of (table_admits p) p.whole p.small
 
 -- those of a table and marks
 pub record InstancePassed (n : ℕ) (table marks : List ℕ) (m : ℕ) : Type 0 where
-  pub answer : tested n table marks ≡ Points m
+  pub answer : tested n table marks ≡ Ok m
   pub range : in_range n ≡ true
   pub same : m ≡ n
   pub least : least_points ≤ m
@@ -69,7 +69,7 @@ pub record InstancePassed (n : ℕ) (table marks : List ℕ) (m : ℕ) : Type 0 
   pub marked : length marks ≡ edge_count m
   pub bytes : are_marks marks ≡ true
 
-pub passed : {n : ℕ} {table marks : List ℕ} {m : ℕ} → tested n table marks ≡ Points m → InstancePassed n table marks m
+pub passed : {n : ℕ} {table marks : List ℕ} {m : ℕ} → tested n table marks ≡ Ok m → InstancePassed n table marks m
 unfolding tested
 passed {n} {table} {marks} {m} h =
     let u = until_passed (tested_table n table) (mark_tests marks) h in
@@ -98,7 +98,7 @@ pub record IntervalsPassed (n : ℕ) (low high : List ℕ) (m : ℕ) : Type 0 wh
   pub admits : Admits n (record { points = m })
   pub intervals : Intervals m low high
 
-pub passed_intervals : {n : ℕ} {low high : List ℕ} {m : ℕ} → tested_intervals n low high ≡ Points m → IntervalsPassed n low high m
+pub passed_intervals : {n : ℕ} {low high : List ℕ} {m : ℕ} → tested_intervals n low high ≡ Ok m → IntervalsPassed n low high m
 unfolding tested_intervals
 passed_intervals {n} {low} {high} h =
     let p = all_passed n (interval_tests n low high) h in
@@ -110,7 +110,7 @@ passed_intervals {n} {low} {high} h =
       intervals = intervals_ordered (lengths_of a sizes.0 lengths.0) (lengths_of a sizes.1.0 lengths.1.0) lengths.1.1.0;
     }
 
-pub passed_between : {n : ℕ} {low high marks : List ℕ} {m : ℕ} → tested_between n low high marks ≡ Points m → BetweenPassed n low high marks m
+pub passed_between : {n : ℕ} {low high marks : List ℕ} {m : ℕ} → tested_between n low high marks ≡ Ok m → BetweenPassed n low high marks m
 unfolding tested_between
 passed_between {n} {low} {high} {marks} {m} h =
     let u = until_passed (tested_intervals n low high) (mark_tests marks) h in
@@ -135,24 +135,24 @@ listable_set {n} {out} {put} s {m} p = subst (λ (k : List ℕ). Listable m out 
 pub passed_well : {n : ℕ} {out put : List ℕ} (s : List ℕ) {m : ℕ} → BetweenPassed n out put (marks_of n s) m → well_packed n s ≡ true
 passed_well {n} s p = whole_well n s (p.listable.marked ∙ ap edge_count p.same) (passed_some p)
 
-pub held_same : (n : ℕ) (table s : List ℕ) {m : ℕ} → tested n table (marks_of n s) ≡ Points m → marks_of m s ≡ marks_of n s
+pub held_same : (n : ℕ) (table s : List ℕ) {m : ℕ} → tested n table (marks_of n s) ≡ Ok m → marks_of m s ≡ marks_of n s
 held_same n table s {m} h = let p : InstancePassed n table (marks_of n s) m = passed h in ap (λ (k : ℕ). marks_of k s) p.same
 
-pub passed_set : {n : ℕ} {table : List ℕ} (s : List ℕ) {m : ℕ} → tested n table (marks_of n s) ≡ Points m → InstancePassed n table (marks_of m s) m
+pub passed_set : {n : ℕ} {table : List ℕ} (s : List ℕ) {m : ℕ} → tested n table (marks_of n s) ≡ Ok m → InstancePassed n table (marks_of m s) m
 passed_set {n} {table} s {m} h = subst (λ (k : List ℕ). InstancePassed n table k m) (sym (held_same n table s h)) (passed h)
 
 -- 20 is passed: the tests before it are, and nothing is pending
 pub record Ready (n : ℕ) (table marks : List ℕ) (m : ℕ) : Type 0 where
-  pub tests : tested n table marks ≡ Points m
+  pub tests : tested n table marks ≡ Ok m
   pub none : none_pending marks ≡ true
 
-pub ready_tested : {n : ℕ} {table marks : List ℕ} {m : ℕ} → ready n table marks ≡ Points m → Ready n table marks m
+pub ready_tested : {n : ℕ} {table marks : List ℕ} {m : ℕ} → ready n table marks ≡ Ok m → Ready n table marks m
 unfolding ready
-ready_tested {n} {table} {marks} h = let u = until_passed (tested n table marks) (pending_tests marks) h in record { tests = u.0; none = u.1.0 }
+ready_tested {n} {table} {marks} h = let u = until_passed (tested n table marks) (λ _. pending_tests marks) h in record { tests = u.0; none = u.1.0 }
 
-pub passed_ready : {n : ℕ} {low high marks : List ℕ} {m : ℕ} → ready_between n low high marks ≡ Points m → BetweenPassed n low high marks m
+pub passed_ready : {n : ℕ} {low high marks : List ℕ} {m : ℕ} → ready_between n low high marks ≡ Ok m → BetweenPassed n low high marks m
 unfolding ready_between
-passed_ready {n} {low} {high} {marks} h = passed_between (until_passed (tested_between n low high marks) (pending_tests marks) h).0
+passed_ready {n} {low} {high} {marks} h = passed_between (until_passed (tested_between n low high marks) (λ _. pending_tests marks) h).0
 
 -- 1, 2 and 6, of what is to be read
 pub record PlacesPassed (n size : ℕ) (marks : List ℕ) (m : ℕ) : Type 0 where
@@ -164,10 +164,10 @@ pub record PlacesPassed (n size : ℕ) (marks : List ℕ) (m : ℕ) : Type 0 whe
   pub marked : length marks ≡ edge_count n
   pub are : are_marks marks ≡ true
 
-pub places_admits : {n : ℕ} (size : ℕ) {m : ℕ} → first_failing n (place_tests n size) ≡ Points m → Admits n (record { points = m })
+pub places_admits : {n : ℕ} (size : ℕ) {m : ℕ} → first_failing n (place_tests n size) ≡ Ok m → Admits n (record { points = m })
 places_admits {n} size h = let p = all_passed n (place_tests n size) h in admits_same p.1.0 p.0
 
-pub places : {n size : ℕ} {marks : List ℕ} {m : ℕ} → places_tested n size marks ≡ Points m → PlacesPassed n size marks m
+pub places : {n size : ℕ} {marks : List ℕ} {m : ℕ} → places_tested n size marks ≡ Ok m → PlacesPassed n size marks m
 unfolding places_tested
 places {n} {size} {marks} {m} h =
     let u = until_passed (first_failing n (place_tests n size)) (mark_tests marks) h in
@@ -184,8 +184,8 @@ places {n} {size} {marks} {m} h =
     }
 
 -- and what passes
-pub places_pass : {n size : ℕ} (marks : List ℕ) → in_range n ≡ true → size ≡ edge_count n → length marks ≡ edge_count n → are_marks marks ≡ true → places_tested n size marks ≡ Points n
+pub places_pass : {n size : ℕ} (marks : List ℕ) → in_range n ≡ true → size ≡ edge_count n → length marks ≡ edge_count n → are_marks marks ≡ true → places_tested n size marks ≡ Ok n
 unfolding places_tested
 places_pass {n} {size} marks range whole marked are =
-    ap (λ (t : Tested). until_marks t marks) (pass_all n (place_tests n size) (range, (eq-eqb size (edge_count n) whole, tt)))
+    ap (λ (t : Result ℕ Refusal). until_marks t marks) (pass_all n (place_tests n size) (range, (eq-eqb size (edge_count n) whole, tt)))
     ∙ pass_all n (mark_tests marks n) (eq-eqb (length marks) (edge_count n) marked, (are, tt))

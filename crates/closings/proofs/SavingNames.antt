@@ -7,8 +7,9 @@ use mathlib.Core.Logic.{◌⊎◌, inl, inr, ⊎_elim}
 use native.Mathlib.Omega.{arith}
 use lib.IntN.{ℤ}
 use lib.Signed.{◌≤ℤ◌}
+use Rattle.std.proofs.lemmas.Int.{ints, clamps}
 use Rattle.lengths.specs.Saving.{saving, smaller, larger}
-use Rattle.lengths.proofs.Extremes.{at_most_trans, larger_is, larger_turned, larger_three, smaller_turned}
+use Rattle.lengths.proofs.Extremes.{larger_is, larger_turned, larger_three, smaller_turned}
 use Rattle.closings.specs.Closing.{first_saving, second_saving, label_saving, three_opt_saving}
 
 -- the largest of four savings
@@ -18,18 +19,16 @@ module _ (a b c d : ℤ) where
 
   largest_is : (a ≤ℤ largest) × (b ≤ℤ largest) × (c ≤ℤ largest) × (d ≤ℤ largest)
       × ((largest ≡ a) ⊎ ((largest ≡ b) ⊎ ((largest ≡ c) ⊎ (largest ≡ d))))
-  largest_is =
-      let o = larger_is a (larger b (larger c d)) in
-      let m = larger_is b (larger c d) in
-      let i = larger_is c d in (
-        o.0,
-        at_most_trans m.0 o.1,
-        at_most_trans i.0 (at_most_trans m.1 o.1),
-        at_most_trans i.1 (at_most_trans m.1 o.1),
-        ⊎_elim inl
-            (λ e. inr (⊎_elim (λ f. inl (e ∙ f)) (λ f. inr (⊎_elim (λ g. inl (e ∙ f ∙ g)) (λ g. inr (e ∙ f ∙ g)) i.2)) m.2))
-            o.2,
-      )
+  largest_is = (
+    omega (arith, ints, clamps),
+    omega (arith, ints, clamps),
+    omega (arith, ints, clamps),
+    omega (arith, ints, clamps),
+    ⊎_elim inl
+        (λ e. inr (⊎_elim (λ f. inl (e ∙ f)) (λ f. inr (⊎_elim (λ g. inl (e ∙ f ∙ g)) (λ g. inr (e ∙ f ∙ g)) (larger_is c d).2))
+        (larger_is b (larger c d)).2))
+        (larger_is a (larger b (larger c d))).2,
+  )
 
   -- in other orders
   pairs_turned : larger b (larger a (larger d c)) ≡ largest
@@ -82,7 +81,7 @@ module _ (out put : ℕ → ℕ → ℕ) (p q r s : ℕ) where
 
   module _ (out-turned : (a b : ℕ) → out a b ≡ out b a) (put-turned : (a b : ℕ) → put a b ≡ put b a) where
     -- p and q: the first move by one naming is the second by the other
-    first_edge : (x w : ℕ) → first_saving out put q p r s x w ≡ second_saving out put p q r s x w
+    pub first_edge : (x w : ℕ) → first_saving out put q p r s x w ≡ second_saving out put p q r s x w
     unfolding first_saving second_saving
     first_edge x w =
         same_saving (out q p + out r x + out s w) (out p q + out r x + out s w) (put r s + put q x + put p w) (put r s + put p w + put q x)

@@ -1,20 +1,24 @@
 -- The savings of a 3-opt closing, as 01's inequalities: a labelling saves exactly when both moves shorten, and the best
 -- of the four saves exactly when one does. Assumes nothing.
 use Prim.Native.Nat.{ℕ, ◌+◌, ◌^◌, ◌<◌}
-use mathlib.Core.Path.{◌≡◌, refl, sym, ◌∙◌, ap, ap₂}
-use mathlib.Core.Bool.{Bool, true, false, ◌&&◌, ◌||◌}
+use mathlib.Core.Path.{◌≡◌, sym, ◌∙◌, ap, ap₂}
+use mathlib.Core.Bool.{Bool, ◌&&◌, ◌||◌}
 use mathlib.Core.Logic.{◌↔◌}
+use mathlib.Core.List.{List}
 use lib.Dec.{ltb}
-use lib.IntN.{ℤ, pos, sub_ℕ}
+use lib.IntN.{ℤ, pos}
 use lib.Signed.{mag, lt_z}
 use mir.Syntax.{w64}
 use mir.Val.{to_z, of_z}
 use borrow.Author.Tests.{ltb-true, lt-ltb}
-use Rattle.lengths.specs.Saving.{saving, gains?, smaller, larger}
-use Rattle.lists.proofs.Bools.{and_left, and_right, and_both, and_stop, and_go}
+use Rattle.lengths.specs.Saving.{gains?}
+use Rattle.lists.proofs.Bools.{and_left, and_right, and_both}
 use Rattle.lengths.proofs.SignedSavings.{kept}
 use Rattle.lengths.proofs.Savings.{gains_above, gains_iff, gains_smaller, gains_larger}
 use Rattle.closings.specs.Closing.{first_saving, second_saving, label_saving, three_opt_saving, Saves}
+use Rattle.lengths.specs.Table.{length_of}
+use Rattle.lengths.proofs.Tables.{length_symmetric}
+use Rattle.closings.proofs.SavingNames.{first_edge}
 use Rattle.closings.specs.ClosingTest.{saves?, labelling?}
 
 module _ (out put : ℕ → ℕ → ℕ) (p q r s x y z w : ℕ) where
@@ -42,44 +46,6 @@ module _ (out put : ℕ → ℕ → ℕ) (p q r s x y z w : ℕ) where
     λ h. label_tests ∙ and_both first second (lt-ltb _ _ h.0) (lt-ltb _ _ h.1),
   )
 
--- as the code makes them of sums
-pub first_made : (out put : ℕ → ℕ → ℕ) (p q r s x w : ℕ) {a b : ℕ} {f : ℤ}
-    → a ≡ out p q + out r x + out s w
-    → b ≡ put r s + put p x + put q w
-    → f ≡ saving a b
-    → f ≡ first_saving out put p q r s x w
-unfolding first_saving
-first_made out put p q r s x w ea eb ef = ef ∙ ap₂ (λ (u v : ℕ). saving u v) ea eb
-
-pub second_made : (out put : ℕ → ℕ → ℕ) (p q r s y z : ℕ) {a b : ℕ} {f : ℤ}
-    → a ≡ out p q + out r y + out s z
-    → b ≡ put r s + put p z + put q y
-    → f ≡ saving a b
-    → f ≡ second_saving out put p q r s y z
-unfolding second_saving
-second_made out put p q r s y z ea eb ef = ef ∙ ap₂ (λ (u v : ℕ). saving u v) ea eb
-
-pub label_made : (out put : ℕ → ℕ → ℕ) (p q r s x y z w : ℕ) {f g h : ℤ}
-    → f ≡ first_saving out put p q r s x w
-    → g ≡ second_saving out put p q r s y z
-    → h ≡ smaller f g
-    → h ≡ label_saving out put p q r s x y z w
-unfolding label_saving
-label_made out put p q r s x y z w ef eg eh = eh ∙ ap₂ smaller ef eg
-
--- and the best of four labellings
-pub three_opt_made : (out put : ℕ → ℕ → ℕ) (p q r s x y z w : ℕ) {a b c d e f g : ℤ}
-    → a ≡ label_saving out put p q r s x y z w
-    → b ≡ label_saving out put p q r s x y w z
-    → c ≡ label_saving out put p q r s y x z w
-    → d ≡ label_saving out put p q r s y x w z
-    → e ≡ larger c d
-    → f ≡ larger b e
-    → g ≡ larger a f
-    → g ≡ three_opt_saving out put p q r s x y z w
-unfolding three_opt_saving
-three_opt_made out put p q r s x y z w ea eb ec ed ee ef eg = eg ∙ ap₂ larger ea (ef ∙ ap₂ larger eb (ee ∙ ap₂ larger ec ed))
-
 -- these are the code's tests
 module _ (out put : ℕ → ℕ → ℕ) (p q r s x y z w : ℕ) where
   pub label_test : gains? (label_saving out put p q r s x y z w) ≡ saves? out put p q r s x y z w
@@ -87,22 +53,18 @@ module _ (out put : ℕ → ℕ → ℕ) (p q r s x y z w : ℕ) where
   label_test = label_tests out put p q r s x y z w
 
   -- as the code takes them one after the other
-  pub both_test : {f g : ℤ} → f ≡ first_saving out put p q r s x w → gains? f ≡ true → g ≡ second_saving out put p q r s y z → gains? g ≡ saves? out put p q r s x y z w
+  pub saves_law : saves? out put p q r s x y z w ≡ gains? (first_saving out put p q r s x w) && gains? (second_saving out put p q r s y z)
   unfolding saves?
-  both_test ef h eg = and_go (sym (first_test out put p q r s x y z w) ∙ sym (ap gains? ef) ∙ h) (ap gains? eg ∙ second_test out put p q r s x y z w)
+  saves_law = ap₂ (λ (a b : Bool). a && b) (sym (first_test out put p q r s x y z w)) (sym (second_test out put p q r s x y z w))
 
-  pub first_fails : {f : ℤ} → f ≡ first_saving out put p q r s x w → gains? f ≡ false → false ≡ saves? out put p q r s x y z w
-  unfolding saves?
-  first_fails ef h = and_stop _ (sym (first_test out put p q r s x y z w) ∙ sym (ap gains? ef) ∙ h)
+-- as the code tests a saving
+pub above_gains : (r : ℤ) → mag r < 2 ^ 63 → lt_z (pos 0) (to_z w64 (of_z w64 r)) ≡ gains? r
+above_gains r h = gains_above _ ∙ ap gains? (kept h)
 
--- as the code tests a saving that it made of two sums
-pub made_tested : (a b : ℕ) → mag (sub_ℕ a b) < 2 ^ 63 → lt_z (pos 0) (to_z w64 (of_z w64 (sub_ℕ a b))) ≡ ltb b a
-made_tested a b h = gains_above _ ∙ ap gains? (kept h) ∙ gains_iff a b
-
-pub both_sums : (out put : ℕ → ℕ → ℕ) (p q r s x y z w : ℕ)
-    → saves? out put p q r s x y z w ≡ ltb (put r s + put p x + put q w) (out p q + out r x + out s w) && ltb (put r s + put p z + put q y) (out p q + out r y + out s z)
-unfolding saves?
-both_sums out put p q r s x y z w = refl
+-- the second move is the first by other names, since lengths are symmetric
+pub second_is : (n : ℕ) (out put : List ℕ) (p q r s y z : ℕ)
+    → first_saving (length_of n out) (length_of n put) q p r s y z ≡ second_saving (length_of n out) (length_of n put) p q r s y z
+second_is n out put p q r s y z = first_edge (length_of n out) (length_of n put) p q r s (length_symmetric n out) (length_symmetric n put) y z
 
 -- the best of four labellings is above 0 exactly when one saves
 pub three_opt_test : (out put : ℕ → ℕ → ℕ) (p q r s x y z w : ℕ) → gains? (three_opt_saving out put p q r s x y z w) ≡ labelling? out put p q r s x y z w

@@ -1,32 +1,23 @@
 // The 3-opt closing (01, "Arguments"): its conditions, and the labelling that saves on both moves. What is
-// taken out is measured by the table `out`, what is put in by the table `put`.
+// taken out is measured by the one table, what is put in by the other.
 ghost use Rattle.std.specs.Prelude.{◌≡◌};
 ghost use Rattle.endian.specs.Bytes.{whole32};
-ghost use Rattle.lengths.specs.Table.{length_in};
+ghost use Rattle.lengths.specs.TwoTables.{taken_out, put_in};
 ghost use Rattle.closings.specs.ClosingTest.{centres_apart?, placed?, saves?, labelling?, three_opt_outcome};
-ghost use Rattle.closings.specs.asks.ClosingTest.{Labelled, ThreeOptAsked, pick};
-ghost use Rattle.sets.specs.asks.Stored.{edge_list, Stored};
+ghost use Rattle.closings.specs.asks.ClosingTest.{Labelled, ThreeOptAsked};
+ghost use Rattle.sets.specs.asks.Stored.{edge_list};
 
-use lengths::saving::saving;
-use lengths::sums::length_of_three;
+use crate::saving::first_saving;
+use lengths::refusal::Refusal;
+use lengths::two_tables::Tables;
 use sets::edge_set::EdgeSet;
-use sets::neighbours::{Ends, ends_of};
+use sets::neighbours::ends_of;
 
-// What a 3-opt closing comes to. 01's refusals: NoMoves is 15, NoSaving is 16, and Closed is none.
-#[derive(Drop)]
-pub enum ThreeOptOutcome {
-    Closed,
-    NoMoves,
-    NoSaving,
-}
-
-// Do both moves save by this labelling, rs, px, qw for pq, rx, sw, and rs, pz, qy for pq, ry, sz? The second is looked
-// at where the first does.
-#[tactic(auto, using(crate::proofs::Savings::made_tested, crate::proofs::Savings::both_sums))]
+// Do both moves save by this labelling? The second, which is the first by other names, is looked at where the first
+// does.
+#[tactic(auto, using(crate::proofs::Savings::above_gains, crate::proofs::Savings::second_is, crate::proofs::Savings::saves_law))]
 fn both_moves_save(
-    n: u16,
-    out: &[u8],
-    put: &[u8],
+    tables: Tables,
     p: u16,
     q: u16,
     r: u16,
@@ -36,32 +27,16 @@ fn both_moves_save(
     z: u16,
     w: u16,
 ) -> bool
-    requires { Labelled n (whole32 out.now) p q r s x y z w × Labelled n (whole32 put.now) p q r s x y z w }
-    ensures { result ≡ saves? (length_in n out.now) (length_in n put.now) p q r s x y z w }
+    requires { Labelled tables.n (whole32 tables.out.now) p q r s x y z w × Labelled tables.n (whole32 tables.put.now) p q r s x y z w }
+    ensures { result ≡ saves? (taken_out tables.entry) (put_in tables.entry) p q r s x y z w }
 {
-    let old = length_of_three(n, out, p, q, r, x, s, w);
-    if saving(old, length_of_three(n, put, r, s, p, x, q, w)) > 0 {
-        let old = length_of_three(n, out, p, q, r, y, s, z);
-        return saving(old, length_of_three(n, put, r, s, p, z, q, y)) > 0;
-    }
-    false
+    first_saving(tables, p, q, r, s, x, w) > 0 && first_saving(tables, q, p, r, s, y, z) > 0
 }
 
-// The end that is named first: a, or b where the two are swapped (swap is 1, and 0 where not).
-fn end_by(swap: u8, a: u16, b: u16) -> u16
-    ensures { result ≡ pick swap a b }
-{
-    if swap == 0 {
-        return a;
-    }
-    b
-}
-
-// Do both moves save by some labelling: x and y swapped or not (i), z and w swapped or not (j)?
+// Do both moves save by some labelling: x and y swapped or not, z and w swapped or not?
+#[tactic(auto, using(crate::proofs::ClosingTests::labelling_law))]
 fn some_labelling_saves(
-    n: u16,
-    out: &[u8],
-    put: &[u8],
+    tables: Tables,
     p: u16,
     q: u16,
     r: u16,
@@ -71,93 +46,49 @@ fn some_labelling_saves(
     z: u16,
     w: u16,
 ) -> bool
-    requires { Labelled n (whole32 out.now) p q r s x y z w × Labelled n (whole32 put.now) p q r s x y z w }
-    ensures { result ≡ labelling? (length_in n out.now) (length_in n put.now) p q r s x y z w }
+    requires { Labelled tables.n (whole32 tables.out.now) p q r s x y z w × Labelled tables.n (whole32 tables.put.now) p q r s x y z w }
+    ensures { result ≡ labelling? (taken_out tables.entry) (put_in tables.entry) p q r s x y z w }
 {
-    let mut saves = false;
-    'swaps: for i in 0..2u8 {
-        let a = end_by(i, x, y);
-        let b = end_by(i, y, x);
-        for j in 0..2u8 {
-            if both_moves_save(
-                n,
-                out,
-                put,
-                p,
-                q,
-                r,
-                s,
-                a,
-                b,
-                end_by(j, z, w),
-                end_by(j, w, z),
-            ) {
-                saves = true;
-                break 'swaps;
-            }
-        }
-    }
-    saves
+    both_moves_save(tables, p, q, r, s, x, y, z, w)
+        || both_moves_save(tables, p, q, r, s, x, y, w, z)
+        || both_moves_save(tables, p, q, r, s, y, x, z, w)
+        || both_moves_save(tables, p, q, r, s, y, x, w, z)
 }
 
 // Are r and s different, and neither of them p or q?
 fn centres_apart(p: u16, q: u16, r: u16, s: u16) -> bool
     ensures { result ≡ centres_apart? p q r s }
 {
-    if r == s {
-        return false;
-    }
-    if r == p {
-        return false;
-    }
-    if r == q {
-        return false;
-    }
-    if s == p {
-        return false;
-    }
-    s != q
+    r != s && r != p && r != q && s != p && s != q
 }
 
 // Is pq an edge of k and rs none, with the centres r and s apart from each other and from pq?
 fn well_placed(k: EdgeSet, p: u16, q: u16, r: u16, s: u16) -> bool
-    requires { Stored k }
     ensures { result ≡ placed? (edge_list k) p q r s }
 {
-    if !k.has(p, q) {
-        return false;
-    }
-    if !centres_apart(p, q, r, s) {
-        return false;
-    }
-    !k.has(r, s)
+    k.has(p, q) && centres_apart(p, q, r, s) && !k.has(r, s)
 }
 
-// Does the 3-opt closing with the edge pq and the centres r and s close k?
+// Does the 3-opt closing with the edge pq and the centres r and s close k? It does not where these are no 3-opt
+// closing's, and where no labelling saves.
 pub fn close_by_three_opt(
-    n: u16,
-    out: &[u8],
-    put: &[u8],
+    tables: Tables,
     k: EdgeSet,
     p: u16,
     q: u16,
     r: u16,
     s: u16,
-) -> ThreeOptOutcome
-    requires { ThreeOptAsked n (whole32 out.now) k p q r s × ThreeOptAsked n (whole32 put.now) k p q r s }
-    ensures { result ≡ three_opt_outcome (length_in n out.now) (length_in n put.now) (edge_list k) p q r s }
+) -> Result<(), Refusal>
+    requires { ThreeOptAsked tables.n (whole32 tables.out.now) k p q r s × ThreeOptAsked tables.n (whole32 tables.put.now) k p q r s }
+    ensures { result ≡ three_opt_outcome (taken_out tables.entry) (put_in tables.entry) (edge_list k) p q r s }
 {
     if !well_placed(k, p, q, r, s) {
-        return ThreeOptOutcome::NoMoves;
+        return Err(Refusal::Crossing);
     }
-    let Ends::Two(x, y) = ends_of(k, r) else {
-        return ThreeOptOutcome::NoMoves;
-    };
-    let Ends::Two(z, w) = ends_of(k, s) else {
-        return ThreeOptOutcome::NoMoves;
-    };
-    if some_labelling_saves(n, out, put, p, q, r, s, x, y, z, w) {
-        return ThreeOptOutcome::Closed;
+    let (x, y) = ends_of(k, r).ok_or(Refusal::Crossing)?;
+    let (z, w) = ends_of(k, s).ok_or(Refusal::Crossing)?;
+    if !some_labelling_saves(tables, p, q, r, s, x, y, z, w) {
+        return Err(Refusal::Saving);
     }
-    ThreeOptOutcome::NoSaving
+    Ok(())
 }

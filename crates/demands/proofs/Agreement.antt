@@ -6,6 +6,10 @@ use mathlib.Core.Bool.{Bool, true, false, false≢true}
 use mathlib.Core.List.{List, [], ◌∷◌, map}
 use lib.Dec.{eqb}
 use lib.ListN.{length}
+use Rattle.std.specs.Prelude.{Result, Ok, Err}
+use Rattle.lengths.specs.declared.refusal.Refusal.{Refusal}
+use Rattle.lengths.specs.declared.refusal.Refusal.TheVariants as refusal
+use Rattle.lengths.specs.Refusal.{refuse}
 use Rattle.endian.specs.Bytes.{whole16, whole32}
 use Rattle.lengths.specs.Edge.{edge_count}
 use Rattle.lengths.specs.Instance.{in_range, most_length}
@@ -18,9 +22,7 @@ use Rattle.marking.specs.MarkBetween.{mark_between, mark_between_packed}
 use Rattle.marking.specs.ListBetween.{listed_between}
 use Rattle.marking.specs.Listing.{list_tested, listed, list_left_of}
 use Rattle.marking.specs.Mark.{mark_tested, mark_by, mark_sheet, repack, mark_packed_by, mark_packed}
-use Rattle.marking.specs.declared.listing.Listed.{Listed}
-use Rattle.admission.specs.declared.tested.Tested.{Tested}
-use Rattle.admission.specs.declared.tested.Tested.TheVariants.{Points, Refused}
+use Rattle.lengths.specs.declared.refusal.Refused.{Refused}
 use Rattle.revosti.specs.Between.{mark_between_in_c}
 use Rattle.revosti.specs.Mark.{mark_in_c}
 use Rattle.demands.specs.Run.{Call, marking, marking-between, one_table, steps_of, run}
@@ -32,8 +34,8 @@ module _ (n : ℕ) (table marks : List ℕ) where
   intervals_agree = by (in_range n) (eqb (length table) (edge_count n)) (all_at_most most_length table) (each_at_most table table) (order_same table)
     where
       by : (a b c d : Bool) → d ≡ true →
-          unless a (Refused 1) (unless b (Refused 2) (unless b (Refused 2) (unless c (Refused 5) (unless c (Refused 5) (unless d (Refused 25) (Points n))))))
-          ≡ unless a (Refused 1) (unless b (Refused 2) (unless c (Refused 5) (Points n)))
+          unless a (Err refusal.Points) (unless b (Err refusal.Size) (unless b (Err refusal.Size) (unless c (Err refusal.Length) (unless c (Err refusal.Length) (unless d (Err refusal.Limits) (Ok n))))))
+          ≡ unless a (Err refusal.Points) (unless b (Err refusal.Size) (unless c (Err refusal.Length) (Ok n)))
       by false b c d e = refl
       by true false c d e = refl
       by true true false d e = refl
@@ -42,26 +44,26 @@ module _ (n : ℕ) (table marks : List ℕ) where
 
   pub tested_agrees : tested_between n table table marks ≡ tested n table marks
   unfolding tested_between tested
-  tested_agrees = ap (λ (t : Tested). until_marks t marks) intervals_agree
+  tested_agrees = ap (λ (t : Result ℕ Refusal). until_marks t marks) intervals_agree
 
   pub ready_agrees : ready_between n table table marks ≡ ready n table marks
   unfolding ready_between ready
-  ready_agrees = ap (λ (t : Tested). until_pending t marks) tested_agrees
+  ready_agrees = ap (λ (t : Result ℕ Refusal). until_pending t marks) tested_agrees
 
   -- MARKING: the verdict, the lines and the marks left. Behind the same tests it is the same sheet under the same
   -- rules.
   pub mark_agrees : (s : List ℕ) → mark_between n table table marks s ≡ mark_sheet n table marks s
   unfolding mark_between mark_by
-  mark_agrees s = ap (λ (t : Tested). mark_tested struck_mark t table table marks s) ready_agrees
+  mark_agrees s = ap (λ (t : Result ℕ Refusal). mark_tested struck_mark t table table marks s) ready_agrees
 
   -- LISTING PAIRS: the answer, and the list's bytes
   pub list_agrees : (a b c size : ℕ) → listed_between n table table marks a b c size ≡ listed n table marks a b c size
   unfolding listed_between listed
-  list_agrees a b c size = ap (λ (t : Tested). list_tested t table table marks a b c size) tested_agrees
+  list_agrees a b c size = ap (λ (t : Result ℕ Refusal). list_tested t table table marks a b c size) tested_agrees
 
   pub list_left_agrees : (a b c size : ℕ) (list : List ℕ) →
       list_left_of (listed_between n table table marks a b c size) n table table marks a b c list ≡ list_left_of (listed n table marks a b c size) n table table marks a b c list
-  list_left_agrees a b c size list = ap (λ (l : Listed). list_left_of l n table table marks a b c list) (list_agrees a b c size)
+  list_left_agrees a b c size list = ap (λ (l : Result ℕ Refused). list_left_of l n table table marks a b c list) (list_agrees a b c size)
 
 -- MARKING of packed sets; listing is about the marks that a set holds, which `list_agrees` says of any
 pub mark_packed_agrees : (n : ℕ) (table set s : List ℕ) → mark_between_packed n table table set s ≡ mark_packed n table set s

@@ -3,7 +3,7 @@
 -- no line is read, and the set of marks is left byte for byte. The tests begin with 1 and 2, and a table of n(n - 1)/2
 -- lengths has not m(m - 1)/2, which tells m. Over two tables 2 comes before 25 too, and it is enough that one of them
 -- is of n points. Assumes nothing.
-use Prim.Native.Nat.{ℕ, ◌≤◌}
+use Prim.Native.Nat.{ℕ, ◌+◌, ◌*◌, ◌≤◌}
 use mathlib.Core.Path.{◌≡◌, refl, sym, ◌∙◌, ap}
 use mathlib.Core.Bool.{Bool, true, false, cond}
 use mathlib.Core.Logic.{◌⊎◌, inl, inr}
@@ -12,6 +12,10 @@ use native.Mathlib.Omega.{arith}
 use lib.Dec.{eqb}
 use lib.ListN.{length}
 use borrow.Author.Tests.{ne_eqb}
+use Rattle.std.specs.Prelude.{Result as Outcome, Ok, Err}
+use Rattle.lengths.specs.Refusal.{refusal_number}
+use Rattle.lengths.specs.declared.refusal.Refusal.{Refusal}
+use Rattle.lengths.specs.declared.refusal.Refusal.TheVariants as refusal
 use Rattle.endian.specs.Bytes.{whole32}
 use Rattle.lengths.specs.Edge.{edge_count}
 use Rattle.lengths.specs.Instance.{least_points, in_range, most_length}
@@ -22,8 +26,6 @@ use Rattle.marks.proofs.PackedSets.{repacked_same}
 use Rattle.argument.specs.Sheet.{Result}
 use Rattle.marking.specs.Mark.{turned_down, mark_tested, mark_by, repack, mark_packed_by}
 use Rattle.admission.specs.Tests.{tested_table, tested, until_pending, ready, tested_intervals, until_marks, tested_between, ready_between}
-use Rattle.admission.specs.declared.tested.Tested.{Tested}
-use Rattle.admission.specs.declared.tested.Tested.TheVariants.{Points, Refused}
 use Rattle.admission.proofs.Passed.{range_admits}
 use Rattle.marking.specs.MarkBetween.{mark_between, mark_between_packed}
 use Rattle.revosti.specs.Between.{MarkedBetweenInC}
@@ -38,46 +40,46 @@ module _ (n m : ℕ) (some : least_points ≤ n) (other : m ≡ n → ⊥) where
       (λ e. other (edge_count_injective m n (omega (arith, (range_admits m h).least)) (omega arith) (sym e ∙ whole)))
 
   -- the tests of a table, and so those that all operations share
-  table_another : (table : List ℕ) → length table ≡ edge_count n → tested_table m table ≡ Refused (cond (in_range m) 2 1)
+  table_another : (table : List ℕ) → length table ≡ edge_count n → tested_table m table ≡ Err (cond (in_range m) refusal.Size refusal.Points)
   unfolding tested_table
   table_another table whole = by (in_range m) refl
     where
-      rest : Tested
-      rest = unless (all_at_most most_length table) (Refused 5) (Points m)
+      rest : Outcome ℕ Refusal
+      rest = unless (all_at_most most_length table) (Err refusal.Length) (Ok m)
 
       by : (t : Bool) → in_range m ≡ t
-          → unless t (Refused 1) (unless (eqb (length table) (edge_count m)) (Refused 2) rest) ≡ Refused (cond t 2 1)
+          → unless t (Err refusal.Points) (unless (eqb (length table) (edge_count m)) (Err refusal.Size) rest) ≡ Err (cond t refusal.Size refusal.Points)
       by false e = refl
-      by true e = ap (λ (b : Bool). unless b (Refused 2) rest) (other_size table whole e)
+      by true e = ap (λ (b : Bool). unless b (Err refusal.Size) rest) (other_size table whole e)
 
-  pub tested_another : (table marks : List ℕ) → length table ≡ edge_count n → tested m table marks ≡ Refused (cond (in_range m) 2 1)
+  pub tested_another : (table marks : List ℕ) → length table ≡ edge_count n → tested m table marks ≡ Err (cond (in_range m) refusal.Size refusal.Points)
   unfolding tested
-  tested_another table marks whole = ap (λ (t : Tested). until_marks t marks) (table_another table whole)
+  tested_another table marks whole = ap (λ (t : Outcome ℕ Refusal). until_marks t marks) (table_another table whole)
 
   -- marking and asking, over a packed set
   pub mark_another : (mark : ℕ) (table set s : List ℕ) → length table ≡ edge_count n
-      → mark_packed_by mark m table set s ≡ turned_down (cond (in_range m) 2 1) set
+      → mark_packed_by mark m table set s ≡ turned_down (cond (in_range m) refusal.Size refusal.Points) set
   unfolding mark_packed_by mark_by ready
   mark_another mark table set s whole =
-      ap (λ (t : Tested). repack m set (mark_tested mark (until_pending t (marks_of m set)) table table (marks_of m set) s))
+      ap (λ (t : Outcome ℕ Refusal). repack m set (mark_tested mark (until_pending t (marks_of m set)) table table (marks_of m set) s))
       (tested_another table (marks_of m set) whole)
-      ∙ ap (turned_down (cond (in_range m) 2 1)) (repacked_same m set)
+      ∙ ap (turned_down (cond (in_range m) refusal.Size refusal.Points)) (repacked_same m set)
 
   -- over low and high
   intervals_another : (low high : List ℕ) → (length low ≡ edge_count n) ⊎ (length high ≡ edge_count n)
-      → tested_intervals m low high ≡ Refused (cond (in_range m) 2 1)
+      → tested_intervals m low high ≡ Err (cond (in_range m) refusal.Size refusal.Points)
   unfolding tested_intervals
   intervals_another low high whole = by (in_range m) refl
     where
-      rest : Tested
+      rest : Outcome ℕ Refusal
       rest =
-          unless (all_at_most most_length low) (Refused 5)
-          (unless (all_at_most most_length high) (Refused 5) (unless (each_at_most low high) (Refused 25) (Points m)))
+          unless (all_at_most most_length low) (Err refusal.Length)
+          (unless (all_at_most most_length high) (Err refusal.Length) (unless (each_at_most low high) (Err refusal.Limits) (Ok m)))
 
-      one : (s t : Bool) → (s ≡ false) ⊎ (t ≡ false) → unless s (Refused 2) (unless t (Refused 2) rest) ≡ Refused 2
+      one : (s t : Bool) → (s ≡ false) ⊎ (t ≡ false) → unless s (Err refusal.Size) (unless t (Err refusal.Size) rest) ≡ Err refusal.Size
       one false t w = refl
-      one true t (inl w) = ap (λ (b : Bool). unless b (Refused 2) (unless t (Refused 2) rest)) w
-      one true t (inr w) = ap (λ (b : Bool). unless b (Refused 2) rest) w
+      one true t (inl w) = ap (λ (b : Bool). unless b (Err refusal.Size) (unless t (Err refusal.Size) rest)) w
+      one true t (inr w) = ap (λ (b : Bool). unless b (Err refusal.Size) rest) w
 
       wrong : in_range m ≡ true → (length low ≡ edge_count n) ⊎ (length high ≡ edge_count n)
           → (eqb (length low) (edge_count m) ≡ false) ⊎ (eqb (length high) (edge_count m) ≡ false)
@@ -85,36 +87,40 @@ module _ (n m : ℕ) (some : least_points ≤ n) (other : m ≡ n → ⊥) where
       wrong e (inr w) = inr (other_size high w e)
 
       by : (t : Bool) → in_range m ≡ t
-          → unless t (Refused 1)
-          (unless (eqb (length low) (edge_count m)) (Refused 2) (unless (eqb (length high) (edge_count m)) (Refused 2) rest))
-          ≡ Refused (cond t 2 1)
+          → unless t (Err refusal.Points)
+          (unless (eqb (length low) (edge_count m)) (Err refusal.Size) (unless (eqb (length high) (edge_count m)) (Err refusal.Size) rest))
+          ≡ Err (cond t refusal.Size refusal.Points)
       by false e = refl
       by true e = one (eqb (length low) (edge_count m)) (eqb (length high) (edge_count m)) (wrong e whole)
 
   pub mark_between_another : (low high set s : List ℕ) → (length low ≡ edge_count n) ⊎ (length high ≡ edge_count n)
-      → mark_between_packed m low high set s ≡ turned_down (cond (in_range m) 2 1) set
+      → mark_between_packed m low high set s ≡ turned_down (cond (in_range m) refusal.Size refusal.Points) set
   unfolding mark_between_packed mark_between ready_between tested_between
   mark_between_another low high set s whole =
       let held = marks_of m set in
-      ap (λ (t : Tested). repack m set (mark_tested struck_mark (until_pending (until_marks t held) held) low high held s))
+      ap (λ (t : Outcome ℕ Refusal). repack m set (mark_tested struck_mark (until_pending (until_marks t held) held) low high held s))
       (intervals_another low high whole)
-      ∙ ap (turned_down (cond (in_range m) 2 1)) (repacked_same m set)
+      ∙ ap (turned_down (cond (in_range m) refusal.Size refusal.Points)) (repacked_same m set)
 
   -- IN C: the answer is the refusal number alone, and the packed set is as it was
-  turned-number : (k : ℕ) (set : List ℕ) → result_number (turned_down k set) ≡ k
-  unfolding result_number
-  turned-number k set = omega arith
+  turned-number : (set : List ℕ) → result_number (turned_down (cond (in_range m) refusal.Size refusal.Points) set) ≡ cond (in_range m) 2 1
+  unfolding refusal_number
+  turned-number set = by (in_range m)
+    where
+      by : (b : Bool) → refusal_number (cond b refusal.Size refusal.Points) + 256 * 0 + 16777216 * 0 ≡ cond b 2 1
+      by true = refl
+      by false = refl
 
   pub mark_another_in_c : (mark : ℕ) (table set s : List ℕ) {r : ℕ} {left : List ℕ} → length (whole32 table) ≡ edge_count n
       → MarkedInC mark m table set s r left
       → (r ≡ cond (in_range m) 2 1) × (left ≡ set)
   mark_another_in_c mark table set s whole c =
       let e = mark_another mark (whole32 table) set _ whole in
-      (c.answered ∙ ap result_number e ∙ turned-number (cond (in_range m) 2 1) set, c.set-left ∙ ap (λ (x : Result (List ℕ)). x.marks) e)
+      (c.answered ∙ ap result_number e ∙ turned-number set, c.set-left ∙ ap (λ (x : Result (List ℕ)). x.marks) e)
 
   pub mark_between_another_in_c : (low high set s : List ℕ) {r : ℕ} {left : List ℕ}
       → (length (whole32 low) ≡ edge_count n) ⊎ (length (whole32 high) ≡ edge_count n)
       → MarkedBetweenInC m low high set s r left → (r ≡ cond (in_range m) 2 1) × (left ≡ set)
   mark_between_another_in_c low high set s whole c =
       let e = mark_between_another (whole32 low) (whole32 high) set _ whole in
-      (c.answered ∙ ap result_number e ∙ turned-number (cond (in_range m) 2 1) set, c.set-left ∙ ap (λ (x : Result (List ℕ)). x.marks) e)
+      (c.answered ∙ ap result_number e ∙ turned-number set, c.set-left ∙ ap (λ (x : Result (List ℕ)). x.marks) e)

@@ -8,6 +8,9 @@ use mathlib.Core.List.{List}
 use native.Mathlib.Omega.{arith}
 use lib.ListN.{length}
 use lib.Seq.{set-get_or}
+use Rattle.std.specs.Prelude.{Result as Outcome, Ok, Err}
+use Rattle.lengths.specs.declared.refusal.Refusal.{Refusal}
+use Rattle.lengths.specs.declared.refusal.Refusal.TheVariants as refusal
 use Rattle.lengths.specs.Edge.{edge_count, place}
 use Rattle.lists.specs.Test.{unless}
 use Rattle.marks.specs.Mark.{mark_at, set_mark, struck_mark, open_mark, pending_mark, are_marks, none_pending, opens, open_up_to, open_in, mark_in}
@@ -21,8 +24,6 @@ use Rattle.sheets.specs.Rules.{rules_where, rules_of, marking_by}
 use Rattle.sheets.specs.Sheet.{whole_sheet}
 use Rattle.marking.specs.Mark.{mark_by, mark_tested, turned_down, mark_sheet, ask_sheet}
 use Rattle.admission.specs.Tests.{ready}
-use Rattle.admission.specs.declared.tested.Tested.{Tested}
-use Rattle.admission.specs.declared.tested.Tested.TheVariants.{Points, Refused}
 use Rattle.admission.proofs.Passed.{passed, ready_tested}
 
 -- the marks m of marking are the marks m' of asking, confirmed; and m' are marks of n points
@@ -61,12 +62,12 @@ record Agrees (n : ℕ) (marks : List ℕ) (r r' : Result (List ℕ)) : Type 0 w
   pub confirmed : none_pending marks ≡ true → resolved_left (resolved_answer n r'.marks) struck_mark r'.marks ≡ r.marks
 
 module _ (n : ℕ) (table marks s : List ℕ) where
-  unmarked : (k : ℕ) → Agrees n marks (turned_down k marks) (turned_down k marks)
+  unmarked : (k : Refusal) → Agrees n marks (turned_down k marks) (turned_down k marks)
   unmarked k = record { verdict = refl; lines = refl; confirmed = left_none struck_mark n marks }
 
-  agrees : (r : Tested) → ready n table marks ≡ r → Agrees n marks (mark_tested struck_mark r table table marks s) (mark_tested pending_mark r table table marks s)
-  agrees (Refused k) e = unmarked k
-  agrees (Points p) e = sized (whole_sheet (length s))
+  agrees : (r : Outcome ℕ Refusal) → ready n table marks ≡ r → Agrees n marks (mark_tested struck_mark r table table marks s) (mark_tested pending_mark r table table marks s)
+  agrees (Err k) e = unmarked k
+  agrees (Ok p) e = sized (whole_sheet (length s))
     where
       marked : Agrees n marks (sheet (marking_by struck_mark p table) s marks) (sheet (marking_by pending_mark p table) s marks)
       marked =
@@ -80,9 +81,9 @@ module _ (n : ℕ) (table marks s : List ℕ) where
             confirmed = λ _. left_resolved struck_mark n _ q.range (r.marks.whole ∙ ap edge_count q.same) r.marks.are ∙ sym r.marks.confirmed;
           }
 
-      sized : (b : Bool) → Agrees n marks (unless b (turned_down 7 marks) (sheet (marking_by struck_mark p table) s marks)) (unless b (turned_down 7 marks) (sheet (marking_by pending_mark p table) s marks))
+      sized : (b : Bool) → Agrees n marks (unless b (turned_down refusal.Sheet marks) (sheet (marking_by struck_mark p table) s marks)) (unless b (turned_down refusal.Sheet marks) (sheet (marking_by pending_mark p table) s marks))
       sized true = marked
-      sized false = unmarked 7
+      sized false = unmarked refusal.Sheet
 
   asked : Agrees n marks (mark_sheet n table marks s) (ask_sheet n table marks s)
   unfolding mark_by
@@ -146,12 +147,12 @@ pub ask_withdraw : (n : ℕ) (table marks s : List ℕ) → none_pending marks �
 unfolding mark_by
 ask_withdraw n table marks s none = tests (ready n table marks) refl
   where
-    tests : (r : Tested) → ready n table marks ≡ r → resolved_left (resolved_answer n (mark_tested pending_mark r table table marks s).marks) open_mark (mark_tested pending_mark r table table marks s).marks ≡ marks
-    tests (Refused k) e = left_none open_mark n marks none
-    tests (Points p) e = sized (whole_sheet (length s))
+    tests : (r : Outcome ℕ Refusal) → ready n table marks ≡ r → resolved_left (resolved_answer n (mark_tested pending_mark r table table marks s).marks) open_mark (mark_tested pending_mark r table table marks s).marks ≡ marks
+    tests (Err k) e = left_none open_mark n marks none
+    tests (Ok p) e = sized (whole_sheet (length s))
       where
-        sized : (b : Bool) → resolved_left (resolved_answer n (unless b (turned_down 7 marks) (sheet (marking_by pending_mark p table) s marks)).marks) open_mark
-            (unless b (turned_down 7 marks) (sheet (marking_by pending_mark p table) s marks)).marks ≡ marks
+        sized : (b : Bool) → resolved_left (resolved_answer n (unless b (turned_down refusal.Sheet marks) (sheet (marking_by pending_mark p table) s marks)).marks) open_mark
+            (unless b (turned_down refusal.Sheet marks) (sheet (marking_by pending_mark p table) s marks)).marks ≡ marks
         sized true =
             let q = passed (ready_tested e).tests in
             let start : Back p marks marks marks = record { same = refl; withdrawn = resolved_none open_mark marks none; whole = q.marked; are = q.bytes } in

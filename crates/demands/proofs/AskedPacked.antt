@@ -5,20 +5,22 @@ use mathlib.Core.Path.{◌≡◌, refl, sym, ◌∙◌, ap, ap₂}
 use mathlib.Core.Bool.{Bool, true, false}
 use mathlib.Core.List.{List}
 use native.Mathlib.Omega.{arith}
+use Rattle.std.specs.Prelude.{Result, Ok, Err}
+use Rattle.lengths.specs.declared.refusal.Refusal.{Refusal}
+use Rattle.lengths.specs.declared.refusal.Refusal.TheVariants as refusal
+use Rattle.lengths.specs.declared.refusal.Refused.{Refused}
+use Rattle.lengths.specs.Refusal.{refuse}
 use Rattle.lengths.specs.Instance.{in_range}
 use Rattle.lengths.proofs.Instances.{in-range}
 use Rattle.endian.specs.Bytes.{whole16, whole32}
 use Rattle.marks.specs.Mark.{struck_mark, open_mark, pending_mark, none_pending}
 use Rattle.marks.specs.Packed.{packed, well_packed, marks_of, repacked}
 use Rattle.marks.specs.Pending.{resolved_answer, resolved_left, resolved_set}
-use Rattle.lengths.specs.declared.outcome.Outcome.{Outcome}
-use Rattle.lengths.specs.declared.outcome.Outcome.TheVariants as resolved
 use Rattle.marks.proofs.PackedSets.{packed_marks, repacked_same}
 use Rattle.marks.proofs.PackedMarks.{held_set}
 use Rattle.marking.proofs.PackedSheets.{mark_byte_set}
 use Rattle.marking.specs.Mark.{mark_tested, mark_by, mark_packed_by, ask_sheet, mark_packed, ask_packed}
 use Rattle.admission.specs.Tests.{until_pending, ready}
-use Rattle.admission.specs.declared.tested.Tested.{Tested}
 use Rattle.revosti.specs.Mark.{result_number, verdict_number, mark_in_c}
 use Rattle.demands.proofs.Asked.{ask_verdict, ask_lines, ask_confirm, ask_withdraw}
 use Rattle.demands.proofs.OnPacked.{out_of_limits, resolve_on_packed}
@@ -36,14 +38,14 @@ module _ (n : ℕ) (table set s : List ℕ) where
   out_mark : (mark : ℕ) → in_range n ≡ false → (mark_packed_by mark n table set s).marks ≡ set
   unfolding mark_packed_by mark_by ready
   out_mark mark h =
-      ap (λ (t : Tested). repacked n set (mark_tested mark (until_pending t (marks_of n set)) table table (marks_of n set) s).marks) (out_of_limits n table (marks_of n set) h)
+      ap (λ (t : Result ℕ Refusal). repacked n set (mark_tested mark (until_pending t (marks_of n set)) table table (marks_of n set) s).marks) (out_of_limits n table (marks_of n set) h)
       ∙ repacked_same n set
 
   out_resolve : (mark : ℕ) → in_range n ≡ false → resolved_set mark n set ≡ set
   unfolding resolved_answer
   out_resolve mark h =
-      let r : resolved_answer n (marks_of n set) ≡ resolved.Refused 1 0 = rw h in
-      ap (λ (t : Outcome). repacked n set (resolved_left t mark (marks_of n set))) r ∙ repacked_same n set
+      let r : resolved_answer n (marks_of n set) ≡ refuse refusal.Points = rw h in
+      ap (λ (t : Result Unit Refused). repacked n set (resolved_left t mark (marks_of n set))) r ∙ repacked_same n set
 
   -- nor does a set that is not well packed
   ill_mark : (mark : ℕ) → well_packed n set ≡ false → (mark_packed_by mark n table set s).marks ≡ set
@@ -91,7 +93,6 @@ module _ (n : ℕ) (table set s : List ℕ) where
 -- the same of the functions for C
 module _ (n : ℕ) (table set s : List ℕ) where
   pub ask_verdict_in_c : result_number (mark_in_c pending_mark n table set s) ≡ result_number (mark_in_c struck_mark n table set s)
-  unfolding result_number
   ask_verdict_in_c =
       ap₂ (λ (v l : ℕ). v + 16777216 * l) (ap verdict_number (ask_verdict_packed n (whole32 table) set (whole16 s))) (ask_lines_packed n (whole32 table) set (whole16 s))
 

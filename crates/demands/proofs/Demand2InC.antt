@@ -34,7 +34,6 @@ module _ (q : Result (List ℕ)) (called : SheetAnswer q) {r : ℕ} {left : List
   bits = ap receipt_in answered ∙ marked_receipt called
 
   lines_told : (receipt_in r).lines ≡ q.lines
-  unfolding receipt_of
   lines_told = ap (λ (t : Receipt). t.lines) bits ∙ by q.verdict
     where
       by : (v : Verdict (Unit {0})) → (new_receipt v q.lines).lines ≡ q.lines
@@ -42,7 +41,6 @@ module _ (q : Result (List ℕ)) (called : SheetAnswer q) {r : ℕ} {left : List
       by (refused number rec) = refl
 
   refusal_in_c : (s : List ℕ) → ((number rec : ℕ) → q.verdict ≡ refused number rec → RefusedAt s number rec) → ((receipt_in r).refusal ≡ 0 → ⊥) → RefusedAt s (receipt_in r).refusal (receipt_in r).rec
-  unfolding receipt_of
   refusal_in_c s told some = subst (λ (t : Receipt). RefusedAt s t.refusal t.rec) (sym bits) (by q.verdict refl)
     where
       by : (v : Verdict (Unit {0})) → q.verdict ≡ v → RefusedAt s (new_receipt v q.lines).refusal (new_receipt v q.lines).rec
@@ -56,7 +54,6 @@ module _ (q : Result (List ℕ)) (called : SheetAnswer q) {r : ℕ} {left : List
 
 -- the number of a result is that of the result whose marks are packed
 packed_number : (a : Result (List ℕ)) → result_number (packed_result a) ≡ result_number a
-unfolding result_number
 packed_number a = refl
 
 answers_in_c : (𝓜 : Marking (List ℕ)) (s marks : List ℕ) (q : Result (List ℕ)) (r : ℕ) (left : List ℕ) → AnswersPacked 𝓜 s marks q → r ≡ result_number q → left ≡ q.marks → AnswersInC 𝓜 s marks r left
@@ -73,7 +70,6 @@ packed_answers m = record { result = m.result; answers = m.answers; packs = refl
 
 -- a sheet accepted whole has the number of its lines and nothing else
 whole_number : (left : List ℕ) (lines : ℕ) → result_number (record { marks = left; lines = lines; verdict = accepted tt }) ≡ 16777216 * lines
-unfolding result_number
 whole_number left lines = omega arith
 
 -- `revosti_mark_sheet` (`mark` struck) and `revosti_ask_sheet` (`mark` pending)

@@ -8,6 +8,8 @@ use mathlib.Core.Logic.{◌↔◌}
 use mathlib.Core.List.{List}
 use native.Mathlib.Omega.{arith}
 use lib.ListN.{length}
+use Rattle.std.specs.Prelude.{Result as Outcome, Ok, Err}
+use Rattle.lengths.specs.declared.refusal.Refusal.{Refusal}
 use Rattle.lengths.specs.Edge.{Edge}
 use Rattle.marks.specs.Mark.{struck_mark, open_mark, pending_mark}
 use Rattle.marks.specs.Packed.{ByteSet, packed, well_packed, marks_of, repacked}
@@ -22,8 +24,6 @@ use Rattle.marking.specs.MarkBetween.{mark_between, mark_between_packed}
 use Rattle.admission.specs.Tests.{ready_between, ready}
 use Rattle.marking.proofs.PackedSheets.{mark_byte_set, tested_byte_set}
 use Rattle.marking.specs.Mark.{mark_tested, mark_by, packed_result, repack, mark_packed_by}
-use Rattle.admission.specs.declared.tested.Tested.{Tested}
-use Rattle.admission.specs.declared.tested.Tested.TheVariants.{Points, Refused}
 use Rattle.demands.specs.Marked.{Passes, PassesBetween, struck_edges, Changes, AnswersPacked}
 use Rattle.demands.proofs.Demand2.{demand_2_sheet, demand_2_whole, demand_2_refusal, demand_2_struck, demand_2_changes}
 use Rattle.demands.proofs.Demand2Between.{demand_2_sheet_between, demand_2_whole_between, demand_2_refusal_between, demand_2_struck_between, demand_2_changes_between}
@@ -58,16 +58,16 @@ module _ (mark n : ℕ) (out put set s : List ℕ) (well : well_packed n set ≡
 -- what a call leaves, whatever its tests come to, holds the marks that are left: a set that is not well packed is
 -- refused and stays
 module _ (mark n : ℕ) (out put set s : List ℕ) where
-  held_left : mark ≤ pending_mark → (t : Tested) → ((p : ℕ) → t ≡ Points p → well_packed n set ≡ true) →
+  held_left : mark ≤ pending_mark → (t : Outcome ℕ Refusal) → ((p : ℕ) → t ≡ Ok p → well_packed n set ≡ true) →
       marks_of n (repack n set (mark_tested mark t out put (marks_of n set) s)).marks ≡ (mark_tested mark t out put (marks_of n set) s).marks
-  held_left l (Refused number) told = ap (marks_of n) (repacked_same n set)
-  held_left l (Points p) told =
-      let r = mark_tested mark (Points p) out put (marks_of n set) s in
-      ap (λ (q : Result (List ℕ)). marks_of n q.marks) (repack_well n set (told p refl) r) ∙ marks_packed (tested_byte_set mark out put s l (held_set set (told p refl)) (Points p))
+  held_left l (Err number) told = ap (marks_of n) (repacked_same n set)
+  held_left l (Ok p) told =
+      let r = mark_tested mark (Ok p) out put (marks_of n set) s in
+      ap (λ (q : Result (List ℕ)). marks_of n q.marks) (repack_well n set (told p refl) r) ∙ marks_packed (tested_byte_set mark out put s l (held_set set (told p refl)) (Ok p))
 
 -- over one table, marked (`mark` struck) or asked (`mark` pending)
 module _ (mark n : ℕ) (table set s : List ℕ) where
-  well_passed : {p : ℕ} → ready n table (marks_of n set) ≡ Points p → well_packed n set ≡ true
+  well_passed : {p : ℕ} → ready n table (marks_of n set) ≡ Ok p → well_packed n set ≡ true
   well_passed e = passed_well set (both_passed (passed (ready_tested e).tests))
 
   module _ (p : Passes n table (marks_of n set) s) where
@@ -110,7 +110,7 @@ module _ (mark n : ℕ) (table set s : List ℕ) where
 
 -- over two tables, low and high (02, Paper 11)
 module _ (n : ℕ) (low high set s : List ℕ) where
-  well_between : {p : ℕ} → ready_between n low high (marks_of n set) ≡ Points p → well_packed n set ≡ true
+  well_between : {p : ℕ} → ready_between n low high (marks_of n set) ≡ Ok p → well_packed n set ≡ true
   well_between e = passed_well set (passed_ready e)
 
   module _ (p : PassesBetween n low high (marks_of n set) s) where

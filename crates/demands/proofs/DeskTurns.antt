@@ -4,6 +4,7 @@
 use Prim.Native.Nat.{ℕ, ◌≤◌}
 use mathlib.Core.Path.{◌≡◌, sym, subst}
 use mathlib.Core.List.{List}
+use Rattle.std.specs.Prelude.{Ok}
 use Rattle.lengths.specs.Instance.{least_points}
 use Rattle.lengths.specs.Table.{length_of}
 use Rattle.tours.specs.Tour.{ThreeOptimal}
@@ -14,7 +15,6 @@ use Rattle.marks.specs.Mark.{struck_mark}
 use Rattle.marks.specs.Packed.{ByteSet}
 use Rattle.sheets.specs.Rules.{marking_of}
 use Rattle.admission.specs.Tests.{ready}
-use Rattle.admission.specs.declared.tested.Tested.TheVariants.{Points}
 use Rattle.desks.specs.Turn.{waiting, turn_from, turn_marks, turn_on_marks}
 use Rattle.desks.proofs.TurnLeaves.{from_keeps, tested_keeps, turn_keeps, turn_byte_set}
 use Rattle.demands.proofs.Kept.{InTour, Kept, OutOfReach, guarded}
@@ -37,7 +37,7 @@ module _ {n : ℕ} {table t : List ℕ} {Orders : Type 0} (some : least_points �
   -- tour. Which line it is does not matter: an index, an owner or lines that nobody wrote choose among lines, and no
   -- incomplete one is accepted.
   pub turn_kept : (state : List ℕ) (m : ℕ) (own s : List ℕ) → (HasOrder s → Orders) → (marks : List ℕ) → Kept n t marks →
-      ((p : ℕ) → ready m own marks ≡ Points p → (p ≡ n) × LengthsBetween n own own table) → Kept n t (turn_on_marks state m own marks s).marks
+      ((p : ℕ) → ready m own marks ≡ Ok p → (p ≡ n) × LengthsBetween n own own table) → Kept n t (turn_on_marks state m own marks s).marks
   unfolding turn_marks
   turn_kept state m own s may marks kept told =
       turn_keeps (Kept n t) state marks (turn_marks m own marks s) kept (λ index owner lines.

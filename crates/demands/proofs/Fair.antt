@@ -9,19 +9,18 @@ use native.Mathlib.Decide.{dec_le, ℕ_discrete}
 use native.Mathlib.Omega.{arith}
 use lib.ListN.{length}
 use borrow.Author.Tests.{leb-true, not-true}
+use Rattle.std.specs.Prelude.{Option, Some, None, Result, Ok, Err}
 use Rattle.lists.proofs.Tests.{answered}
 use Rattle.endian.specs.Bytes.{whole16, whole32}
 use Rattle.marks.specs.Packed.{marks_of}
-use Rattle.desks.specs.HandIn.{is_desk, tested_sheet, hand_in_answer, hand_in_by, hand_in_left}
+use Rattle.lengths.specs.declared.refusal.Refusal.{Refusal}
+use Rattle.lengths.specs.declared.refusal.Refusal.TheVariants as refusal
+use Rattle.marking.specs.Mark.{tested_sheet}
+use Rattle.marking.specs.declared.mark.Passed.{Passed}
+use Rattle.desks.specs.HandIn.{is_desk, done_by, hand_in_answer, hand_in_by, hand_in_left}
 use Rattle.desks.specs.State.{desk_count, state_bytes, lent, last_served, set_desk, has_line, following, next_desk}
-use Rattle.desks.specs.Turn.{DeskTurn, turn_packed, served_left, Turn, turn_of, turn_with}
+use Rattle.desks.specs.Turn.{DeskSheet, DeskTurn, turn_packed, served_left, Turn, turn_of, turn_with}
 use Rattle.desks.specs.asks.State.{DeskAsked}
-use Rattle.desks.specs.declared.handing.Handed.{Handed}
-use Rattle.desks.specs.declared.handing.Handed.TheVariants as handed
-use Rattle.desks.specs.declared.state.Next.{Next}
-use Rattle.desks.specs.declared.state.Next.TheVariants as next
-use Rattle.desks.specs.declared.turn.Served.{Served}
-use Rattle.desks.specs.declared.turn.Turned.TheVariants as turned
 use Rattle.desks.proofs.DeskNumbers.{desk_length, desk_byte, desk_other, line_other, served_length, served_last, served_byte, served_line, distance, distance_falls, next_ahead}
 use Rattle.desks.proofs.HandInAnswers.{short, long, desk_asked}
 use Rattle.desks.proofs.RoundRobin.{DeskFound, following_desk, next_found}
@@ -29,40 +28,40 @@ use Rattle.demands.specs.Desks.{Buffers, DeskCall, handing, turning, handed_in, 
 
 -- a turn with the bytes of a state
 
-pub found_asked : {state : List ℕ} {d : ℕ} → state_bytes ≤ length state → next_desk state ≡ next.Desk d → DeskAsked state d
+pub found_asked : {state : List ℕ} {d : ℕ} → state_bytes ≤ length state → next_desk state ≡ Some d → DeskAsked state d
 found_asked {state} room e = let f = next_found state e in record { room = room; low = f.low; high = f.high }
 
 -- what a turn comes to where it serves a desk
-pub turn-of : (state : List ℕ) → state_bytes ≤ length state → {x : Next} → next_desk state ≡ x →
+pub turn-of : (state : List ℕ) → state_bytes ≤ length state → {x : Option ℕ} → next_desk state ≡ x →
     (marks : List ℕ) (go : (index owner lines : ℕ) → DeskTurn (List ℕ))
     → turn_with state marks go ≡ turn_of x state marks go
 unfolding turn_with
-turn-of state room e marks go = rw (long state room) (ap (λ (x : Next). turn_of x state marks go) e)
+turn-of state room e marks go = rw (long state room) (ap (λ (x : Option ℕ). turn_of x state marks go) e)
 
 module _ (state : List ℕ) (room : state_bytes ≤ length state) (b : Buffers) where
   abbrev go : (index owner lines : ℕ) → DeskTurn (List ℕ)
   go = turn_packed b.n (whole32 b.table) b.set (whole16 b.sheet)
 
   -- the state behind it
-  pub state_served : {d : ℕ} → next_desk state ≡ next.Desk d → (r : Served) × (state_after (turning b) state ≡ served_left r state d)
+  pub state_served : {d : ℕ} → next_desk state ≡ Some d → (r : DeskSheet) × (state_after (turning b) state ≡ served_left r state d)
   state_served {d} e =
       (_, ap (λ (x : Turn). x.state) (turn-of state room e b.set go))
 
   -- OTHERS UNTOUCHED: a turn that serves the desk d changes no byte of the state but the first two, the last desk
   -- served, and the six of d's own numbers; and with no line left it changes none. Of marks it is lent those of one
   -- desk.
-  pub turn_others_untouched : {d : ℕ} → next_desk state ≡ next.Desk d → OnlyDesk d 2 state (state_after (turning b) state)
+  pub turn_others_untouched : {d : ℕ} → next_desk state ≡ Some d → OnlyDesk d 2 state (state_after (turning b) state)
   turn_others_untouched {d} e =
       let s = state_served e in
       let a = found_asked room e in
       subst (OnlyDesk d 2 state) (sym s.1) (record { size = served_length a s.0; others = served_byte a s.0 })
 
-  pub turn_nothing_left : next_desk state ≡ next.NoLine → state_after (turning b) state ≡ state
+  pub turn_nothing_left : next_desk state ≡ None → state_after (turning b) state ≡ state
   turn_nothing_left e = ap (λ (x : Turn). x.state) (turn-of state room e b.set go)
 
 -- a turn that is lent too few bytes
 turn_of_short : (state : List ℕ) → length state < state_bytes → (marks : List ℕ) (go : (index owner lines : ℕ) → DeskTurn (List ℕ))
-    → turn_with state marks go ≡ record { answer = turned.Refused 22; state = state; marks = marks }
+    → turn_with state marks go ≡ record { answer = Err refusal.Buffer; state = state; marks = marks }
 unfolding turn_with
 turn_of_short state h marks go = rw (short state h)
 
@@ -72,26 +71,33 @@ turn_short_untouched state h b = ap (λ (x : Turn). x.state)
 
 -- handing in
 
-not_done : {k : ℕ} → handed.Refused k ≡ handed.Done → ⊥
+not_done : {k : Refusal} → ◌≡◌ {A = Result (Unit {0}) Refusal} (Err k) (Ok tt) → ⊥
 not_done e = let z : ◌≡◌ {A = ℕ} 0 1 = cc in omega arith
+
+tests_done : (t : Result Passed Refusal) → done_by t ≡ Ok tt → (p : Passed) × (t ≡ Ok p)
+tests_done (Ok p) e = (p, refl)
+tests_done (Err k) e = absurd (not_done e)
 
 -- what an accepted one passed
 pub record HandedOver (state : List ℕ) (d n : ℕ) (table marks s : List ℕ) : Type 0 where
   pub asked : DeskAsked state d
   pub free : has_line state d ≡ false
-  pub passed : tested_sheet n table marks s ≡ handed.Done
+  pub count : Passed
+  pub passed : tested_sheet n table marks s ≡ Ok count
 
-pub handed_over : (state : List ℕ) (d n : ℕ) (table marks s : List ℕ) → hand_in_answer state d n table marks s ≡ handed.Done →
+pub handed_over : (state : List ℕ) (d n : ℕ) (table marks s : List ℕ) → hand_in_answer state d n table marks s ≡ Ok tt →
     HandedOver state d n table marks s
 unfolding hand_in_answer
 handed_over state d n table marks s h =
-    let p1 = answered (lent state) _ _ handed.Done not_done h in
-    let p2 = answered (is_desk d) _ _ handed.Done not_done p1.1 in
-    let p3 = answered (not (has_line state d)) _ _ handed.Done not_done p2.1 in
+    let p1 = answered (lent state) _ _ (Ok tt) not_done h in
+    let p2 = answered (is_desk d) _ _ (Ok tt) not_done p1.1 in
+    let p3 = answered (not (has_line state d)) _ _ (Ok tt) not_done p2.1 in
+    let p4 = tests_done (tested_sheet n table marks s) p3.1 in
     record {
       asked = desk_asked state d (leb-true state_bytes (length state) p1.0) p2.0;
       free = not-true (has_line state d) p3.0;
-      passed = p3.1;
+      count = p4.0;
+      passed = p4.1;
     }
 
 -- the state behind one: the three numbers of the desk, which was free, or nothing
@@ -103,10 +109,10 @@ pub hands_in : (state : List ℕ) (d : ℕ) (b : Buffers) → HandsIn state d (h
 unfolding hand_in_left
 hands_in state d b = by (hand_in_answer state d b.n (whole32 b.table) (marks_of b.n b.set) (whole16 b.sheet)) refl
   where
-    by : (r : Handed) → hand_in_answer state d b.n (whole32 b.table) (marks_of b.n b.set) (whole16 b.sheet) ≡ r →
+    by : (r : Result Unit Refusal) → hand_in_answer state d b.n (whole32 b.table) (marks_of b.n b.set) (whole16 b.sheet) ≡ r →
         HandsIn state d (hand_in_by r state d)
-    by (handed.Refused k) e = refused
-    by handed.Done e = let h = handed_over state d b.n (whole32 b.table) (marks_of b.n b.set) (whole16 b.sheet) e in taken
+    by (Err k) e = refused
+    by (Ok done) e = let h = handed_over state d b.n (whole32 b.table) (marks_of b.n b.set) (whole16 b.sheet) e in taken
         h.asked h.free
 
 -- OTHERS UNTOUCHED: handing in at the desk d changes no byte of the state but the six of d's own numbers
@@ -149,7 +155,7 @@ module _ {d : ℕ} {state : List ℕ} (w : LineLeft d state) where
           )
 
   -- a turn of another desk keeps the line, and brings d nearer
-  pub left_other : {e : ℕ} (b : Buffers) → next_desk state ≡ next.Desk e → (e ≡ d → ⊥) →
+  pub left_other : {e : ℕ} (b : Buffers) → next_desk state ≡ Some e → (e ≡ d → ⊥) →
       LineLeft d (state_after (turning b) state) × (suc (gap d (state_after (turning b) state)) ≡ distance e d)
   left_other {e} b g other =
       let a = found_asked w.room g in
@@ -176,7 +182,7 @@ served_by_gap zero w h (turning b ∷ calls) l = absurd (omega arith)
 served_by_gap {d} (suc k) {state} w h (turning b ∷ calls) l =
     let n = next_ahead state d w.low w.high w.left in
     elim (ℕ_discrete n.0 d) [
-      | yes z ↦ at_once (n.1 ∙ ap next.Desk z)
+      | yes z ↦ at_once (n.1 ∙ ap Some z)
       | no z ↦ let s = left_other w b n.1 z in later (served_by_gap k s.0 (omega (arith, s.1, n.2)) calls (omega arith))
     ]
 
@@ -213,7 +219,7 @@ before x e d low high (la, inr p) (lb, inr q) (lc, inr r) h = omega arith
 
 -- THE ROUND ROBIN takes the nearest: the desk that a turn serves has a line left, and no desk with a line left lies
 -- nearer ahead of the last served
-pub next_nearest : (state : List ℕ) (e : ℕ) → next_desk state ≡ next.Desk e →
+pub next_nearest : (state : List ℕ) (e : ℕ) → next_desk state ≡ Some e →
     DeskFound state e × ((d : ℕ) → 1 ≤ d → d ≤ desk_count → has_line state d ≡ true → gap e state ≤ gap d state)
 next_nearest state e g = (next_found state g, nearest)
   where
@@ -222,7 +228,7 @@ next_nearest state e g = (next_found state g, nearest)
         let f = next_found state g in
         let a = following_desk (last_served state) in
         let n = next_ahead state d low high h in
-        let q : next.Desk n.0 ≡ next.Desk e = sym n.1 ∙ g in
+        let q : Some n.0 ≡ Some e = sym n.1 ∙ g in
         let i : n.0 ≡ e = cc in
         let between : distance e d ≤ distance (following (last_served state)) d = subst (λ (k : ℕ). distance k d ≤ distance (following (last_served state)) d) i n.2 in
         let x : ℕ = following (last_served state) in

@@ -9,6 +9,9 @@ use mathlib.Core.Logic.{inl, inr}
 use mathlib.Core.List.{List, [], ◌∷◌}
 use native.Mathlib.Omega.{arith}
 use lib.ListN.{length}
+use Rattle.std.specs.Prelude.{Result, Ok, Err}
+use Rattle.lengths.specs.declared.refusal.Refusal.{Refusal}
+use Rattle.lengths.specs.declared.refusal.Refusal.TheVariants as refusal
 use Rattle.lengths.specs.Edge.{Edge, edge, IsEdge, edge_count}
 use Rattle.lengths.specs.Instance.{least_points}
 use Rattle.lengths.specs.Table.{length_of}
@@ -30,8 +33,6 @@ use Rattle.argument.proofs.Safe.{sheet_safe}
 use Rattle.sheets.specs.Rules.{rules_between, marking_between}
 use Rattle.sheets.specs.Sheet.{whole_sheet}
 use Rattle.marking.specs.Mark.{mark_tested, turned_down}
-use Rattle.admission.specs.declared.tested.Tested.{Tested}
-use Rattle.admission.specs.declared.tested.Tested.TheVariants.{Points, Refused}
 use Rattle.demands.proofs.Lawful.{lawful_between}
 use Rattle.demands.proofs.Monotone.{LengthsBetween, feasible_over, closes_under}
 use Rattle.demands.proofs.Optimal.{OwnPair, optimal_feasible, optimal_not_closed}
@@ -102,13 +103,13 @@ module _ {n : ℕ} {low high table t : List ℕ} {Orders : Type 0} (some : least
       }
 
   -- what the tests of a call come to: a refusal changes no mark, and a call that passes states the n of the tables
-  pub tested_kept : (mark : ℕ) (s marks : List ℕ) → (HasOrder s → Orders) → Kept n t marks → (r : Tested) → ((p : ℕ) → r ≡ Points p → p ≡ n) → Kept n t (mark_tested mark r low high marks s).marks
-  tested_kept mark s marks may kept (Refused k) same = kept
-  tested_kept mark s marks may kept (Points p) same = sized (whole_sheet (length s))
+  pub tested_kept : (mark : ℕ) (s marks : List ℕ) → (HasOrder s → Orders) → Kept n t marks → (r : Result ℕ Refusal) → ((p : ℕ) → r ≡ Ok p → p ≡ n) → Kept n t (mark_tested mark r low high marks s).marks
+  tested_kept mark s marks may kept (Err k) same = kept
+  tested_kept mark s marks may kept (Ok p) same = sized (whole_sheet (length s))
     where
       marked : Kept n t (sheet (marking_between mark n low high) s marks).marks
       marked = sheet_safe (marking_between mark n low high) (InTour t) Orders (Kept n t) (guarded mark) s may marks kept
 
-      sized : (b : Bool) → Kept n t (unless b (turned_down 7 marks) (sheet (marking_between mark p low high) s marks)).marks
+      sized : (b : Bool) → Kept n t (unless b (turned_down refusal.Sheet marks) (sheet (marking_between mark p low high) s marks)).marks
       sized true = subst (λ (q : ℕ). Kept n t (sheet (marking_between mark q low high) s marks).marks) (sym (same p refl)) marked
       sized false = kept

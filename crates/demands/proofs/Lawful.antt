@@ -2,24 +2,28 @@
 -- compute agree with the rules on every set that an argument comes to, since {ab} has the shape that they go by and a
 -- feasible pair keeps it. Assumes nothing.
 use Prim.Native.Nat.{ℕ, ◌≤◌}
-use mathlib.Core.Bool.{Bool}
+use mathlib.Core.Bool.{Bool, true, false, cond}
 use mathlib.Core.Path.{◌≡◌, refl, ◌∙◌, ap}
 use mathlib.Core.Logic.{⊎_elim}
 use mathlib.Core.List.{List, [], ◌∷◌}
 use native.Mathlib.Omega.{arith}
+use Rattle.std.specs.Prelude.{Option, Some, None, Result, Ok, Err}
 use Rattle.lists.specs.Count.{count}
 use Rattle.lengths.specs.Edge.{Edge, edge, Point}
 use Rattle.lengths.specs.Table.{length_of}
 use Rattle.lengths.proofs.Tables.{length_symmetric}
-use Rattle.closings.specs.ClosingTest.{three_opt_outcome, refusal_of}
+use Rattle.closings.specs.ClosingTest.{labelling?, placed?, closed_by, three_opt_outcome, refusal_of}
 use Rattle.tours.proofs.Bit.{same_self}
 use Rattle.tours.proofs.Count.{count_cons}
 use Rattle.sets.specs.EdgeSet.{Has, with_pair}
 use Rattle.marks.specs.Mark.{open_in}
 use Rattle.rules.specs.Pairs.{feasible_pairs}
+use Rattle.sets.specs.Neighbours.{ends_of}
 use Rattle.sets.specs.Shape.{Shape}
-use Rattle.closings.specs.declared.closing.ThreeOptOutcome.{ThreeOptOutcome}
-use Rattle.closings.specs.declared.closing.ThreeOptOutcome.TheVariants.{Closed, NoMoves, NoSaving}
+use Rattle.lengths.specs.Refusal.{refusal_number}
+use Rattle.lengths.specs.declared.refusal.Refusal.{Refusal}
+use Rattle.lengths.specs.declared.refusal.Refusal.TheVariants.{Crossing, Saving}
+use Rattle.revosti.proofs.RefusalNumbers.{number_within}
 use Rattle.closings.proofs.ClosingExact.{closed_exact}
 use Rattle.sets.proofs.Exact.{shape_exact, kept_shape, single_shape}
 use Rattle.rules.proofs.PairLists.{feasible_pairs_rising}
@@ -30,21 +34,30 @@ use Rattle.segments.proofs.SegmentExact.{reorder_sound, reorder_complete, reorde
 use Rattle.argument.specs.Rules.{Points, NamesFeasible, Reached, single, grown, Lawful}
 use Rattle.sheets.specs.Rules.{rules_where, rules_between, rules_of}
 
-zero_closed : (c : ThreeOptOutcome) → refusal_of c ≡ 0 → c ≡ Closed
-unfolding refusal_of
-zero_closed Closed h = refl
-zero_closed NoMoves h = absurd (omega arith)
-zero_closed NoSaving h = absurd (omega arith)
+zero_closed : (c : Result Unit Refusal) → refusal_of c ≡ 0 → c ≡ Ok tt
+zero_closed (Ok closed) h = refl
+zero_closed (Err r) h = absurd (omega (arith, h, number_within r))
 
-closed_zero : refusal_of Closed ≡ 0
-unfolding refusal_of
-closed_zero = refl
+-- what a closing is refused by
+abbrev Numbered : Result Unit Refusal → Type 0
+Numbered c = 1 ≤ refusal_of c → (15 ≤ refusal_of c) × (refusal_of c ≤ 16)
 
-refused_number : (c : ThreeOptOutcome) → 1 ≤ refusal_of c → (15 ≤ refusal_of c) × (refusal_of c ≤ 16)
-unfolding refusal_of
-refused_number Closed h = absurd (omega arith)
-refused_number NoMoves h = (omega arith, omega arith)
-refused_number NoSaving h = (omega arith, omega arith)
+closing_numbered : (out put : ℕ → ℕ → ℕ) (K : List Edge) (p q r s : ℕ) → Numbered (three_opt_outcome out put K p q r s)
+unfolding refusal_number
+closing_numbered out put K p q r s = placed (placed? K p q r s)
+  where
+    saved : (b : Bool) → Numbered (cond b (Ok tt) (Err Saving))
+    saved true h = absurd (omega arith)
+    saved false h = (omega arith, omega arith)
+
+    ended : (e f : Option (ℕ × ℕ)) → Numbered (closed_by out put p q r s e f)
+    ended (Some (x, y)) (Some (z, w)) h = saved (labelling? out put p q r s x y z w) h
+    ended (Some e) None h = (omega arith, omega arith)
+    ended None f h = (omega arith, omega arith)
+
+    placed : (b : Bool) → Numbered (cond b (closed_by out put p q r s (ends_of K r) (ends_of K s)) (Err Crossing))
+    placed true h = ended (ends_of K r) (ends_of K s) h
+    placed false h = (omega arith, omega arith)
 
 -- every edge of K joins two of the points 1 to n
 abbrev Within : ℕ → List Edge → Type 0
@@ -93,7 +106,7 @@ module _ (n : ℕ) (out put : List ℕ) (open? : ℕ → ℕ → Bool) where
       record {
         listed = names_feasible;
         closed = λ K p q r s h. (closed_exact (length_of n out) (length_of n put) K p q r s).0 (zero_closed (three_opt_outcome (length_of n out) (length_of n put) K p q r s) h);
-        closes = λ K p q r s c. ap refusal_of ((closed_exact (length_of n out) (length_of n put) K p q r s).1 c) ∙ closed_zero;
+        closes = λ K p q r s c. ap refusal_of ((closed_exact (length_of n out) (length_of n put) K p q r s).1 c);
         pair_points = λ K c x y f. (f.point_x, f.point_y, f.rising);
         three_opt_points = λ K p q r s reached c.
             let w = reached_within reached in
@@ -106,7 +119,7 @@ module _ (n : ℕ) (out put : List ℕ) (open? : ℕ → ℕ → Bool) where
             let p = reorders_points {vs = vs} (Point n) (λ a b h. (reached_within reached a b h).0) R in
             (p.0, p.1, all_points vs p.2);
         reordering_number = reordering_number (length_of n out) (length_of n put);
-        closing_number = λ K p q r s. refused_number (three_opt_outcome (length_of n out) (length_of n put) K p q r s);
+        closing_number = closing_numbered (length_of n out) (length_of n put);
       }
 
 -- the rules of a sheet under its marks, over two tables and over one

@@ -9,6 +9,11 @@ use lib.Dec.{leb}
 use lib.ListN.{length, drop, length-append, length-drop}
 use lib.Seq.{take_at, drop_at}
 use borrow.Author.Tests.{leb-true}
+use Rattle.std.specs.Prelude.{Result, Ok, Err}
+use Rattle.lengths.specs.Refusal.{refuse}
+use Rattle.lengths.specs.declared.refusal.Refusal.{Refusal}
+use Rattle.lengths.specs.declared.refusal.Refusal.TheVariants as refusal
+use Rattle.lengths.specs.declared.refusal.Refused.{Refused}
 use Rattle.endian.specs.Bytes.{bytes16}
 use Rattle.endian.proofs.Writing.{bytes_length}
 use Rattle.lengths.specs.Edge.{Edge, edge}
@@ -24,10 +29,6 @@ use Rattle.enumeration.specs.Find.{pairs_at, numbers_of}
 use Rattle.admission.specs.Tests.{tested_between, tested}
 use Rattle.marking.specs.ListBetween.{listed_between}
 use Rattle.marking.specs.Listing.{list_tested, listed, list_left_of, places_of}
-use Rattle.marking.specs.declared.listing.Listed.{Listed}
-use Rattle.marking.specs.declared.listing.Listed.TheVariants as listing
-use Rattle.admission.specs.declared.tested.Tested.{Tested}
-use Rattle.admission.specs.declared.tested.Tested.TheVariants.{Points, Refused}
 use Rattle.demands.specs.Listed.{ListsBetween, ListsFeasible}
 use Rattle.demands.proofs.Lawful.{lawful_where}
 use Rattle.lists.proofs.Tests.{answered}
@@ -37,7 +38,7 @@ unfolding numbers_of
 length_numbers [] = refl
 length_numbers (edge x y ∷ es) = omega (arith, length_numbers es)
 
-not_pairs : {number rec count : ℕ} → listing.Refused number rec ≡ listing.Pairs count → ⊥
+not_pairs : {r : Refused} {count : ℕ} → Err r ≡ Ok count → ⊥
 not_pairs e = let z : ◌≡◌ {A = ℕ} 0 1 = cc in omega arith
 
 -- behind any tests that answer n, by the lengths of what is taken out and of what is put in
@@ -65,27 +66,27 @@ module _ (n : ℕ) (out put marks : List ℕ) (a b c : ℕ) where
         size = omega (arith, size, length-append written (drop (4 * count) list), length-drop (4 * count) list);
       }
 
-  tested_list : (t : Tested) → ((m : ℕ) → t ≡ Points m → m ≡ n) → (list : List ℕ) (count : ℕ) → list_tested t out put marks a b c (places_of list) ≡ listing.Pairs count →
+  tested_list : (t : Result ℕ Refusal) → ((m : ℕ) → t ≡ Ok m → m ≡ n) → (list : List ℕ) (count : ℕ) → list_tested t out put marks a b c (places_of list) ≡ Ok count →
       ListsBetween n out put marks a b c list (list_left_of (list_tested t out put marks a b c (places_of list)) n out put marks a b c list) count
-  tested_list t same list count h = subst (λ (l : Listed). ListsBetween n out put marks a b c list (list_left_of l n out put marks a b c list) count) (sym h) (by t same h)
+  tested_list t same list count h = subst (λ (l : Result ℕ Refused). ListsBetween n out put marks a b c list (list_left_of l n out put marks a b c list) count) (sym h) (by t same h)
     where
-      whole : list_tested (Points n) out put marks a b c (places_of list) ≡ listing.Pairs count →
+      whole : list_tested (Ok n) out put marks a b c (places_of list) ≡ Ok count →
           ListsBetween n out put marks a b c list (bytes16 (numbers_of (pairs_at n out put marks a b c)) ++ drop (4 * count) list) count
       whole z =
           let z1 = answered (fits n a b (splits c 0)) _ _ _ not_pairs z in
           let z2 = answered (unstruck_in n marks a b) _ _ _ not_pairs z1.1 in
           let z3 = answered (leb (2 * length (pairs_at n out put marks a b c)) (places_of list)) _ _ _ not_pairs z2.1 in
-          let found : listing.Pairs (length (pairs_at n out put marks a b c)) ≡ listing.Pairs count = z3.1 in
+          let found : Ok (length (pairs_at n out put marks a b c)) ≡ Ok count = z3.1 in
           let counted : count ≡ length (pairs_at n out put marks a b c) = cc in
           pairs_written list count (pairs_feasible z1.0) counted (omega (arith, leb-true (2 * length (pairs_at n out put marks a b c)) (places_of list) z3.0))
 
-      by : (t : Tested) → ((m : ℕ) → t ≡ Points m → m ≡ n) → list_tested t out put marks a b c (places_of list) ≡ listing.Pairs count →
+      by : (t : Result ℕ Refusal) → ((m : ℕ) → t ≡ Ok m → m ≡ n) → list_tested t out put marks a b c (places_of list) ≡ Ok count →
           ListsBetween n out put marks a b c list (bytes16 (numbers_of (pairs_at n out put marks a b c)) ++ drop (4 * count) list) count
-      by (Refused number) e z = absurd (not_pairs z)
-      by (Points m) e z = whole (subst (λ (k : ℕ). list_tested (Points k) out put marks a b c (places_of list) ≡ listing.Pairs count) (e m refl) z)
+      by (Err number) e z = absurd (not_pairs z)
+      by (Ok m) e z = whole (subst (λ (k : ℕ). list_tested (Ok k) out put marks a b c (places_of list) ≡ Ok count) (e m refl) z)
 
   tested_count : fits n a b (splits c 0) ≡ true → unstruck_in n marks a b ≡ true → (pairs : List Edge) → NamesFeasible (rules_where n out put (unstruck_in n marks)) (edge a b ∷ []) c pairs →
-      (size : ℕ) → list_tested (Points n) out put marks a b c size ≡ unless (leb (2 * length pairs) size) (listing.Refused 18 0) (listing.Pairs (length pairs))
+      (size : ℕ) → list_tested (Ok n) out put marks a b c size ≡ unless (leb (2 * length pairs) size) (refuse refusal.List) (Ok (length pairs))
   unfolding pairs_at
   tested_count f o pairs named size =
       let p = fits_means n a b (splits c 0) f in
@@ -96,18 +97,18 @@ module _ (n : ℕ) (table marks : List ℕ) (a b c : ℕ) where
   -- DEMAND 2 for *list pairs*: where a call answers a count, its list begins with the pairs that are feasible under
   -- {ab} at c, each once, rising, x then y for each, and nothing past them changed. What the search finds is the list
   -- of the feasible pairs, since {ab} is a set that an argument comes to.
-  pub demand_2_list : (list : List ℕ) (count : ℕ) → listed n table marks a b c (places_of list) ≡ listing.Pairs count →
+  pub demand_2_list : (list : List ℕ) (count : ℕ) → listed n table marks a b c (places_of list) ≡ Ok count →
       ListsFeasible n table marks a b c list (list_left_of (listed n table marks a b c (places_of list)) n table table marks a b c list) count
   unfolding listed
   demand_2_list = tested_list n table table marks a b c (tested n table marks) (λ m e. (passed e).same)
 
   -- and what a call answers that passes tests 1 to 12: 18 where the list has fewer than twice as many places as there
   -- are feasible pairs, else their number. Only one list has exactly the feasible pairs, rising (`named_list`).
-  pub demand_2_count : tested n table marks ≡ Points n → fits n a b (splits c 0) ≡ true → unstruck_in n marks a b ≡ true → (pairs : List Edge) → NamesFeasible (rules_where n table table (unstruck_in n marks)) (edge a b ∷ []) c pairs →
-      (size : ℕ) → listed n table marks a b c size ≡ unless (leb (2 * length pairs) size) (listing.Refused 18 0) (listing.Pairs (length pairs))
+  pub demand_2_count : tested n table marks ≡ Ok n → fits n a b (splits c 0) ≡ true → unstruck_in n marks a b ≡ true → (pairs : List Edge) → NamesFeasible (rules_where n table table (unstruck_in n marks)) (edge a b ∷ []) c pairs →
+      (size : ℕ) → listed n table marks a b c size ≡ unless (leb (2 * length pairs) size) (refuse refusal.List) (Ok (length pairs))
   unfolding listed
   demand_2_count t f o pairs named size =
-      ap (λ (r : Tested). list_tested r table table marks a b c size) t ∙ tested_count n table table marks a b c f o pairs named size
+      ap (λ (r : Result ℕ Refusal). list_tested r table table marks a b c size) t ∙ tested_count n table table marks a b c f o pairs named size
 
 -- and over two tables: the pairs are those that are feasible over low and high
 module _ (n : ℕ) (low high marks : List ℕ) (a b c : ℕ) where
@@ -115,16 +116,16 @@ module _ (n : ℕ) (low high marks : List ℕ) (a b c : ℕ) where
   -- feasible under {ab} at c where what is taken out counts low and what is put in counts high, each once, rising, x
   -- then y for each, and nothing past them changed. The rules over two tables are lawful like those over one, and what
   -- the search finds is the list of their feasible pairs.
-  pub demand_2_list_between : (list : List ℕ) (count : ℕ) → listed_between n low high marks a b c (places_of list) ≡ listing.Pairs count →
+  pub demand_2_list_between : (list : List ℕ) (count : ℕ) → listed_between n low high marks a b c (places_of list) ≡ Ok count →
       ListsBetween n low high marks a b c list (list_left_of (listed_between n low high marks a b c (places_of list)) n low high marks a b c list) count
   unfolding listed_between
   demand_2_list_between = tested_list n low high marks a b c (tested_between n low high marks) (λ m e. (passed_between e).same)
 
   -- and what a call answers that passes tests 1 to 12, 25 among them: 18 where the list has fewer than twice as many
   -- places as there are such pairs, else their number
-  pub demand_2_count_between : tested_between n low high marks ≡ Points n → fits n a b (splits c 0) ≡ true → unstruck_in n marks a b ≡ true →
+  pub demand_2_count_between : tested_between n low high marks ≡ Ok n → fits n a b (splits c 0) ≡ true → unstruck_in n marks a b ≡ true →
       (pairs : List Edge) → NamesFeasible (rules_where n low high (unstruck_in n marks)) (edge a b ∷ []) c pairs →
-      (size : ℕ) → listed_between n low high marks a b c size ≡ unless (leb (2 * length pairs) size) (listing.Refused 18 0) (listing.Pairs (length pairs))
+      (size : ℕ) → listed_between n low high marks a b c size ≡ unless (leb (2 * length pairs) size) (refuse refusal.List) (Ok (length pairs))
   unfolding listed_between
   demand_2_count_between t f o pairs named size =
-      ap (λ (r : Tested). list_tested r low high marks a b c size) t ∙ tested_count n low high marks a b c f o pairs named size
+      ap (λ (r : Result ℕ Refusal). list_tested r low high marks a b c size) t ∙ tested_count n low high marks a b c f o pairs named size

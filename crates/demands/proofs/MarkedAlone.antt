@@ -8,6 +8,9 @@ use mathlib.Core.List.{List}
 use native.Mathlib.Omega.{arith}
 use lib.Dec.{eqb, ltb}
 use lib.ListN.{length, set}
+use Rattle.std.specs.Prelude.{Option, Some, None, Result, Ok, Err}
+use Rattle.lengths.specs.declared.refusal.Refusal.{Refusal}
+use Rattle.lengths.specs.Refusal.{refuse}
 use Rattle.lists.specs.Test.{unless}
 use Rattle.endian.specs.Bytes.{whole16, whole32}
 use Rattle.marks.specs.Mark.{struck_mark}
@@ -15,14 +18,8 @@ use Rattle.marks.specs.Packed.{marks_of}
 use Rattle.argument.specs.Verdict.{refused}
 use Rattle.sheets.specs.Sheet.{whole_sheet}
 use Rattle.admission.specs.Tests.{ready}
-use Rattle.admission.specs.declared.tested.Tested.{Tested}
-use Rattle.admission.specs.declared.tested.Tested.TheVariants as tests
-use Rattle.desks.specs.HandIn.{is_desk, until_sheet, tested_sheet, hand_in_answer, hand_in_by, hand_in_left}
+use Rattle.desks.specs.HandIn.{hand_in_answer, hand_in_by, hand_in_left}
 use Rattle.desks.specs.State.{state_bytes, lent, next_index, owner, lines_at, set_desk, has_line, next_desk}
-use Rattle.desks.specs.declared.handing.Handed.{Handed}
-use Rattle.desks.specs.declared.handing.Handed.TheVariants as handed
-use Rattle.desks.specs.declared.state.Next.{Next}
-use Rattle.desks.specs.declared.state.Next.TheVariants as next
 use Rattle.desks.proofs.DeskNumbers.{desk_length, desk_other, apart, served_length, served_other}
 use Rattle.desks.proofs.RoundRobin.{next_found}
 use Rattle.revosti.specs.Desk.{handed_number, desk_bit}
@@ -36,11 +33,11 @@ use Rattle.demands.proofs.Fair.{found_asked, state_served, turn_nothing_left, ha
 use Rattle.demands.proofs.Fair as fair
 use Rattle.demands.proofs.Receipts.{marked_receipt}
 use Rattle.demands.proofs.OwnTurns.{sheet_passed, Going, Gone, going_line, goes, going_start}
-use Rattle.demands.proofs.TestNumbers.{ready_number}
+use Rattle.revosti.proofs.RefusalNumbers.{number_within}
 
 -- the desk d with its n, the table and the sheet as bytes, the packed set at handing in, and that the sheet passed its
 -- tests
-module _ (d n : ℕ) (table set₀ s : List ℕ) (tests-passed : ready n (whole32 table) (marks_of n set₀) ≡ tests.Points n)
+module _ (d n : ℕ) (table set₀ s : List ℕ) (tests-passed : ready n (whole32 table) (marks_of n set₀) ≡ Ok n)
     (whole : whole_sheet (length (whole16 s)) ≡ true) where
   abbrev Goes : ℕ → Seen → Type 0
   Goes = Going d n table set₀ s tests-passed whole
@@ -101,17 +98,17 @@ module _ (d n : ℕ) (table set₀ s : List ℕ) (tests-passed : ready n (whole3
           counted = desk_other a 1 0 0 (3 * d) (apart (3 * d) (omega arith) (omega arith) other);
         }
 
-    turn_stays : (state : List ℕ) → state_bytes ≤ length state → (next_desk state ≡ next.Desk d → ⊥) → (b : Buffers) →
+    turn_stays : (state : List ℕ) → state_bytes ≤ length state → (next_desk state ≡ Some d → ⊥) → (b : Buffers) →
         Stays state (state_after (turning b) state)
     turn_stays state room other b = by (next_desk state) refl
       where
-        by : (m : Next) → next_desk state ≡ m → Stays state (state_after (turning b) state)
-        by next.NoLine e = subst (Stays state) (sym (turn_nothing_left state room b e))
+        by : (m : Option ℕ) → next_desk state ≡ m → Stays state (state_after (turning b) state)
+        by None e = subst (Stays state) (sym (turn_nothing_left state room b e))
             (record { room = room; index = refl; last = refl; counted = refl })
-        by (next.Desk m) e =
+        by (Some m) e =
             let a = found_asked room e in
             let t = state_served state room b e in
-            let else : d ≡ m → ⊥ = λ z. other (e ∙ ap next.Desk (sym z)) in
+            let else : d ≡ m → ⊥ = λ z. other (e ∙ ap Some (sym z)) in
             subst (Stays state) (sym t.1)
             (record {
               room = omega (arith, served_length a t.0, room);
@@ -135,42 +132,9 @@ module _ (d n : ℕ) (table set₀ s : List ℕ) (tests-passed : ready n (whole3
         (λ h. absurd (true≢false (sym (next_found x.state mine).left ∙ h.free))) (happens g m)
 
 -- an answer 0 of `revosti_hand_in` is that the sheet is taken: no refusal has the number 0
-
-either : {A : Type 0} (P : A → Type 0) (b : Bool) {refusal rest : A} → P refusal → P rest → P (unless b refusal rest)
-either P true r t = t
-either P false r t = r
-
-abbrev NumberedTest : Tested → Type 0
-NumberedTest (tests.Points n) = Unit {0}
-NumberedTest (tests.Refused k) = 1 ≤ k
-
-abbrev Numbered : Handed → Type 0
-Numbered handed.Done = Unit {0}
-Numbered (handed.Refused k) = 1 ≤ k
-
-ready_numbered : (n : ℕ) (table marks : List ℕ) → NumberedTest (ready n table marks)
-ready_numbered n table marks = by (ready n table marks) refl
-  where
-    by : (t : Tested) → ready n table marks ≡ t → NumberedTest t
-    by (tests.Points p) e = tt
-    by (tests.Refused k) e = ready_number (λ j. 1 ≤ j) (omega arith) (omega arith) (omega arith) (omega arith) (omega arith) n table marks k e
-
-hand_in_numbered : (state : List ℕ) (d n : ℕ) (table marks s : List ℕ) → Numbered (hand_in_answer state d n table marks s)
-unfolding hand_in_answer tested_sheet
-hand_in_numbered state d n table marks s =
-    either Numbered (lent state) (omega arith)
-    (either Numbered (is_desk d) (omega arith)
-    (either Numbered (not (has_line state d)) (omega arith)
-    (by (ready n table marks) (ready_numbered n table marks))))
-  where
-    by : (t : Tested) → NumberedTest t → Numbered (until_sheet t s)
-    by (tests.Refused k) h = h
-    by (tests.Points p) h = either Numbered (whole_sheet (length s)) (omega arith) tt
-
-done_at_0 : (r : Handed) → Numbered r → handed_number r ≡ 0 → r ≡ handed.Done
-unfolding handed_number
-done_at_0 handed.Done h e = refl
-done_at_0 (handed.Refused k) h e = absurd (omega arith)
+done_at_0 : (r : Result Unit Refusal) → handed_number r ≡ 0 → r ≡ Ok tt
+done_at_0 (Ok done) e = refl
+done_at_0 (Err k) e = absurd (omega (arith, e, number_within k))
 
 -- MARKED ALONE: let `revosti_hand_in` answer 0 for the desk d with n, table, marks and sheet, from any state of any
 -- bytes, and let any list of turns and handings-in follow, of any desks and with any buffers, of d itself with its own
@@ -193,18 +157,17 @@ pub marked_alone : (state : List ℕ) (d n : ℕ) (table set s : List ℕ) →
     MarkedAlone d n table set s turns x
 unfolding hand_in_left
 marked_alone state d n table set s e {turns} {x} m =
-    let done = done_at_0 (hand_in_answer state d n (whole32 table) (marks_of n set) (whole16 s))
-    (hand_in_numbered state d n (whole32 table) (marks_of n set) (whole16 s)) e in
+    let done = done_at_0 (hand_in_answer state d n (whole32 table) (marks_of n set) (whole16 s)) e in
     let h = handed_over state d n (whole32 table) (marks_of n set) (whole16 s) done in
     let p = sheet_passed n (whole32 table) (marks_of n set) (whole16 s) h.passed in
     let from : hand_in_left state d n (whole32 table) (marks_of n set) (whole16 s) ≡ set_desk state d 1 0 0 = ap
-    (λ (r : Handed). hand_in_by r state d) done in
+    (λ (r : Result Unit Refusal). hand_in_by r state d) done in
     told p.0 p.1
     (happens d n table set s p.0 p.1 h.asked.low
     (subst (λ (y : List ℕ). Going d n table set s p.0 p.1 0 (record { state = y; set = set; answer = 0 })) (sym from)
     (going_start state d n table set s p.0 p.1 h.asked)) m)
   where
-    told : (p : ready n (whole32 table) (marks_of n set) ≡ tests.Points n) (w : whole_sheet (length (whole16 s)) ≡ true)
+    told : (p : ready n (whole32 table) (marks_of n set) ≡ Ok n) (w : whole_sheet (length (whole16 s)) ≡ true)
         → Going d n table set s p w turns x ⊎ Gone d n table set s p w turns x → MarkedAlone d n table set s turns x
     told p w (inl g) =
         record {
@@ -225,7 +188,6 @@ marked_alone state d n table set s e {turns} {x} m =
 
 -- a slip does not read the bits above its own
 receipt_above : (k j : ℕ) → receipt_in (k + above_receipt * j) ≡ receipt_in k
-unfolding receipt_in
 receipt_above k j =
     receipt_same (omega arith) (omega arith) (omega arith)
     (ap (λ (b : ℕ). eqb b 1) (let e : (k + above_receipt * j) / released_bit % 2 ≡ k / released_bit % 2 = omega arith in e))

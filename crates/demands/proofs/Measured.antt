@@ -8,19 +8,20 @@ use native.Mathlib.Omega.{arith}
 use lib.Dec.{eqb}
 use lib.ListN.{length}
 use borrow.Author.Tests.{eqb-true}
+use Rattle.std.specs.Prelude.{Some, Result, Ok, Err, is_some}
+use Rattle.lengths.specs.declared.refusal.Refused.{Refused}
 use Rattle.endian.specs.Bytes.{whole32}
 use Rattle.lengths.specs.Distance.{squares, distance_by, gap_distance, bisect, passes, rule_of}
 use Rattle.lengths.specs.Edge.{Point, edge_count}
 use Rattle.lengths.specs.Instance.{most_coordinate, most_squares, in_range}
-use Rattle.lengths.specs.Measure.{x_of, y_of, gap_of, x_gap, y_gap, edge_distance, measured_table, known, measured, table_after}
+use Rattle.lengths.specs.Measure.{x_of, y_of, gap_of, x_gap, y_gap, edge_distance, measured_table, measured, table_after}
 use Rattle.lengths.specs.Table.{length_of}
 use Rattle.lists.specs.Test.{all_at_most, AtMost, unless}
-use Rattle.lengths.specs.declared.distance.NamedRule.TheVariants.{Known}
 use Rattle.lengths.specs.declared.distance.Root.TheVariants.{Euc2d, Ceil2d, Att}
 use Rattle.lengths.specs.declared.distance.Rule.{Rule}
 use Rattle.lengths.specs.declared.distance.Rule.TheVariants.{Rooted, Man2d, Max2d}
-use Rattle.lengths.specs.declared.outcome.Outcome.{Outcome}
-use Rattle.lengths.specs.declared.outcome.Outcome.TheVariants.{Done, Refused}
+use Rattle.lengths.specs.Refusal.{refusal_number}
+use Rattle.revosti.proofs.RefusalNumbers.{number_within}
 use Rattle.lengths.proofs.Coordinates.{x_small, y_small, squares_small}
 use Rattle.lengths.proofs.Distances.{distance_euc2d, euc2d_only, distance_ceil2d, ceil2d_only, distance_att, att_only, distance_man2d, man2d_only, distance_max2d, max2d_only}
 use Rattle.lengths.proofs.Filling.{length_measured, measured_again, measured-length}
@@ -32,7 +33,7 @@ use Rattle.revosti.specs.Outcome.{outcome_number}
 use Rattle.demands.specs.Measured.{IsDistance, Measures}
 use Rattle.lists.proofs.Tests.{answered}
 
-not_done : {number rec : ℕ} → Refused number rec ≡ Done → ⊥
+not_done : {r : Refused} → ◌≡◌ {A = Result (Unit {0}) Refused} (Err r) (Ok tt) → ⊥
 not_done e = let z : ◌≡◌ {A = ℕ} 0 1 = cc in omega arith
 
 -- 01's number of a rule
@@ -46,10 +47,10 @@ number_of Max2d = 5
 -- a number that names a rule is that rule's
 record Named (number : ℕ) : Type 0 where
   pub rule : Rule
-  pub known : rule_of number ≡ Known rule
+  pub known : rule_of number ≡ Some rule
   pub same : number ≡ number_of rule
 
-rule_named : (number : ℕ) → known (rule_of number) ≡ true → Named number
+rule_named : (number : ℕ) → is_some (rule_of number) ≡ true → Named number
 unfolding rule_of number_of
 rule_named number h = by (eqb number 1) (eqb number 2) (eqb number 3) (eqb number 4) (eqb number 5) refl refl refl refl refl
   where
@@ -129,14 +130,14 @@ module _ (n : ℕ) (cs : List ℕ) (p : Surveyed n cs) where
 -- DEMAND 2 for *measure*: in the table whose bytes a call leaves where it refuses nothing, the length between any two
 -- points is the d that 01's rule of this number gives for their coordinates, and nothing else is. The tests on n and
 -- the coordinates keep S within the limit that the rules' theorems ask.
-pub demand_2_measure : (n rule : ℕ) (cs table : List ℕ) → measured n rule cs (length (whole32 table)) ≡ Done → Measures n rule cs (whole32 (table_after n rule cs table))
+pub demand_2_measure : (n rule : ℕ) (cs table : List ℕ) → measured n rule cs (length (whole32 table)) ≡ Ok tt → Measures n rule cs (whole32 (table_after n rule cs table))
 unfolding measured table_after
 demand_2_measure n rule cs table h =
-    let z1 = answered (in_range n) _ _ Done not_done h in
-    let z2 = answered (eqb (length cs) (2 * n)) _ _ Done not_done z1.1 in
-    let z3 = answered (eqb (length (whole32 table)) (edge_count n)) _ _ Done not_done z2.1 in
-    let z4 = answered (known (rule_of rule)) _ _ Done not_done z3.1 in
-    let z5 = answered (all_at_most most_coordinate cs) _ _ Done not_done z4.1 in
+    let z1 = answered (in_range n) _ _ (Ok tt) not_done h in
+    let z2 = answered (eqb (length cs) (2 * n)) _ _ (Ok tt) not_done z1.1 in
+    let z3 = answered (eqb (length (whole32 table)) (edge_count n)) _ _ (Ok tt) not_done z2.1 in
+    let z4 = answered (is_some (rule_of rule)) _ _ (Ok tt) not_done z3.1 in
+    let z5 = answered (all_at_most most_coordinate cs) _ _ (Ok tt) not_done z4.1 in
     by (record { some = omega (arith, (range_admits n z1.0).least); small = at_most_each most_coordinate cs z5.0 }) (rule_named rule z4.0)
   where
     by : Surveyed n cs → Named rule → Measures n rule cs (whole32 (table_after n rule cs table))
@@ -146,21 +147,9 @@ demand_2_measure n rule cs table h =
 -- number above 0.
 pub demand_2_measure_in_c : {n rule : ℕ} {cs table left : List ℕ} {r : ℕ} → MeasuredInC n rule cs table r left → r ≡ 0
     → Measures n rule cs (whole32 left)
-unfolding measured outcome_number
 demand_2_measure_in_c {n} {rule} {cs} {table} m z =
-    let size = length (whole32 table) in
-    rw m.table-left
-    (demand_2_measure n rule cs table
-    (by (in_range n) (eqb (length cs) (2 * n)) (eqb size (edge_count n)) (known (rule_of rule)) (all_at_most most_coordinate cs) (sym m.answered ∙ z)))
+    rw m.table-left (demand_2_measure n rule cs table (done (measured n rule cs (length (whole32 table))) (sym m.answered ∙ z)))
   where
-    answer : (a b c d e : Bool) → Outcome
-    answer a b c d e =
-        unless a (Refused 1 0) (unless b (Refused 2 0) (unless c (Refused 2 0) (unless d (Refused 3 0) (unless e (Refused 4 0) Done))))
-
-    by : (a b c d e : Bool) → outcome_number (answer a b c d e) ≡ 0 → answer a b c d e ≡ Done
-    by false b c d e h = absurd (omega arith)
-    by true false c d e h = absurd (omega arith)
-    by true true false d e h = absurd (omega arith)
-    by true true true false e h = absurd (omega arith)
-    by true true true true false h = absurd (omega arith)
-    by true true true true true h = refl
+    done : (r : Result Unit Refused) → outcome_number r ≡ 0 → r ≡ Ok tt
+    done (Ok over) h = refl
+    done (Err r) h = absurd (omega (arith, h, number_within r.refusal))

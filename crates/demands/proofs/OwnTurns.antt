@@ -9,7 +9,9 @@ use native.Mathlib.Decide.{dec_le, ℕ_discrete}
 use native.Mathlib.Omega.{arith}
 use lib.ListN.{length, get_or, set, length-set}
 use lib.Seq.{get_or-set_same, get_or-set_other}
-use borrow.Author.Tests.{eq-eqb, lt-ltb, le-ltb}
+use borrow.Author.Tests.{eq-eqb, ne_eqb, le-leb, lt-leb, lt-ltb, le-ltb}
+use Rattle.std.specs.Prelude.{Some, None, Result as Outcome, Ok, Err}
+use Rattle.lengths.specs.declared.refusal.Refusal.{Refusal}
 use Rattle.lists.proofs.Tests.{answered}
 use Rattle.endian.specs.Bytes.{whole16, whole32}
 use Rattle.lengths.specs.Edge.{edge_count, place}
@@ -29,29 +31,18 @@ use Rattle.argument.proofs.Safe.{step_keeps}
 use Rattle.argument.proofs.Sheet.{step_over, step_8, step_9, step_stops, step_strikes, step_rises, lines_over, lines_stop, lines_go_on}
 use Rattle.sheets.specs.Rules.{marking_of}
 use Rattle.sheets.specs.Sheet.{whole_sheet, most_records}
-use Rattle.sheets.specs.Verdict.{result_of}
-use Rattle.sheets.specs.declared.verdict.Verdict as declared
-use Rattle.sheets.specs.declared.verdict.Verdict.TheVariants as verdict
 use Rattle.sheets.proofs.Records.{sheet_records}
-use Rattle.marking.specs.Mark.{mark_by, repack, mark_packed_by}
+use Rattle.marking.specs.Mark.{until_sheet, tested_sheet, mark_by, repack, mark_packed_by}
 use Rattle.admission.specs.Tested.{mark_tests}
 use Rattle.admission.specs.Tests.{tested_table, until_marks, until_pending, tested, ready}
-use Rattle.admission.specs.declared.tested.Tested.{Tested}
-use Rattle.admission.specs.declared.tested.Tested.TheVariants as tests
 use Rattle.marking.proofs.MarkingSheets.{struck-set}
 use Rattle.admission.proofs.Deciding.{until_passed}
 use Rattle.admission.proofs.Passed.{both_passed, passed_well, passed, ready_tested}
-use Rattle.desks.specs.HandIn.{until_sheet, tested_sheet}
+use Rattle.marking.specs.declared.mark.Passed.{Passed}
 use Rattle.desks.specs.State.{state_bytes, next_index, owner, lines_at, set_desk, has_line, next_desk}
-use Rattle.desks.specs.Turn.{DeskTurn, served_of, waiting, ahead, step_served, turn_from, turn_marks, repack_desk_turn, turn_packed, served_left, Turn}
+use Rattle.desks.specs.Turn.{DeskSheet, waits, ended, DeskTurn, turn_to, waiting, ahead, step_served, turn_from, turn_marks, repack_desk_turn, turn_packed, served_left, Turn}
 use Rattle.desks.specs.asks.State.{DeskAsked}
-use Rattle.desks.specs.declared.handing.Handed.TheVariants as handed
-use Rattle.desks.specs.declared.state.Next.TheVariants as next
-use Rattle.desks.specs.declared.turn.Served.{Served}
-use Rattle.desks.specs.declared.turn.Served.TheVariants as served
-use Rattle.desks.specs.declared.turn.Turned.TheVariants as turned
 use Rattle.desks.proofs.DeskNumbers.{desk_length, desk_index, desk_owner, desk_lines, served_length, served-number}
-use Rattle.desks.proofs.TurnAnswers.{ahead_ends, ahead_8, ahead_9, ahead_waits}
 use Rattle.revosti.specs.Desk.{desk_bit, line_left_bit, served_number, turn_in_c, turned_number}
 use Rattle.revosti.specs.Mark.{result_number, mark_in_c}
 use Rattle.demands.specs.Desks.{Seen, EndedAlone}
@@ -61,28 +52,28 @@ use Rattle.demands.proofs.Lawful.{lawful_between}
 -- the tests of a sheet
 
 -- what a sheet that passed them says
-pub sheet_passed : (n : ℕ) (table marks s : List ℕ) → tested_sheet n table marks s ≡ handed.Done →
-    (ready n table marks ≡ tests.Points n) × (whole_sheet (length s) ≡ true)
+pub sheet_passed : (n : ℕ) (table marks s : List ℕ) {passed-as : Passed} → tested_sheet n table marks s ≡ Ok passed-as →
+    (ready n table marks ≡ Ok n) × (whole_sheet (length s) ≡ true)
 unfolding tested_sheet
-sheet_passed n table marks s = by (ready n table marks) refl
+sheet_passed n table marks s {passed-as} = by (ready n table marks) refl
   where
-    not_done : {k : ℕ} → handed.Refused k ≡ handed.Done → ⊥
+    not_done : {k : Refusal} → ◌≡◌ {A = Outcome Passed Refusal} (Err k) (Ok passed-as) → ⊥
     not_done e = let z : ◌≡◌ {A = ℕ} 0 1 = cc in omega arith
 
-    by : (t : Tested) → ready n table marks ≡ t → until_sheet t s ≡ handed.Done →
-        (ready n table marks ≡ tests.Points n) × (whole_sheet (length s) ≡ true)
-    by (tests.Refused k) e h = absurd (not_done h)
-    by (tests.Points p) e h =
-        (e ∙ ap tests.Points (passed (ready_tested e).tests).same, (answered (whole_sheet (length s)) _ _ handed.Done not_done h).0)
+    by : (t : Outcome ℕ Refusal) → ready n table marks ≡ t → until_sheet t s ≡ Ok passed-as →
+        (ready n table marks ≡ Ok n) × (whole_sheet (length s) ≡ true)
+    by (Err k) e h = absurd (not_done h)
+    by (Ok p) e h =
+        (e ∙ ap Ok (passed (ready_tested e).tests).same, (answered (whole_sheet (length s)) _ _ (Ok passed-as) not_done h).0)
 
 -- marks of n points with nothing pending pass them again
-ready_again : (n : ℕ) (table marks left : List ℕ) → ready n table marks ≡ tests.Points n → ByteSet n left → none_pending left ≡ true →
-    ready n table left ≡ tests.Points n
+ready_again : (n : ℕ) (table marks left : List ℕ) → ready n table marks ≡ Ok n → ByteSet n left → none_pending left ≡ true →
+    ready n table left ≡ Ok n
 unfolding ready tested
 ready_again n table marks left h b none =
     let t = (until_passed (tested_table n table) (mark_tests marks) (ready_tested {table = table} {marks = marks} h).tests).0 in
-    let again : until_pending (until_marks (tests.Points n) left) left ≡ tests.Points n = rw (eq-eqb (length left) (edge_count n) b.size, b.are, none) in
-    ap (λ (x : Tested). until_pending (until_marks x left) left) t ∙ again
+    let again : until_pending (until_marks (Ok n) left) left ≡ Ok n = rw (eq-eqb (length left) (edge_count n) b.size, b.are, none) in
+    ap (λ (x : Outcome ℕ Refusal). until_pending (until_marks x left) left) t ∙ again
 
 -- a struck edge leaves nothing pending
 none_struck : (n : ℕ) (marks : List ℕ) (a b : ℕ) → none_pending marks ≡ true → none_pending (mark_in struck_mark n marks a b) ≡ true
@@ -117,9 +108,29 @@ struck_same : {M : Type 0} (𝓜 : Marking M) (q : Place M) (x : Struck) →
 unfolding struck
 struck_same 𝓜 q (strikes a b next high) = refl
 
+-- how the next index of an accepted line is looked at
+module _ (count index owner high lines : ℕ) where
+  ahead_ends : index ≡ 0 → ended lines (accepted tt) ≡ ahead count index owner high lines
+  unfolding ahead
+  ahead_ends e = rw (ahead, eq-eqb index 0 e)
+
+  module _ (some : index ≡ 0 → ⊥) where
+    ahead_8 : count < index → ended lines (refused 8 owner) ≡ ahead count index owner high lines
+    unfolding ahead
+    ahead_8 h = rw (ahead, ne_eqb index 0 some, lt-leb index count (omega arith))
+
+    module _ (within : index ≤ count) where
+      ahead_9 : index ≤ high → ended lines (refused 9 owner) ≡ ahead count index owner high lines
+      unfolding ahead
+      ahead_9 h = rw (ahead, ne_eqb index 0 some, le-leb index count (omega arith), le-ltb high index (omega arith))
+
+      ahead_waits : high < index → waits index owner lines ≡ ahead count index owner high lines
+      unfolding ahead
+      ahead_waits h = rw (ahead, ne_eqb index 0 some, le-leb index count (omega arith), lt-ltb high index (omega arith))
+
 -- THE DESK'S OWN SHEET. From here on: the desk d, its n, the table and the sheet as bytes, the packed set at handing
 -- in, and that the sheet passed its tests.
-module _ (d n : ℕ) (table set₀ s : List ℕ) (tests-passed : ready n (whole32 table) (marks_of n set₀) ≡ tests.Points n)
+module _ (d n : ℕ) (table set₀ s : List ℕ) (tests-passed : ready n (whole32 table) (marks_of n set₀) ≡ Ok n)
     (whole : whole_sheet (length (whole16 s)) ≡ true) where
   abbrev pub 𝓜 : Marking (List ℕ)
   𝓜 = marking_of n (whole32 table)
@@ -144,7 +155,7 @@ module _ (d n : ℕ) (table set₀ s : List ℕ) (tests-passed : ready n (whole3
   -- a turn over marks with nothing pending passes the tests again, and marks a line
   line_here : (m : List ℕ) (i o l : ℕ) → ByteSet n m → none_pending m ≡ true →
       turn_packed n (whole32 table) (packed m) (whole16 s) i o l
-      ≡ served_of (turn_from 𝓜 (whole16 s) (waiting m i o l)).served (packed (turn_from 𝓜 (whole16 s) (waiting m i o l)).marks)
+      ≡ turn_to (turn_from 𝓜 (whole16 s) (waiting m i o l)).served (packed (turn_from 𝓜 (whole16 s) (waiting m i o l)).marks)
   unfolding turn_packed turn_marks repacked
   line_here m i o l b none =
       ap (λ (y : List ℕ). repack_desk_turn n (packed m) (turn_marks n (whole32 table) y (whole16 s) i o l)) (marks_packed b)
@@ -183,7 +194,7 @@ module _ (d n : ℕ) (table set₀ s : List ℕ) (tests-passed : ready n (whole3
       (omega (arith, g.counted, g.index, g.all_lines, g.low, g.above))
 
   -- d is served
-  module _ {k : ℕ} {x : Seen} (g : Going k x) (mine : next_desk x.state ≡ next.Desk d) where
+  module _ {k : ℕ} {x : Seen} (g : Going k x) (mine : next_desk x.state ≡ Some d) where
     abbrev q : Place (List ℕ)
     q = g.place
 
@@ -204,7 +215,7 @@ module _ (d n : ℕ) (table set₀ s : List ℕ) (tests-passed : ready n (whole3
 
     -- so the turn is one line from where the desk waits
     turn_here : turn_packed n (whole32 table) x.set (whole16 s) (next_index x.state d) (owner x.state d) (lines_at x.state d)
-        ≡ served_of outcome.served (packed outcome.marks)
+        ≡ turn_to outcome.served (packed outcome.marks)
     turn_here =
         ap (λ (m : List ℕ). turn_packed n (whole32 table) m (whole16 s) (next_index x.state d) (owner x.state d)
         (lines_at x.state d)) g.marked
@@ -220,11 +231,11 @@ module _ (d n : ℕ) (table set₀ s : List ℕ) (tests-passed : ready n (whole3
     }
 
     turns_to : turn_in_c x.state n table x.set s ≡ record
-        { answer = turned.Desk d outcome.served; state = after.state; marks = after.set }
+        { answer = Ok (Some (record { desk = d; sheet = outcome.served })); state = after.state; marks = after.set }
     turns_to =
         turn-of x.state g.room mine x.set (turn_packed n (whole32 table) x.set (whole16 s))
         ∙ ap (λ (r : DeskTurn (List ℕ)). record
-        { answer = turned.Desk d r.served; state = served_left r.served x.state d; marks = r.marks }) turn_here
+        { answer = Ok (Some (record { desk = d; sheet = r.served })); state = served_left r.served x.state d; marks = r.marks }) turn_here
 
     abbrev pub seen : Seen
     seen = record {
@@ -234,33 +245,32 @@ module _ (d n : ℕ) (table set₀ s : List ℕ) (tests-passed : ready n (whole3
     }
 
     seen_after : seen ≡ after
-    unfolding turned_number
     seen_after = ap (λ (t : Turn). record { state = t.state; set = t.marks; answer = turned_number t.answer }) turns_to
 
     -- the sheet ends at the place p
-    gone : (v : declared.Verdict) (p : Place (List ℕ)) (w : Verdict (Unit {0})) → outcome ≡ served_of (served.Ended v) p.marks →
-        lines_from 𝓜 (whole16 s) q ≡ answer p w
-        → result_number (result_of v []) ≡ result_number (answer p w) → Gone (suc k) seen
-    unfolding served_number served_left result_number answer repacked has_line
-    gone v p w e l r =
+    gone : (p : Place (List ℕ)) (w : Verdict (Unit {0})) → outcome ≡ turn_to (ended p.lines w) p.marks →
+        lines_from 𝓜 (whole16 s) q ≡ answer p w → Gone (suc k) seen
+    unfolding served_left answer repacked has_line
+    gone p w e l =
+        let over : DeskSheet = ended p.lines w in
         let result : sheet 𝓜 (whole16 s) before ≡ answer p w = sym g.goes_on ∙ l in
         let to : mark_in_c struck_mark n table set₀ s ≡ repack n set₀ (answer p w) = alone ∙ ap (repack n set₀) result in
-        let state-as : after.state ≡ served_left (served.Ended v) x.state d = ap
+        let state-as : after.state ≡ served_left over x.state d = ap
         (λ (o : DeskTurn (List ℕ)). served_left o.served x.state d) e in
-        let zero-lines : lines_at (served_left (served.Ended v) x.state d) d ≡ 0
-        = served-number asked (served.Ended v) (3 * d) (omega (arith, asked.low)) ∙ desk_lines asked 0 0 0 in
-        let zero-index : next_index (served_left (served.Ended v) x.state d) d ≡ 0
-        = served-number asked (served.Ended v) (3 * d - 2) (omega (arith, asked.low)) ∙ desk_index asked 0 0 0 in
+        let zero-lines : lines_at (served_left over x.state d) d ≡ 0
+        = served-number asked over (3 * d) (omega (arith, asked.low)) ∙ desk_lines asked 0 0 0 in
+        let zero-index : next_index (served_left over x.state d) d ≡ 0
+        = served-number asked over (3 * d - 2) (omega (arith, asked.low)) ∙ desk_index asked 0 0 0 in
         let there : Gone (suc k) after
         = record {
           room = omega (arith, served_length asked outcome.served, g.room);
           free = ap (λ (y : List ℕ). has_line y d) state-as
-              ∙ le-ltb (lines_at (served_left (served.Ended v) x.state d) d) (next_index (served_left (served.Ended v) x.state d) d)
+              ∙ le-ltb (lines_at (served_left over x.state d) d) (next_index (served_left over x.state d) d)
               (omega (arith, zero-lines, zero-index));
           few = omega (arith, g.low, g.above, g.inside);
           ended = record {
             answered = ap (λ (o : DeskTurn (List ℕ)). served_number o.served + desk_bit * d) e
-                ∙ ap (λ (y : ℕ). y + desk_bit * d) (r ∙ ap result_number (sym to));
+                ∙ ap (λ (y : Result (List ℕ)). result_number y + desk_bit * d) (sym to);
             marked = ap (λ (o : DeskTurn (List ℕ)). packed o.marks) e ∙ sym (ap (λ (y : Result (List ℕ)). y.marks) to ∙ rw well);
           };
         } in
@@ -269,11 +279,11 @@ module _ (d n : ℕ) (table set₀ s : List ℕ) (tests-passed : ready n (whole3
     -- the line is refused
     stops : (number rec : ℕ) → judge (𝓜.rules q.marks) (𝓜.open? q.marks) (whole16 s) q.index ≡ refused number rec →
         Gone (suc k) seen
-    unfolding turn_from step_served result_number answer
+    unfolding turn_from step_served
     stops number rec j =
-        gone (verdict.Refused number rec q.lines) q (refused number rec)
+        gone q (refused number rec)
         (ap (step_served (whole16 s) q⁰) (step_stops 𝓜 (whole16 s) q⁰ entered⁰ number rec j))
-        (lines_stop 𝓜 (whole16 s) q number rec (step_stops 𝓜 (whole16 s) q entered number rec j)) refl
+        (lines_stop 𝓜 (whole16 s) q number rec (step_stops 𝓜 (whole16 s) q entered number rec j))
 
     -- the line is accepted, and leads to the place p
     module _ (y : Struck) (j : judge (𝓜.rules q.marks) (𝓜.open? q.marks) (whole16 s) q.index ≡ accepted y) where
@@ -286,18 +296,18 @@ module _ (d n : ℕ) (table set₀ s : List ℕ) (tests-passed : ready n (whole3
       goes_further : lines_from 𝓜 (whole16 s) q ≡ lines_from 𝓜 (whole16 s) p
       goes_further = lines_go_on 𝓜 (whole16 s) q p step_here
 
-      outcome_here : outcome ≡ served_of (ahead (records (whole16 s)) p.index p.last p.high p.lines) p.marks
+      outcome_here : outcome ≡ turn_to (ahead (records (whole16 s)) p.index p.last p.high p.lines) p.marks
       unfolding turn_from step_served
       outcome_here =
           ap (step_served (whole16 s) q⁰) (step_strikes 𝓜 (whole16 s) q⁰ entered⁰ y j)
-          ∙ ap (λ (z : Place (List ℕ)). served_of (ahead (records (whole16 s)) z.index z.last z.high z.lines) z.marks)
+          ∙ ap (λ (z : Place (List ℕ)). turn_to (ahead (records (whole16 s)) z.index z.last z.high z.lines) z.marks)
           (struck_same 𝓜 q y)
 
       -- its next index ends the sheet
-      ends_at : (v : declared.Verdict) (w : Verdict (Unit {0})) →
-          served.Ended v ≡ ahead (records (whole16 s)) p.index p.last p.high p.lines → lines_from 𝓜 (whole16 s) p ≡ answer p w
-          → result_number (result_of v []) ≡ result_number (answer p w) → Gone (suc k) seen
-      ends_at v w e l r = gone v p w (outcome_here ∙ ap (λ (z : Served). served_of z p.marks) (sym e)) (goes_further ∙ l) r
+      ends_at : (w : Verdict (Unit {0})) →
+          ended p.lines w ≡ ahead (records (whole16 s)) p.index p.last p.high p.lines → lines_from 𝓜 (whole16 s) p ≡ answer p w
+          → Gone (suc k) seen
+      ends_at w e l = gone p w (outcome_here ∙ ap (λ (z : DeskSheet). turn_to z p.marks) (sym e)) (goes_further ∙ l)
 
       struck_lines : (z : Struck) → (struck 𝓜 q z).lines ≡ suc q.lines
       unfolding struck
@@ -316,13 +326,13 @@ module _ (d n : ℕ) (table set₀ s : List ℕ) (tests-passed : ready n (whole3
               (whole16 s) (𝓜.open? q.marks) q.index a b next high e
 
       -- or another line waits
-      waits : served.Waits p.index p.last p.lines ≡ ahead (records (whole16 s)) p.index p.last p.high p.lines →
+      line_waits : waits p.index p.last p.lines ≡ ahead (records (whole16 s)) p.index p.last p.high p.lines →
           p.high < p.index → p.index ≤ records (whole16 s) → Going (suc k) seen
-      unfolding served_number served_left
-      waits e above inside =
-          let o : outcome ≡ served_of (served.Waits p.index p.last p.lines) p.marks = outcome_here
-          ∙ ap (λ (z : Served). served_of z p.marks) (sym e) in
-          let r : Served = served.Waits p.index p.last p.lines in
+      unfolding served_left
+      line_waits e above inside =
+          let o : outcome ≡ turn_to (waits p.index p.last p.lines) p.marks = outcome_here
+          ∙ ap (λ (z : DeskSheet). turn_to z p.marks) (sym e) in
+          let r : DeskSheet = waits p.index p.last p.lines in
           let state-as : after.state ≡ served_left r x.state d = ap (λ (z : DeskTurn (List ℕ)). served_left z.served x.state d) o in
           let rises = step_rises 𝓜 (whole16 s) q p step_here in
           let kept = step_keeps 𝓜 (λ (m : List ℕ). ByteSet n m × (none_pending m ≡ true))
@@ -356,24 +366,23 @@ module _ (d n : ℕ) (table set₀ s : List ℕ) (tests-passed : ready n (whole3
           subst (Going (suc k)) (sym seen_after) there
 
       accepts : Going (suc k) seen ⊎ Gone (suc k) seen
-      unfolding result_number answer
       accepts =
           let c : ℕ = records (whole16 s) in
           elim (ℕ_discrete p.index 0) [
             | yes z ↦ inr
-                (ends_at (verdict.Accepted p.lines) (accepted tt) (ahead_ends c p.index p.last p.high p.lines z)
-                (lines_over 𝓜 (whole16 s) p (step_over 𝓜 (whole16 s) p z)) refl)
+                (ends_at (accepted tt) (ahead_ends c p.index p.last p.high p.lines z)
+                (lines_over 𝓜 (whole16 s) p (step_over 𝓜 (whole16 s) p z)))
             | no z ↦ elim (dec_le p.index c) [
               | no h ↦ inr
-                  (ends_at (verdict.Refused 8 p.last p.lines) (refused 8 p.last)
+                  (ends_at (refused 8 p.last)
                   (ahead_8 c p.index p.last p.high p.lines z (omega arith))
-                  (lines_stop 𝓜 (whole16 s) p 8 p.last (step_8 𝓜 (whole16 s) p (omega arith))) refl)
+                  (lines_stop 𝓜 (whole16 s) p 8 p.last (step_8 𝓜 (whole16 s) p (omega arith))))
               | yes h ↦ elim (dec_le p.index p.high) [
                 | yes l ↦ inr
-                    (ends_at (verdict.Refused 9 p.last p.lines) (refused 9 p.last)
+                    (ends_at (refused 9 p.last)
                     (ahead_9 c p.index p.last p.high p.lines z h l)
-                    (lines_stop 𝓜 (whole16 s) p 9 p.last (step_9 𝓜 (whole16 s) p z h l)) refl)
-                | no l ↦ inl (waits (ahead_waits c p.index p.last p.high p.lines z h (omega arith)) (omega arith) h)
+                    (lines_stop 𝓜 (whole16 s) p 9 p.last (step_9 𝓜 (whole16 s) p z h l)))
+                | no l ↦ inl (line_waits (ahead_waits c p.index p.last p.high p.lines z h (omega arith)) (omega arith) h)
               ]
             ]
           ]
@@ -387,7 +396,7 @@ module _ (d n : ℕ) (table set₀ s : List ℕ) (tests-passed : ready n (whole3
         by (refused number rec) j = inr (stops number rec j)
 
 -- the first line of a sheet that is handed in waits
-pub going_start : (state : List ℕ) (d n : ℕ) (table set₀ s : List ℕ) (tests-passed : ready n (whole32 table) (marks_of n set₀) ≡ tests.Points n)
+pub going_start : (state : List ℕ) (d n : ℕ) (table set₀ s : List ℕ) (tests-passed : ready n (whole32 table) (marks_of n set₀) ≡ Ok n)
     (whole : whole_sheet (length (whole16 s)) ≡ true) → DeskAsked state d
     → Going d n table set₀ s tests-passed whole 0 (record { state = set_desk state d 1 0 0; set = set₀; answer = 0 })
 unfolding sheet start CompleteLines

@@ -10,77 +10,76 @@ use native.Mathlib.Omega.{arith}
 use lib.Dec.{leb}
 use lib.ListN.{length, take, drop}
 use lib.Seq.{take_at}
+use Rattle.std.specs.Prelude.{Result, Ok, Err}
+use Rattle.lengths.specs.Refusal.{refusal_number, refuse}
+use Rattle.lengths.specs.declared.refusal.Refusal.{Refusal}
+use Rattle.lengths.specs.declared.refusal.Refusal.TheVariants as why
 use Rattle.lists.specs.Test.{unless}
 use Rattle.endian.specs.Bytes.{whole32}
 use Rattle.marks.specs.Packed.{marks_of}
 use Rattle.marks.proofs.PackedSets.{whole_well, packed_marks}
 use Rattle.admission.specs.Tests.{tested}
-use Rattle.admission.specs.declared.tested.Tested.{Tested}
-use Rattle.admission.specs.declared.tested.Tested.TheVariants as tests
 use Rattle.admission.proofs.Passed.{passed}
 use Rattle.pages.specs.AllPages.{PageBuffers, read_into, read_pages}
 use Rattle.pages.specs.Page.{page_count, is_page, page_text}
 use Rattle.pages.specs.PageOf.{Printable, PageOf, WrongPage}
-use Rattle.pages.specs.Reading.{Passes, Tried, page_answer, table_after, set_after}
-use Rattle.pages.specs.Writing.{write_tested, write_answer, write_left}
-use Rattle.pages.specs.declared.reading.PageRead.{PageRead}
-use Rattle.pages.specs.declared.reading.PageRead.TheVariants as read
-use Rattle.pages.specs.declared.writing.Written.{Written}
-use Rattle.pages.specs.declared.writing.Written.TheVariants as written
+use Rattle.pages.specs.Reading.{Passes, Tried, PageRead, is_read, not_read, page_answer, table_after, set_after}
+use Rattle.pages.specs.Writing.{Written, write_tested, write_answer, write_left}
+use Rattle.pages.specs.declared.reading.PageRefused.{PageRefused}
 use Rattle.pages.proofs.PageAnswers.{Numbered, done, early, told, answer_numbered, read_exactly, told_exactly}
 use Rattle.pages.proofs.RoundTrips.{edges_there, pages_there, read_accepted, read_lengths, read_marks, all_lengths, all_packed}
-use Rattle.revosti.specs.Page.{written_number, page_read_number, WrittenInC, PageReadInC}
+use Rattle.revosti.specs.Outcome.{counted_number}
+use Rattle.revosti.specs.Page.{page_read_number, WrittenInC, PageReadInC}
 use Rattle.demands.specs.Pages.{Copied, CopiedTo, none, next, PageCopied}
-use Rattle.demands.proofs.Receipts.{tested_numbered}
+use Rattle.revosti.proofs.RefusalNumbers.{number_within}
 
 -- which answer of reading a number is
-number_done : {a : PageRead} → Numbered a → page_read_number a ≡ 0 → a ≡ read.Done
-unfolding page_read_number
+number_done : {a : PageRead} → Numbered a → page_read_number a ≡ 0 → a ≡ is_read
+unfolding refusal_number
 number_done done e = refl
 number_done (early k h g) e = absurd (omega (arith, e))
 number_done (told line) e = absurd (omega (arith, e))
 
-number_told : {a : PageRead} → Numbered a → (line : ℕ) → page_read_number a ≡ 27 + 256 * line → a ≡ read.Refused 27 line
-unfolding page_read_number
+number_told : {a : PageRead} → Numbered a → (line : ℕ) → page_read_number a ≡ 27 + 256 * line → a ≡ not_read why.PageText line
+unfolding refusal_number
 number_told done line e = absurd (omega (arith, e))
 number_told (early k h g) line e = absurd (omega (arith, e))
-number_told (told l) line e = ap (read.Refused 27) (omega (arith, e))
+number_told (told l) line e = ap (not_read why.PageText) (omega (arith, e))
 
 module _ {n p : ℕ} {text table set : List ℕ} {r : ℕ} {table-out set_out : List ℕ} (c : PageReadInC n p text table set r table-out set_out) where
   -- ONLY SUCH PAGES, in C
   pub read_exactly_in_c : (r ≡ 0) ↔ (Tried n p table set × PageOf n p text)
-  unfolding page_read_number
   read_exactly_in_c =
       let exactly = read_exactly n p text table set in
       (λ e. exactly.0 (number_done (answer_numbered n p text table set) (sym c.answered ∙ e)), λ h. c.answered ∙ ap page_read_number (exactly.1 h))
 
   -- 27 AND ITS LINE, in C
   pub told_exactly_in_c : (line : ℕ) → (r ≡ 27 + 256 * line) ↔ (Tried n p table set × WrongPage n p text line)
-  unfolding page_read_number
+  unfolding refusal_number
   told_exactly_in_c line =
       let exactly = told_exactly n p text table set line in
       (λ e. exactly.0 (number_told (answer_numbered n p text table set) line (sym c.answered ∙ e)), λ h. c.answered ∙ ap page_read_number (exactly.1 h))
 
 -- an answer of writing by its number: a refusal, or the length of a page of an instance
 data WriteNumbered (n : ℕ) (lengths marks : List ℕ) (p : ℕ) : Written → Type 0 where
-  refused : (k : ℕ) → k < 256 → WriteNumbered n lengths marks p (written.Refused k 0)
-  all : tested n lengths marks ≡ tests.Points n → is_page n p ≡ true → WriteNumbered n lengths marks p (written.Bytes (length (page_text n p lengths marks)))
+  refused : (k : Refusal) → WriteNumbered n lengths marks p (refuse k)
+  all : tested n lengths marks ≡ Ok n → is_page n p ≡ true → WriteNumbered n lengths marks p (Ok (length (page_text n p lengths marks)))
 
 write_numbered : (n : ℕ) (lengths marks : List ℕ) (p size : ℕ) → WriteNumbered n lengths marks p (write_answer n lengths marks p size)
 unfolding write_answer
 write_numbered n lengths marks p size = by (tested n lengths marks) refl
   where
-    sized : tested n lengths marks ≡ tests.Points n → (a : Bool) → is_page n p ≡ a → (b : Bool)
-        → WriteNumbered n lengths marks p (unless a (written.Refused 26 0) (unless b (written.Refused 22 0) (written.Bytes (length (page_text n p lengths marks)))))
-    sized e false f b = refused 26 (omega arith)
-    sized e true f false = refused 22 (omega arith)
+    sized : tested n lengths marks ≡ Ok n → (a : Bool) → is_page n p ≡ a → (b : Bool)
+        → WriteNumbered n lengths marks p (unless a (refuse why.Page) (unless b (refuse why.Buffer) (Ok (length (page_text n p lengths marks)))))
+    sized e false f b = refused why.Page
+    sized e true f false = refused why.Buffer
     sized e true f true = all e f
 
-    by : (t : Tested) → tested n lengths marks ≡ t → WriteNumbered n lengths marks p (write_tested t lengths marks p size)
-    by (tests.Refused k) e = refused k ((tested_numbered n lengths marks).number_told k e).1
-    by (tests.Points m) e =
+    by : (t : Result ℕ Refusal) → tested n lengths marks ≡ t → WriteNumbered n lengths marks p (write_tested t lengths marks p size)
+    by (Err k) e = refused k
+    by (Ok m) e =
         let q : m ≡ n = (passed e).same in
-        rw q (sized (e ∙ ap tests.Points q) (is_page n p) refl (leb (length (page_text n p lengths marks)) size))
+        rw q (sized (e ∙ ap Ok q) (is_page n p) refl (leb (length (page_text n p lengths marks)) size))
 
 -- a page that is not refused: what is left has it in front, as many bytes as are answered, and it is one of an instance
 record Taken (n p : ℕ) (lengths marks : List ℕ) (r : ℕ) (left : List ℕ) : Type 0 where
@@ -89,11 +88,10 @@ record Taken (n p : ℕ) (lengths marks : List ℕ) (r : ℕ) (left : List ℕ) 
   is : take (r / 65536) left ≡ page_text n p lengths marks
 
 taken : {n : ℕ} {lengths marks : List ℕ} {p : ℕ} {text : List ℕ} {r : ℕ} {left : List ℕ} → WrittenInC n lengths marks p text r left → 65536 ≤ r → Taken n p lengths marks r left
-unfolding written_number
 taken {n} {lengths} {marks} {p} {text} {r} {left} w h = by (write_numbered n lengths marks p (length text)) w.answered w.text_left
   where
-    by : {a : Written} → WriteNumbered n lengths marks p a → r ≡ written_number a → left ≡ write_left a (page_text n p lengths marks) text → Taken n p lengths marks r left
-    by (refused k few) e l = absurd (omega (arith, e))
+    by : {a : Written} → WriteNumbered n lengths marks p a → r ≡ counted_number a → left ≡ write_left a (page_text n p lengths marks) text → Taken n p lengths marks r left
+    by (refused k) e l = absurd (omega (arith, e, number_within k))
     by (all t g) e l =
         let page = page_text n p lengths marks in
         let size : r / 65536 ≡ length page = omega (arith, e) in
@@ -123,7 +121,6 @@ module _ {n p : ℕ} {from into out : PageBuffers} (c : Copied n p from into out
 
   -- ROUND TRIP in C, page p: into whatever table and marks pass the tests
   pub copied_page : Passes n into.table into.set → PageCopied n p from into out c.read
-  unfolding page_read_number
   copied_page t = record {
     accepted = c.reads.answered ∙ ap page_read_number (ap (λ (text : List ℕ). page_answer n p text into.table into.set) page.is ∙ read_accepted p page.instance t page.page);
     lengths = ap whole32 copied_table ∙ read_lengths p page.instance t page.page;

@@ -11,6 +11,10 @@ use native.Mathlib.Omega.{arith}
 use lib.Dec.{eqb}
 use lib.ListN.{length}
 use borrow.Author.Tests.{ne_eqb}
+use Rattle.std.specs.Prelude.{Result as Outcome, Ok, Err}
+use Rattle.lengths.specs.Refusal.{refusal_number}
+use Rattle.lengths.specs.declared.refusal.Refusal.{Refusal}
+use Rattle.lengths.specs.declared.refusal.Refusal.TheVariants as refusal
 use Rattle.lists.specs.Test.{unless}
 use Rattle.endian.specs.Bytes.{whole16, whole32}
 use Rattle.marks.specs.Mark.{struck_mark}
@@ -27,8 +31,6 @@ use Rattle.sheets.proofs.Records.{sheet_records}
 use Rattle.admission.specs.Tests.{ready_between, tested, ready}
 use Rattle.marking.specs.MarkBetween.{mark_between, mark_between_packed}
 use Rattle.marking.specs.Mark.{turned_down, mark_tested, mark_by, mark_packed_by}
-use Rattle.admission.specs.declared.tested.Tested.{Tested}
-use Rattle.admission.specs.declared.tested.Tested.TheVariants.{Points, Refused}
 use Rattle.receipts.specs.Receipt.{new_receipt, receipt_of, stopped?, flag_of, Fits}
 use Rattle.receipts.specs.View.{examiner_view, candidate_view}
 use Rattle.receipts.specs.declared.receipt.Receipt.{Receipt}
@@ -38,28 +40,12 @@ use Rattle.revosti.specs.Receipt.{receipt_in, receipt_number}
 use Rattle.revosti.proofs.ReceiptNumbers.{receipt_read}
 use Rattle.demands.specs.SheetAnswer.{SheetAnswer, of_marking, of_between}
 use Rattle.demands.proofs.SheetLines.{answers_refusal}
-use Rattle.demands.proofs.TestNumbers.{tested_number, ready_number, between_number}
+use Rattle.revosti.proofs.RefusalNumbers.{number_within}
 
 -- a result whose values have few bits, and whose refusal has a number
 record Noted (r : Result (List ℕ)) : Type 0 where
   pub few : r.lines < 65536
   pub told : (number at : ℕ) → r.verdict ≡ refused number at → (1 ≤ number) × (number < 256) × (at < 65536)
-
--- the tests before the sheet's own answer a refusal from 1 to 25
-pub record Numbered (t : Tested) : Type 0 where
-  pub number_told : (number : ℕ) → t ≡ Refused number → (1 ≤ number) × (number < 256)
-
-abbrev Few : ℕ → Type 0
-Few k = (1 ≤ k) × (k < 256)
-
-pub tested_numbered : (n : ℕ) (table marks : List ℕ) → Numbered (tested n table marks)
-tested_numbered n table marks = record { number_told = tested_number Few (omega arith, omega arith) (omega arith, omega arith) (omega arith, omega arith) (omega arith, omega arith) n table marks }
-
-ready_numbered : (n : ℕ) (table marks : List ℕ) → Numbered (ready n table marks)
-ready_numbered n table marks = record { number_told = ready_number Few (omega arith, omega arith) (omega arith, omega arith) (omega arith, omega arith) (omega arith, omega arith) (omega arith, omega arith) n table marks }
-
-between_numbered : (n : ℕ) (low high marks : List ℕ) → Numbered (ready_between n low high marks)
-between_numbered n low high marks = record { number_told = between_number Few (omega arith, omega arith) (omega arith, omega arith) (omega arith, omega arith) (omega arith, omega arith) (omega arith, omega arith) (omega arith, omega arith) n low high marks }
 
 -- a sheet accepts no more lines than it is given steps
 module _ {M : Type 0} (𝓜 : Marking M) (s : List ℕ) where
@@ -87,18 +73,21 @@ module _ {M : Type 0} (𝓜 : Marking M) (s : List ℕ) where
 -- what marking answers has few bits: a refusal before test 8 names no record, a later one is 8 to 16 at one of the
 -- sheet's records
 module _ (mark : ℕ) (out put marks s : List ℕ) where
-  refused_first : (number : ℕ) → (1 ≤ number) × (number < 256) → Noted (turned_down number marks)
-  refused_first number h = record {
+  refused_first : (r : Refusal) → Noted (turned_down r marks)
+  refused_first r = record {
     few = omega arith;
-    told = λ k at e. let same : number ≡ k = cc in let none : ◌≡◌ {A = ℕ} 0 at = cc in (omega arith, omega arith, omega arith);
+    told = λ k at e.
+        let h = number_within r in
+        let same : refusal_number r ≡ k = cc in
+        let none : ◌≡◌ {A = ℕ} 0 at = cc in (omega (arith, h), omega (arith, h), omega arith);
   }
 
-  tested_noted : (t : Tested) → Numbered t → Noted (mark_tested mark t out put marks s)
-  tested_noted (Refused number) h = refused_first number (h.number_told number refl)
-  tested_noted (Points n) h = whole (whole_sheet (length s)) refl
+  tested_noted : (t : Outcome ℕ Refusal) → Noted (mark_tested mark t out put marks s)
+  tested_noted (Err r) = refused_first r
+  tested_noted (Ok n) = whole (whole_sheet (length s)) refl
     where
-      whole : (b : Bool) → whole_sheet (length s) ≡ b → Noted (unless b (turned_down 7 marks) (sheet (marking_between mark n out put) s marks))
-      whole false w = refused_first 7 (omega arith, omega arith)
+      whole : (b : Bool) → whole_sheet (length s) ≡ b → Noted (unless b (turned_down refusal.Sheet marks) (sheet (marking_between mark n out put) s marks))
+      whole false w = refused_first refusal.Sheet
       whole true w =
           let most = sheet_records s w in
           record {
@@ -111,17 +100,16 @@ module _ (mark : ℕ) (out put marks s : List ℕ) where
 mark_noted : (mark n : ℕ) (table set s : List ℕ) → Noted (mark_packed_by mark n table set s)
 unfolding mark_packed_by mark_by
 mark_noted mark n table set s =
-    let m = tested_noted mark table table (marks_of n set) s (ready n table (marks_of n set)) (ready_numbered n table (marks_of n set)) in record { few = m.few; told = m.told }
+    let m = tested_noted mark table table (marks_of n set) s (ready n table (marks_of n set)) in record { few = m.few; told = m.told }
 
 between_noted : (n : ℕ) (low high set s : List ℕ) → Noted (mark_between_packed n low high set s)
 unfolding mark_between_packed mark_between
 between_noted n low high set s =
-    let m = tested_noted struck_mark low high (marks_of n set) s (ready_between n low high (marks_of n set)) (between_numbered n low high (marks_of n set)) in record { few = m.few; told = m.told }
+    let m = tested_noted struck_mark low high (marks_of n set) s (ready_between n low high (marks_of n set)) in record { few = m.few; told = m.told }
 
 -- the slip of such a result
 module _ {r : Result (List ℕ)} (h : Noted r) where
   noted_fits : Fits (receipt_of r)
-  unfolding receipt_of
   noted_fits = by r.verdict refl
     where
       by : (v : Verdict (Unit {0})) → r.verdict ≡ v → Fits (new_receipt v r.lines)
@@ -129,7 +117,6 @@ module _ {r : Result (List ℕ)} (h : Noted r) where
       by (refused number at) e = let t = h.told number at e in record { refusal_fits = t.1; rec_fits = t.2; lines_fit = h.few }
 
   noted_number : result_number r ≡ receipt_number (receipt_of r)
-  unfolding result_number receipt_of receipt_number flag_of
   noted_number = by r.verdict
     where
       by : (v : Verdict (Unit {0})) → verdict_number v + 16777216 * r.lines ≡ receipt_number (new_receipt v r.lines)
@@ -140,7 +127,6 @@ module _ {r : Result (List ℕ)} (h : Noted r) where
   noted_receipt = ap receipt_in (noted_number ∙ omega arith) ∙ receipt_read (receipt_of r) 0 noted_fits
 
   noted_new : (receipt_of r).released ≡ false
-  unfolding receipt_of
   noted_new = by r.verdict
     where
       by : (v : Verdict (Unit {0})) → (new_receipt v r.lines).released ≡ false
@@ -148,7 +134,6 @@ module _ {r : Result (List ℕ)} (h : Noted r) where
       by (refused number at) = refl
 
   noted_lines : (receipt_of r).lines ≡ r.lines
-  unfolding receipt_of
   noted_lines = by r.verdict
     where
       by : (v : Verdict (Unit {0})) → (new_receipt v r.lines).lines ≡ r.lines
@@ -156,7 +141,6 @@ module _ {r : Result (List ℕ)} (h : Noted r) where
       by (refused number at) = refl
 
   noted_stopped : (stopped? (receipt_of r) ≡ false) ↔ (r.verdict ≡ accepted tt)
-  unfolding receipt_of stopped?
   noted_stopped = by r.verdict refl
     where
       by : (v : Verdict (Unit {0})) → r.verdict ≡ v → (stopped? (new_receipt v r.lines) ≡ false) ↔ (v ≡ accepted tt)

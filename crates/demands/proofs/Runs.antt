@@ -8,6 +8,9 @@ use mathlib.Core.Logic.{◌⊎◌, inl, inr}
 use mathlib.Core.List.{List, [], ◌∷◌}
 use native.Mathlib.Omega.{arith}
 use lib.ListN.{length}
+use Rattle.std.specs.Prelude.{Result, Ok, Err}
+use Rattle.lengths.specs.declared.refusal.Refusal.{Refusal}
+use Rattle.lengths.specs.declared.refusal.Refused.{Refused}
 use Rattle.lengths.specs.Edge.{edge_count, place}
 use Rattle.lengths.specs.Instance.{least_points, most_points}
 use Rattle.lengths.specs.Table.{length_of}
@@ -15,8 +18,6 @@ use Rattle.lengths.proofs.Tables.{length_symmetric}
 use Rattle.marks.specs.Fresh.{fresh_marks}
 use Rattle.marks.specs.Mark.{mark_at, struck_mark, open_mark, pending_mark, open_up_to}
 use Rattle.marks.specs.Pending.{resolved_answer, resolved_left}
-use Rattle.lengths.specs.declared.outcome.Outcome.{Outcome}
-use Rattle.lengths.specs.declared.outcome.Outcome.TheVariants as resolving
 use Rattle.marks.proofs.FreshMarks.{fresh-left}
 use Rattle.marks.proofs.Marks.{open-mark}
 use Rattle.marks.proofs.PackedSets.{some_edges}
@@ -28,8 +29,6 @@ use Rattle.admission.proofs.Passed.{passed_ready, BetweenPassed, passed, ready_t
 use Rattle.marking.specs.MarkBetween.{mark_between}
 use Rattle.admission.specs.Tests.{ready_between, ready}
 use Rattle.marking.specs.Mark.{mark_tested, mark_by}
-use Rattle.admission.specs.declared.tested.Tested.{Tested}
-use Rattle.admission.specs.declared.tested.Tested.TheVariants.{Points, Refused}
 use Rattle.demands.specs.Keeping.{Ordered, Serves, StepOrder, OrderFree, KeepsTours}
 use Rattle.demands.specs.Run.{Tables, Call, Step, marking, asking, confirming, withdrawing, marking-between, turning, stepped, steps_of, fresh_from, run}
 use Rattle.demands.proofs.DeskTurns.{turn_kept}
@@ -58,13 +57,13 @@ module _ {n : ℕ} (T : Tables) (some : least_points ≤ n) (low-whole : length 
   -- a sheet leaves the tour's edges open, marked or asked, whatever n and records it states: where its tests pass, they
   -- answer n, and the lengths by which the tour is 3-optimal lie between those of what is taken out and of what is put
   -- in
-  call_kept : (mark : ℕ) (out put s : List ℕ) → (HasOrder s → Orders) → (marks : List ℕ) → Kept n t marks → (r : Tested) → ((p : ℕ) → r ≡ Points p → (p ≡ n) × LengthsBetween n out put table) →
+  call_kept : (mark : ℕ) (out put s : List ℕ) → (HasOrder s → Orders) → (marks : List ℕ) → Kept n t marks → (r : Result ℕ Refusal) → ((p : ℕ) → r ≡ Ok p → (p ≡ n) × LengthsBetween n out put table) →
       Kept n t (mark_tested mark r out put marks s).marks
-  call_kept mark out put s may marks kept (Refused k) told = kept
-  call_kept mark out put s may marks kept (Points p) told = tested_kept some (told p refl).1 best reach mark s marks may kept (Points p) (λ q e. (told q e).0)
+  call_kept mark out put s may marks kept (Err k) told = kept
+  call_kept mark out put s may marks kept (Ok p) told = tested_kept some (told p refl).1 best reach mark s marks may kept (Ok p) (λ q e. (told q e).0)
 
   -- a call over the board's own table that passes states its n; over no table none passes
-  own_passed : (m : ℕ) (marks : List ℕ) (p : ℕ) → ready m T.own marks ≡ Points p → (p ≡ n) × LengthsBetween n T.own T.own table
+  own_passed : (m : ℕ) (marks : List ℕ) (p : ℕ) → ready m T.own marks ≡ Ok p → (p ≡ n) × LengthsBetween n T.own T.own table
   own_passed m marks p e = on served.own
     where
       whole : length T.own ≡ edge_count p
@@ -81,7 +80,7 @@ module _ {n : ℕ} (T : Tables) (some : least_points ≤ n) (low-whole : length 
       on (inr none) = absurd (omega (arith, whole, ap length none, some_edges p least))
 
   -- and so does a call over low and high
-  between_passed : (m : ℕ) (marks : List ℕ) (p : ℕ) → ready_between m T.low T.high marks ≡ Points p → (p ≡ n) × LengthsBetween n T.low T.high table
+  between_passed : (m : ℕ) (marks : List ℕ) (p : ℕ) → ready_between m T.low T.high marks ≡ Ok p → (p ≡ n) × LengthsBetween n T.low T.high table
   between_passed m marks p e = (same, lengths_between n (served.between (subst (λ (q : ℕ). Ordered q T.low T.high) same interval_passed.listable.intervals.order)))
     where
       interval_passed : BetweenPassed m T.low T.high marks p
@@ -95,9 +94,9 @@ module _ {n : ℕ} (T : Tables) (some : least_points ≤ n) (low-whole : length 
   sheet_kept mark call may marks kept = call_kept mark T.own T.own call.sheet may marks kept (ready call.n T.own marks) (own_passed call.n marks)
 
   -- confirming and withdrawing change pending marks alone, and the tour's edges have mark 1
-  resolve_kept : (mark : ℕ) (marks : List ℕ) → Kept n t marks → (r : Outcome) → Kept n t (resolved_left r mark marks)
-  resolve_kept mark marks kept (resolving.Refused k rec) = kept
-  resolve_kept mark marks kept resolving.Done =
+  resolve_kept : (mark : ℕ) (marks : List ℕ) → Kept n t marks → (r : Result Unit Refused) → Kept n t (resolved_left r mark marks)
+  resolve_kept mark marks kept (Err r) = kept
+  resolve_kept mark marks kept (Ok done) =
       record { whole = resolved_size mark marks ∙ kept.whole; all-open = λ a b u. resolved_open mark n marks a b (kept.all-open a b u) }
 
   step_kept : (step : Step) → (StepOrder step → Orders) → (marks : List ℕ) → Kept n t marks → Kept n t (stepped T step marks)

@@ -11,6 +11,9 @@ use native.Mathlib.Omega.{arith}
 use lib.Dec.{eqb}
 use lib.IntN.{ℤ, pos, negsuc, neg_ℤ, ◌*ℤ◌}
 use lib.ListN.{length}
+use Rattle.std.specs.Prelude.{Result, Ok, Err}
+use Rattle.lengths.specs.Refusal.{refusal_number}
+use Rattle.lengths.specs.Refusal.{refuse}
 use Rattle.endian.specs.Bytes.{whole32}
 use Rattle.lengths.specs.Saving.{gains?}
 use Rattle.lists.specs.Test.{all_at_most, unless}
@@ -20,13 +23,11 @@ use Rattle.lengths.specs.Table.{length_of}
 use Rattle.rules.specs.PairTest.{every, compatible?, stays?}
 use Rattle.closings.specs.Closing.{ThreeOptMoves}
 use Rattle.closings.specs.ClosingTest.{three_opt_outcome}
-use Rattle.closings.specs.declared.closing.ThreeOptOutcome.TheVariants.{Closed}
 use Rattle.admission.specs.Tests.{tested_table}
-use Rattle.admission.specs.declared.tested.Tested.{Tested}
-use Rattle.admission.specs.declared.tested.Tested.TheVariants as tests
 use Rattle.savings.specs.Edges.{is_edge}
 use Rattle.savings.specs.Saved.{saved_tested, exchange_saved, move_saved, three_opt_saved}
-use Rattle.savings.specs.declared.saved.Saved.TheVariants.{Saving, Refused}
+use Rattle.lengths.specs.declared.refusal.Refused.{Refused}
+use Rattle.revosti.proofs.RefusalNumbers.{number_within}
 use Rattle.savings.proofs.Decides.{exchange_decides, move_decides, three_opt_decides}
 use Rattle.revosti.specs.Saved.{saved_number}
 
@@ -41,8 +42,8 @@ times_below b = below (65536 * suc b) (omega arith)
 not_below : {k b : ℕ} → pos k ≡ negsuc b → ⊥
 not_below e = let z : ◌≡◌ {A = ℕ} 0 1 = cc in omega arith
 
--- a number from 1 to 11 is none
-no_multiple : (k : ℕ) (s : ℤ) → 1 ≤ k → k ≤ 11 → pos k ≡ pos 65536 *ℤ s → ⊥
+-- a number from 1 to 29 is none
+no_multiple : (k : ℕ) (s : ℤ) → 1 ≤ k → k ≤ 29 → pos k ≡ pos 65536 *ℤ s → ⊥
 no_multiple k (pos b) l h e = let f : k ≡ 65536 * b = cc in omega arith
 no_multiple k (negsuc b) l h e = not_below (e ∙ times_below b)
 
@@ -56,38 +57,15 @@ one_factor (negsuc b) (negsuc c) e =
     let f : 65536 * suc b - 1 ≡ 65536 * suc c - 1 = cc in
     ap negsuc (omega arith)
 
--- what the tests of a table refuse by
-table_number : (n : ℕ) (table : List ℕ) (k : ℕ) → tested_table n table ≡ tests.Refused k → (1 ≤ k) × (k ≤ 5)
-unfolding tested_table
-table_number n table k = go (in_range n) (eqb (length table) (edge_count n)) (all_at_most most_length table)
-  where
-    by : (j : ℕ) → 1 ≤ j → j ≤ 5 → tests.Refused j ≡ tests.Refused k → (1 ≤ k) × (k ≤ 5)
-    by j l h e = let f : j ≡ k = cc in (omega arith, omega arith)
-
-    go : (a b c : Bool)
-        → unless a (tests.Refused 1) (unless b (tests.Refused 2) (unless c (tests.Refused 5) (tests.Points n))) ≡ tests.Refused k
-        → (1 ≤ k) × (k ≤ 5)
-    go false b c e = by 1 (omega arith) (omega arith) e
-    go true false c e = by 2 (omega arith) (omega arith) e
-    go true true false e = by 5 (omega arith) (omega arith) e
-    go true true true e = let z : ◌≡◌ {A = ℕ} 0 1 = cc in absurd (omega arith)
-
 module _ (n : ℕ) (table : List ℕ) (s : ℤ) where
   -- a multiple of 65,536 tells the saving
   told_number : (out : List Edge) (z : ℤ) → saved_number (saved_tested (tested_table n (whole32 table)) out z) ≡ pos 65536 *ℤ s
-      → saved_tested (tested_table n (whole32 table)) out z ≡ Saving s
-  unfolding saved_number
-  told_number out z = go (tested_table n (whole32 table)) refl
+      → saved_tested (tested_table n (whole32 table)) out z ≡ Ok s
+  told_number out z = go (saved_tested (tested_table n (whole32 table)) out z)
     where
-      go : (t : Tested) → tested_table n (whole32 table) ≡ t → saved_number (saved_tested t out z) ≡ pos 65536 *ℤ s
-          → saved_tested t out z ≡ Saving s
-      go (tests.Refused k) f e = let r = table_number n (whole32 table) k f in absurd (no_multiple k s r.0 (omega (arith, r.1)) e)
-      go (tests.Points p) f e = by (every (is_edge p) out) e
-        where
-          by : (b : Bool) → saved_number (unless b (Refused 11 0) (Saving z)) ≡ pos 65536 *ℤ s
-              → unless b (Refused 11 0) (Saving z) ≡ Saving s
-          by true e = ap Saving (one_factor z s e)
-          by false e = absurd (no_multiple 11 s (omega arith) (omega arith) e)
+      go : (a : Result ℤ Refused) → saved_number a ≡ pos 65536 *ℤ s → a ≡ Ok s
+      go (Ok y) e = ap Ok (one_factor y s e)
+      go (Err r) e = let k = number_within r.refusal in absurd (no_multiple (refusal_number r.refusal) s k.0 k.1 e)
 
   pub exchange_decides_in_c : (p q x y : ℕ) → saved_number (exchange_saved n (whole32 table) p q x y) ≡ pos 65536 *ℤ s
       → (compatible? (length_of n (whole32 table)) (length_of n (whole32 table)) p q x y ≡ false) ↔ (gains? s ≡ true)
@@ -102,6 +80,6 @@ module _ (n : ℕ) (table : List ℕ) (s : ℤ) where
   pub three_opt_decides_in_c : (K : List Edge) (p q r t x y z w : ℕ)
       → saved_number (three_opt_saved n (whole32 table) p q r t x y z w) ≡ pos 65536 *ℤ s
       → ThreeOptMoves K p q r t x y z w
-      → (three_opt_outcome (length_of n (whole32 table)) (length_of n (whole32 table)) K p q r t ≡ Closed) ↔ (gains? s ≡ true)
+      → (three_opt_outcome (length_of n (whole32 table)) (length_of n (whole32 table)) K p q r t ≡ Ok tt) ↔ (gains? s ≡ true)
   unfolding three_opt_saved
   three_opt_decides_in_c K p q r t x y z w e = three_opt_decides n (whole32 table) s K p q r t x y z w (told_number _ _ e)

@@ -8,6 +8,9 @@ use mathlib.Core.Logic.{◌↔◌}
 use mathlib.Core.List.{List, [], ◌∷◌}
 use native.Mathlib.Omega.{arith}
 use lib.ListN.{length}
+use Rattle.std.specs.Prelude.{Result as Outcome, Ok, Err}
+use Rattle.lengths.specs.declared.refusal.Refusal.{Refusal}
+use Rattle.lengths.specs.declared.refusal.Refusal.TheVariants as refusal
 use Rattle.lengths.specs.Edge.{Edge, edge_count}
 use Rattle.lists.specs.Test.{unless}
 use Rattle.marks.specs.Mark.{open_mark, open_in}
@@ -22,8 +25,6 @@ use Rattle.sheets.proofs.Records.{sheet_records}
 use Rattle.sheets.specs.Rules.{rules_between, marking_between}
 use Rattle.sheets.specs.Sheet.{whole_sheet}
 use Rattle.marking.specs.Mark.{mark_tested, turned_down}
-use Rattle.admission.specs.declared.tested.Tested.{Tested}
-use Rattle.admission.specs.declared.tested.Tested.TheVariants.{Points, Refused}
 use Rattle.demands.specs.Marked.{struck_edges, Changes}
 use Rattle.demands.proofs.Changed.{chain_changes, no_changes}
 use Rattle.demands.proofs.Lawful.{lawful_between}
@@ -41,8 +42,8 @@ judged_exact n out put marks sheet i a b next high = (
 
 module _ (mark n : ℕ) (out put marks s : List ℕ) where
   -- a call that passes the tests, and 7, has its lines marked
-  pub lines_marked : (t : Tested) → t ≡ Points n → whole_sheet (length s) ≡ true → mark_tested mark t out put marks s ≡ sheet (marking_between mark n out put) s marks
-  lines_marked t e w = ap (λ (r : Tested). mark_tested mark r out put marks s) e ∙ rw w
+  pub lines_marked : (t : Outcome ℕ Refusal) → t ≡ Ok n → whole_sheet (length s) ≡ true → mark_tested mark t out put marks s ≡ sheet (marking_between mark n out put) s marks
+  lines_marked t e w = ap (λ (r : Outcome ℕ Refusal). mark_tested mark r out put marks s) e ∙ rw w
 
   -- what is said of a call whose answer is that of its lines
   module _ (answer : Result (List ℕ)) (lines_of : answer ≡ sheet (marking_between mark n out put) s marks) where
@@ -74,22 +75,22 @@ module _ (mark n : ℕ) (out put marks s : List ℕ) where
         refusal_told (marking_between mark n out put) (lawful_between n out put) s marks answer (sheet_records s w).some ((answers answer).0 refl) number rec e
 
   -- every call: one that fails a test accepts no line and changes nothing
-  pub tested_changes : (mark ≡ open_mark → ⊥) → (t : Tested) → ((p : ℕ) → t ≡ Points p → (p ≡ n) × (length marks ≡ edge_count n)) →
+  pub tested_changes : (mark ≡ open_mark → ⊥) → (t : Outcome ℕ Refusal) → ((p : ℕ) → t ≡ Ok p → (p ≡ n) × (length marks ≡ edge_count n)) →
       (struck : List Edge) × Changes mark n marks (mark_tested mark t out put marks s).marks struck (mark_tested mark t out put marks s).lines
   tested_changes other t told = tests t told
     where
       ChangesIn : Result (List ℕ) → Type 0
       ChangesIn r = (struck : List Edge) × Changes mark n marks r.marks struck r.lines
 
-      whole : length marks ≡ edge_count n → (b : Bool) → ChangesIn (unless b (turned_down 7 marks) (sheet (marking_between mark n out put) s marks))
+      whole : length marks ≡ edge_count n → (b : Bool) → ChangesIn (unless b (turned_down refusal.Sheet marks) (sheet (marking_between mark n out put) s marks))
       whole size true =
           let m = (sheet_exact (marking_between mark n out put) (lawful_between n out put) s marks (sheet (marking_between mark n out put) s marks)).0 refl in
           (struck_edges m.lines, chain_changes mark other n out put s marks size (sheet (marking_between mark n out put) s marks) m)
       whole size false = ([], no_changes mark n marks)
 
-      tests : (r : Tested) → ((p : ℕ) → r ≡ Points p → (p ≡ n) × (length marks ≡ edge_count n)) → ChangesIn (mark_tested mark r out put marks s)
-      tests (Refused number) e = ([], no_changes mark n marks)
-      tests (Points m) e = let z = e m refl in subst (λ (k : ℕ). ChangesIn (mark_tested mark (Points k) out put marks s)) (sym z.0) (whole z.1 (whole_sheet (length s)))
+      tests : (r : Outcome ℕ Refusal) → ((p : ℕ) → r ≡ Ok p → (p ≡ n) × (length marks ≡ edge_count n)) → ChangesIn (mark_tested mark r out put marks s)
+      tests (Err number) e = ([], no_changes mark n marks)
+      tests (Ok m) e = let z = e m refl in subst (λ (k : ℕ). ChangesIn (mark_tested mark (Ok k) out put marks s)) (sym z.0) (whole z.1 (whole_sheet (length s)))
 
 -- a call that accepts no line leaves the marks as they were, whatever its tests come to: a chain without a line has not
 -- left its beginning
@@ -99,12 +100,12 @@ module _ (mark : ℕ) (out put marks s : List ℕ) where
   no_lines_lem n [] q chain e = sym (ap (λ (p : Place (List ℕ)). p.marks) chain)
   no_lines_lem n (x ∷ xs) q chain e = let c = chain_length (marking_between mark n out put) s (x ∷ xs) (start marks) q chain in absurd (omega (arith, c, e))
 
-  pub tested_unmarked : (t : Tested) → (mark_tested mark t out put marks s).lines ≡ 0 → (mark_tested mark t out put marks s).marks ≡ marks
-  tested_unmarked (Refused number) e = refl
-  tested_unmarked (Points n) e = whole (whole_sheet (length s)) e
+  pub tested_unmarked : (t : Outcome ℕ Refusal) → (mark_tested mark t out put marks s).lines ≡ 0 → (mark_tested mark t out put marks s).marks ≡ marks
+  tested_unmarked (Err number) e = refl
+  tested_unmarked (Ok n) e = whole (whole_sheet (length s)) e
     where
-      whole : (b : Bool) → (unless b (turned_down 7 marks) (sheet (marking_between mark n out put) s marks)).lines ≡ 0 →
-          (unless b (turned_down 7 marks) (sheet (marking_between mark n out put) s marks)).marks ≡ marks
+      whole : (b : Bool) → (unless b (turned_down refusal.Sheet marks) (sheet (marking_between mark n out put) s marks)).lines ≡ 0 →
+          (unless b (turned_down refusal.Sheet marks) (sheet (marking_between mark n out put) s marks)).marks ≡ marks
       whole false z = refl
       whole true z =
           let m = (sheet_exact (marking_between mark n out put) (lawful_between n out put) s marks (sheet (marking_between mark n out put) s marks)).0 refl in

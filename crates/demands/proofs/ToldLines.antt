@@ -9,6 +9,9 @@ use native.Mathlib.Omega.{arith}
 use lib.Dec.{leb}
 use lib.ListN.{length}
 use borrow.Author.Tests.{le-leb, lt-leb, leb-true, leb-false}
+use Rattle.std.specs.Prelude.{Result, Ok, Err}
+use Rattle.lengths.specs.Refusal.{refusal_number}
+use Rattle.lengths.specs.declared.refusal.Refusal.{Refusal}
 use Rattle.lists.specs.Test.{unless}
 use Rattle.lists.proofs.Bools.{and_true, never_true}
 use Rattle.lengths.specs.Edge.{edge, edge_count}
@@ -27,16 +30,12 @@ use Rattle.sheets.specs.Rules.{rules_of, marking_of}
 use Rattle.sheets.specs.Sheet.{whole_sheet}
 use Rattle.admission.proofs.Passed.{passed}
 use Rattle.admission.specs.Tests.{tested}
-use Rattle.admission.specs.declared.tested.Tested.{Tested}
-use Rattle.admission.specs.declared.tested.Tested.TheVariants as tests
 use Rattle.sentences.specs.Reason.{Reason}
 use Rattle.sentences.specs.Sentence.{text_of, sentence_bytes}
 use Rattle.sentences.proofs.Apart.{texts_apart}
 use Rattle.sentences.proofs.Fits.{text_fits}
-use Rattle.reasons.specs.Telling.{line_reasons, split_point, line_text, tell_judged, tell_tested, tell_answer}
+use Rattle.reasons.specs.Telling.{Telling, line_reasons, split_point, line_text, tell_judged, tell_tested, tell_answer}
 use Rattle.reasons.specs.Tells.{Tells, TellsLine}
-use Rattle.reasons.specs.declared.telling.Telling.{Telling}
-use Rattle.reasons.specs.declared.telling.Telling.TheVariants.{Bytes, Refused}
 use Rattle.reasons.proofs.LineTold.{line_told, each_pair_once}
 use Rattle.reasons.proofs.PairCounts.{pairs_many, as_many_pairs}
 use Rattle.reasons.proofs.SmallReasons.{line_small}
@@ -45,22 +44,22 @@ use Rattle.demands.proofs.Demand2.{demand_2}
 
 -- a call that fails a test of 1, 2, 5 and 6, then 7, then 8, answers its number, record 0
 module _ (n : ℕ) (table marks s : List ℕ) (i size : ℕ) where
-  pub told_untested : (number : ℕ) → tested n table marks ≡ tests.Refused number → tell_answer n table marks s i size ≡ Refused number 0
+  pub told_untested : (r : Refusal) → tested n table marks ≡ Err r → tell_answer n table marks s i size ≡ refused (refusal_number r) 0
   unfolding tell_answer
-  told_untested number e = ap (λ (t : Tested). tell_tested t table marks s i size) e
+  told_untested r e = ap (λ (t : Result ℕ Refusal). tell_tested t table marks s i size) e
 
-  pub told_not_whole : (m : ℕ) → tested n table marks ≡ tests.Points m → whole_sheet (length s) ≡ false
-      → tell_answer n table marks s i size ≡ Refused 7 0
+  pub told_not_whole : (m : ℕ) → tested n table marks ≡ Ok m → whole_sheet (length s) ≡ false
+      → tell_answer n table marks s i size ≡ refused 7 0
   unfolding tell_answer
-  told_not_whole m e h = ap (λ (t : Tested). tell_tested t table marks s i size) e ∙ rw h
+  told_not_whole m e h = ap (λ (t : Result ℕ Refusal). tell_tested t table marks s i size) e ∙ rw h
 
-  pub told_not_in_sheet : (m : ℕ) → tested n table marks ≡ tests.Points m → whole_sheet (length s) ≡ true → (Readable s i → ⊥) →
-      tell_answer n table marks s i size ≡ Refused 8 0
+  pub told_not_in_sheet : (m : ℕ) → tested n table marks ≡ Ok m → whole_sheet (length s) ≡ true → (Readable s i → ⊥) →
+      tell_answer n table marks s i size ≡ refused 8 0
   unfolding tell_answer
   told_not_in_sheet m e h none =
       let out : leb 1 i && leb i (records s) ≡ false = never_true _
       (λ f. let k = and_true (leb 1 i) (leb i (records s)) f in none (record { low = leb-true 1 i k.0; high = leb-true i (records s) k.1 })) in
-      ap (λ (t : Tested). tell_tested t table marks s i size) e ∙ rw (h, out)
+      ap (λ (t : Result ℕ Refusal). tell_tested t table marks s i size) e ∙ rw (h, out)
 
 module _ (n : ℕ) (table marks s : List ℕ) (i : ℕ) (p : TellPasses n table marks s i) where
   -- behind the tests the line is judged
@@ -68,7 +67,7 @@ module _ (n : ℕ) (table marks s : List ℕ) (i : ℕ) (p : TellPasses n table 
       → tell_answer n table marks s i size ≡ tell_judged (judge (rules_of n table marks) (open_in n marks) s i) (line_text n table marks s i) size
   unfolding tell_answer
   tell-judged size =
-      ap (λ (t : Tested). tell_tested t table marks s i size) p.points ∙ rw (p.whole, le-leb 1 i p.in_sheet.low, le-leb i (records s) p.in_sheet.high)
+      ap (λ (t : Result ℕ Refusal). tell_tested t table marks s i size) p.points ∙ rw (p.whole, le-leb 1 i p.in_sheet.low, le-leb i (records s) p.in_sheet.high)
 
   enters : Enters s 0 i
   enters = record { above = omega (arith, p.in_sheet.low); inside = p.in_sheet.high }
@@ -93,7 +92,7 @@ module _ (n : ℕ) (table marks s : List ℕ) (i : ℕ) (p : TellPasses n table 
     where
       fits : (x : Struck) → judge (rules_of n table marks) (open_in n marks) s i ≡ accepted x → (t : Bool)
           → leb (length (line_text n table marks s i)) size ≡ t
-          → TellAnswers n table marks s i size (unless t (Refused 22 0) (Bytes (length (line_text n table marks s i))))
+          → TellAnswers n table marks s i size (unless t (refused 22 0) (accepted (length (line_text n table marks s i))))
       fits x e true h = told x (judged_complete x e) (leb-true _ _ h)
       fits x e false h = too_long x (judged_complete x e) (leb-false _ _ h)
 
@@ -104,16 +103,16 @@ module _ (n : ℕ) (table marks s : List ℕ) (i : ℕ) (p : TellPasses n table 
           not_complete (λ x l. refused_accepted (sym e ∙ complete_judged x l)) (step_stops (marking_of n table) s (first_at marks i) enters number rec e)
 
       accepts : (x : Struck) → CompleteAt (rules_of n table marks) (open_in n marks) s i x
-          → tell_answer n table marks s i size ≡ unless (leb (length (line_text n table marks s i)) size) (Refused 22 0) (Bytes (length (line_text n table marks s i)))
+          → tell_answer n table marks s i size ≡ unless (leb (length (line_text n table marks s i)) size) (refused 22 0) (accepted (length (line_text n table marks s i)))
       accepts x l = tell-judged size ∙ ap (λ (v : Verdict Struck). tell_judged v (line_text n table marks s i) size) (complete_judged x l)
 
       refuses : (number rec : ℕ) → ((x : Struck) → CompleteAt (rules_of n table marks) (open_in n marks) s i x → ⊥)
           → line_step (marking_of n table) s (first_at marks i) ≡ refused number rec
-          → (v : Verdict Struck) → judge (rules_of n table marks) (open_in n marks) s i ≡ v → tell_judged v (line_text n table marks s i) size ≡ Refused number rec
+          → (v : Verdict Struck) → judge (rules_of n table marks) (open_in n marks) s i ≡ v → tell_judged v (line_text n table marks s i) size ≡ refused number rec
       refuses number rec none step (accepted x) e = absurd (none x (judged_complete x e))
       refuses number rec none step (refused m q) e =
           let k = refused_inj (sym (step_stops (marking_of n table) s (first_at marks i) enters m q e) ∙ step) in
-          ap₂ (λ (a b : ℕ). Refused a b) k.0 k.1
+          ap₂ (λ (a b : ℕ). refused a b) k.0 k.1
 
       back : {q : Telling} → TellAnswers n table marks s i size q → tell_answer n table marks s i size ≡ q
       back (told x l h) = accepts x l ∙ rw (le-leb _ _ h)
@@ -155,9 +154,9 @@ module _ (n : ℕ) (table marks s : List ℕ) (i : ℕ) (p : TellPasses n table 
 
     -- so a complete line is told, and not refused by 22, where the buffer has so many bytes
     pub told_room : (size : ℕ) → sentence_bytes * edge_count (n - 1) ≤ size
-        → tell_answer n table marks s i size ≡ Bytes (length (line_text n table marks s i))
+        → tell_answer n table marks s i size ≡ accepted (length (line_text n table marks s i))
     told_room size h =
-        (tells_exactly size (Bytes (length (line_text n table marks s i)))).1 (told (strikes a b next high) l (omega (arith, told_fits)))
+        (tells_exactly size (accepted (length (line_text n table marks s i)))).1 (told (strikes a b next high) l (omega (arith, told_fits)))
 
 -- TOLD APART: calls whose lists of reasons differ tell different texts, whatever their instances, marks and sheets
 -- (`texts_apart`)

@@ -14,16 +14,14 @@ use Rattle.argument.specs.Line.{strikes, CompleteLine}
 use Rattle.argument.specs.Record.{record_at}
 use Rattle.sheets.specs.Rules.{rules_of}
 use Rattle.sentences.specs.Sentence.{text_of, sentence_bytes}
-use Rattle.reasons.specs.Telling.{line_reasons, line_text, tell_answer, tell_left}
+use Rattle.reasons.specs.Telling.{Telling, line_reasons, line_text, tell_answer, tell_left}
 use Rattle.reasons.specs.Tells.{TellsLine}
-use Rattle.reasons.specs.declared.telling.Telling.{Telling}
-use Rattle.reasons.specs.declared.telling.Telling.TheVariants.{Bytes}
+use Rattle.argument.specs.Verdict.{accepted}
 use Rattle.revosti.specs.Tell.{telling_number, ToldInC}
 use Rattle.demands.specs.ToldLine.{TellPasses, told, TellAnswersInC}
 use Rattle.demands.proofs.ToldLines.{tells_exactly, told_text, told_line, told_fits, told_apart}
 
-bytes_number : (size : ℕ) → telling_number (Bytes size) ≡ 65536 * size
-unfolding telling_number
+bytes_number : (size : ℕ) → telling_number (accepted size) ≡ 65536 * size
 bytes_number size = refl
 
 module _ (n : ℕ) (table marks s : List ℕ) (i : ℕ) (p : TellPasses n table marks s i) (buffer : List ℕ) where
@@ -55,7 +53,7 @@ module _ (n : ℕ) (table marks s : List ℕ) (i : ℕ) (p : TellPasses n table 
     told_left : length (line_text n table marks s i) ≤ length buffer
         → (r ≡ 65536 * length (line_text n table marks s i)) × (left ≡ line_text n table marks s i ++ drop (length (line_text n table marks s i)) buffer)
     told_left h =
-        let e = (tells_exactly n table marks s i p (length buffer) (Bytes (length (line_text n table marks s i)))).1 (told (strikes a b next high) l h) in (
+        let e = (tells_exactly n table marks s i p (length buffer) (accepted (length (line_text n table marks s i)))).1 (told (strikes a b next high) l h) in (
           c.answered ∙ ap telling_number e ∙ bytes_number (length (line_text n table marks s i)),
           c.text_left ∙ ap (λ (t : Telling). tell_left t (line_text n table marks s i) buffer) e,
         )

@@ -5,12 +5,12 @@ use Prim.Native.Nat.{ℕ, ◌<◌}
 use mathlib.Core.Path.{◌≡◌, refl, ◌∙◌, ap}
 use mathlib.Core.List.{List}
 use native.Mathlib.Omega.{arith}
+use Rattle.std.specs.Prelude.{Result as Outcome, Ok, Err}
+use Rattle.lengths.specs.declared.refusal.Refused.{Refused}
 use Rattle.endian.specs.Bytes.{whole16, whole32}
 use Rattle.marks.specs.Mark.{struck_mark}
 use Rattle.marks.specs.Packed.{marks_of, repacked}
 use Rattle.marks.specs.Pending.{resolved_left, resolved_set_answer, resolved_set}
-use Rattle.lengths.specs.declared.outcome.Outcome.{Outcome}
-use Rattle.lengths.specs.declared.outcome.Outcome.TheVariants.{Done, Refused}
 use Rattle.marks.proofs.PackedSets.{repacked_same}
 use Rattle.argument.specs.Sheet.{Result}
 use Rattle.marking.specs.MarkBetween.{mark_between, mark_between_packed}
@@ -35,12 +35,11 @@ between_unchanged n low high set s e =
     ap (repacked n set) (tested_unmarked struck_mark low high (marks_of n set) s (ready_between n low high (marks_of n set)) e) ∙ repacked_same n set
 
 -- CONFIRMING AND WITHDRAWING: a refused call leaves the set as it was
-pub resolve_unchanged : (mark n : ℕ) (set : List ℕ) (number rec : ℕ) → resolved_set_answer n set ≡ Refused number rec → resolved_set mark n set ≡ set
-resolve_unchanged mark n set number rec e = ap (λ (r : Outcome). repacked n set (resolved_left r mark (marks_of n set))) e ∙ repacked_same n set
+pub resolve_unchanged : (mark n : ℕ) (set : List ℕ) (refused : Refused) → resolved_set_answer n set ≡ Err refused → resolved_set mark n set ≡ set
+resolve_unchanged mark n set refused e = ap (λ (r : Outcome Unit Refused). repacked n set (resolved_left r mark (marks_of n set))) e ∙ repacked_same n set
 
 -- for C an answer below 2²⁴ has no line accepted, and one other than 0 of *confirm* and *withdraw* is a refusal
 no_lines_lem : (r : Result (List ℕ)) → result_number r < 16777216 → r.lines ≡ 0
-unfolding result_number
 no_lines_lem r h = omega arith
 
 pub mark_unchanged_in_c : {mark n : ℕ} {table set s : List ℕ} {r : ℕ} {left : List ℕ} → MarkedInC mark n table set s r left → r < 16777216 → left ≡ set
@@ -52,9 +51,8 @@ between_unchanged_in_c {n} {low} {high} {set} {s} m h =
     m.set-left ∙ between_unchanged n (whole32 low) (whole32 high) set (whole16 s) (no_lines_lem (mark_between_in_c n low high set s) (omega (arith, m.answered)))
 
 pub resolve_unchanged_in_c : {mark n : ℕ} {set : List ℕ} {r : ℕ} {left : List ℕ} → ResolvedInC mark n set r left → (r ≡ 0 → ⊥) → left ≡ set
-unfolding outcome_number
 resolve_unchanged_in_c {mark} {n} {set} {r} m some = m.set-left ∙ by (resolved_set_answer n set) refl
   where
-    by : (a : Outcome) → resolved_set_answer n set ≡ a → resolved_set mark n set ≡ set
-    by Done e = absurd (some (m.answered ∙ ap outcome_number e))
-    by (Refused number rec) e = resolve_unchanged mark n set number rec e
+    by : (a : Outcome Unit Refused) → resolved_set_answer n set ≡ a → resolved_set mark n set ≡ set
+    by (Ok done) e = absurd (some (m.answered ∙ ap outcome_number e))
+    by (Err r) e = resolve_unchanged mark n set r e

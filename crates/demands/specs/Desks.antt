@@ -1,6 +1,6 @@
 -- What happens at the desks (02, Paper 14): turns and handings-in, by the functions for C, one after the other. "if
 -- only turns and handing in alter the desks' state".
-use Rattle.std.specs.Prelude.{ℕ, suc, ◌+◌, ◌*◌, ◌≤◌, ◌<◌, ◌≡◌, true, false, ◌⊎◌, List, [], ◌∷◌, length, get_or}
+use Rattle.std.specs.Prelude.{ℕ, suc, ◌+◌, ◌*◌, ◌≤◌, ◌<◌, ◌≡◌, true, false, ◌⊎◌, List, [], ◌∷◌, Some, length, get_or}
 use Rattle.endian.specs.Bytes.{whole16, whole32}
 use Rattle.marks.specs.Mark.{struck_mark}
 use Rattle.marks.specs.Packed.{packed, marks_of}
@@ -11,7 +11,6 @@ use Rattle.argument.specs.Answers.{CompleteLines}
 use Rattle.sheets.specs.Rules.{marking_of}
 use Rattle.desks.specs.HandIn.{hand_in_left}
 use Rattle.desks.specs.State.{lines_at, has_line, next_desk}
-use Rattle.desks.specs.declared.state.Next.TheVariants.{Desk}
 use Rattle.revosti.specs.Desk.{desk_bit, line_left_bit, turn_in_c, turned_number}
 use Rattle.revosti.specs.Mark.{result_number, mark_in_c}
 
@@ -42,7 +41,7 @@ turns_in (turning b ∷ calls) = suc (turns_in calls)
 
 -- one of the first k turns among the calls serves the desk d
 pub data ServedIn (d : ℕ) : (k : ℕ) → List ℕ → List DeskCall → Type 0 where
-  at_once : {k : ℕ} {state : List ℕ} {b : Buffers} {calls : List DeskCall} → next_desk state ≡ Desk d →
+  at_once : {k : ℕ} {state : List ℕ} {b : Buffers} {calls : List DeskCall} → next_desk state ≡ Some d →
       ServedIn d (suc k) state (turning b ∷ calls)
   later : {k : ℕ} {state : List ℕ} {b : Buffers} {calls : List DeskCall} → ServedIn d k (state_after (turning b) state) calls →
       ServedIn d (suc k) state (turning b ∷ calls)
@@ -67,9 +66,9 @@ pub data Meanwhile (d n : ℕ) (table s : List ℕ) (from : Seen) : (turns : ℕ
   nothing : Meanwhile d n table s from 0 from
   hands_in : {k : ℕ} {x : Seen} → Meanwhile d n table s from k x → (e : ℕ) (b : Buffers) → (e ≡ d → has_line x.state d ≡ true) →
       Meanwhile d n table s from k (record { state = handed_in x.state e b; set = x.set; answer = x.answer })
-  other_served : {k : ℕ} {x : Seen} → Meanwhile d n table s from k x → (next_desk x.state ≡ Desk d → ⊥) → (b : Buffers) →
+  other_served : {k : ℕ} {x : Seen} → Meanwhile d n table s from k x → (next_desk x.state ≡ Some d → ⊥) → (b : Buffers) →
       Meanwhile d n table s from k (record { state = state_after (turning b) x.state; set = x.set; answer = x.answer })
-  served : {k : ℕ} {x : Seen} → Meanwhile d n table s from k x → next_desk x.state ≡ Desk d →
+  served : {k : ℕ} {x : Seen} → Meanwhile d n table s from k x → next_desk x.state ≡ Some d →
       Meanwhile d n table s from (suc k)
       (record {
         state = (turn_in_c x.state n table x.set s).state;

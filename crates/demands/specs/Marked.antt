@@ -1,7 +1,7 @@
 -- What a call of *mark a sheet* or *ask a sheet* answers over a packed set and for C, and what it changes (01, "Each
 -- operation and its refusals": "the number of lines accepted in this call"; "An accepted line marks its edge struck").
 -- Which lines it accepts, and where it stops, is `Answers` (argument/specs/Answers.antt).
-use Rattle.std.specs.Prelude.{ℕ, suc, ◌≡◌, true, false, ◌⊎◌, ◌↔◌, List, [], ◌∷◌, eqb, length}
+use Rattle.std.specs.Prelude.{ℕ, suc, ◌≡◌, true, false, ◌⊎◌, ◌↔◌, List, [], ◌∷◌, Ok, eqb, length}
 use Rattle.lengths.specs.Edge.{Edge, edge, IsEdge}
 use Rattle.sets.specs.EdgeSet.{Has}
 use Rattle.marks.specs.Mark.{mark_at, open_mark, open_in}
@@ -15,16 +15,15 @@ use Rattle.sheets.specs.Sheet.{whole_sheet}
 use Rattle.admission.specs.Tests.{ready_between, ready}
 use Rattle.marking.specs.Mark.{packed_result}
 use Rattle.revosti.specs.Mark.{result_number}
-use Rattle.admission.specs.declared.tested.Tested.TheVariants.{Points}
 
 -- the call passes tests 1, 2, 5, 6 and 20, and test 7
 pub record Passes (n : ℕ) (table marks sheet : List ℕ) : Type 0 where
-  pub points : ready n table marks ≡ Points n
+  pub points : ready n table marks ≡ Ok n
   pub whole : whole_sheet (length sheet) ≡ true
 
 -- the call over two tables passes tests 1, 2, 5, 25, 6 and 20, and test 7 (02, Paper 11)
 pub record PassesBetween (n : ℕ) (low high marks sheet : List ℕ) : Type 0 where
-  pub points : ready_between n low high marks ≡ Points n
+  pub points : ready_between n low high marks ≡ Ok n
   pub whole : whole_sheet (length sheet) ≡ true
 
 -- the edges that lines strike

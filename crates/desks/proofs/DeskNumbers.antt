@@ -9,12 +9,10 @@ use native.Mathlib.Decide.{dec_lt}
 use native.Mathlib.Omega.{arith}
 use lib.Dec.{ltb}
 use lib.ListN.{length, get_or}
+use Rattle.std.specs.Prelude.{Some}
 use Rattle.desks.specs.State.{desk_count, number_at, set_number, last_served, next_index, owner, lines_at, set_desk, has_line, following, seek, next_desk}
-use Rattle.desks.specs.Turn.{desk_left, served_left}
+use Rattle.desks.specs.Turn.{DeskSheet, waits, ended, desk_left, served_left}
 use Rattle.desks.specs.asks.State.{DeskAsked}
-use Rattle.desks.specs.declared.state.Next.TheVariants as next
-use Rattle.desks.specs.declared.turn.Served.{Served}
-use Rattle.desks.specs.declared.turn.Served.TheVariants.{Waits, Ended}
 use Rattle.desks.proofs.RoundRobin.{seek_yes, seek_no, following_desk}
 use Rattle.desks.proofs.States.{set-length, byte_other, read_same, read_other}
 
@@ -85,11 +83,11 @@ line_other {state} {d} {e} a i o l low other =
 
 -- the state behind a turn of the desk e
 module _ {state : List ℕ} {e : ℕ} (a : DeskAsked state e) where
-  left_desk : (r : Served) → (i : ℕ) × (o : ℕ) × (l : ℕ) × (desk_left r state e ≡ set_desk state e i o l)
-  left_desk (Waits i o l) = (i, o, l, refl)
-  left_desk (Ended v) = (0, 0, 0, refl)
+  left_desk : (r : DeskSheet) → (i : ℕ) × (o : ℕ) × (l : ℕ) × (desk_left r state e ≡ set_desk state e i o l)
+  left_desk (waits i o l) = (i, o, l, refl)
+  left_desk (ended l v) = (0, 0, 0, refl)
 
-  module _ (r : Served) where
+  module _ (r : DeskSheet) where
     left_length : length (desk_left r state e) ≡ length state
     left_length = let z = left_desk r in ap length z.3 ∙ desk_length a z.0 z.1 z.2
 
@@ -139,7 +137,7 @@ module _ (x d : ℕ) (low : 1 ≤ x) (high : x ≤ desk_count) (low' : 1 ≤ d) 
 -- the round robin takes no desk behind one with a line left
 pub seek_ahead : (state : List ℕ) (x d count : ℕ) → 1 ≤ x → x ≤ desk_count → 1 ≤ d → d ≤ desk_count → has_line state d ≡ true →
     distance x d < count
-    → (e : ℕ) × (seek state x count ≡ next.Desk e) × (distance e d ≤ distance x d)
+    → (e : ℕ) × (seek state x count ≡ Some e) × (distance e d ≤ distance x d)
 seek_ahead state x d zero low high low' high' h l = absurd (omega arith)
 seek_ahead state x d (suc count) low high low' high' h l =
     by (has_line state x) refl (λ f.
@@ -149,13 +147,13 @@ seek_ahead state x d (suc count) low high low' high' h l =
     (r.0, seek_no state x count f ∙ r.1, omega (arith, falls, r.2)))
   where
     by : (b : Bool) → has_line state x ≡ b →
-        (has_line state x ≡ false → (e : ℕ) × (seek state x (suc count) ≡ next.Desk e) × (distance e d ≤ distance x d))
-        → (e : ℕ) × (seek state x (suc count) ≡ next.Desk e) × (distance e d ≤ distance x d)
+        (has_line state x ≡ false → (e : ℕ) × (seek state x (suc count) ≡ Some e) × (distance e d ≤ distance x d))
+        → (e : ℕ) × (seek state x (suc count) ≡ Some e) × (distance e d ≤ distance x d)
     by true f further = (x, seek_yes state x count f, omega arith)
     by false f further = further f
 
 pub next_ahead : (state : List ℕ) (d : ℕ) → 1 ≤ d → d ≤ desk_count → has_line state d ≡ true
-    → (e : ℕ) × (next_desk state ≡ next.Desk e) × (distance e d ≤ distance (following (last_served state)) d)
+    → (e : ℕ) × (next_desk state ≡ Some e) × (distance e d ≤ distance (following (last_served state)) d)
 unfolding next_desk
 next_ahead state d low high h =
     let f = following_desk (last_served state) in

@@ -7,12 +7,12 @@ use mathlib.Core.List.{List}
 use native.Mathlib.Omega.{arith}
 use lib.ListN.{length}
 use borrow.Author.Tests.{ltb-true}
+use Rattle.std.specs.Prelude.{Some, None}
 use Rattle.desks.specs.State.{desk_count, state_bytes, number_at, last_served, next_index, lines_at, has_line, following, seek, next_desk}
 use Rattle.desks.specs.asks.State.{StateAsked, DeskAsked}
 use Rattle.desks.specs.asks.Turn.{ServeAsked}
-use Rattle.desks.specs.declared.state.Next.TheVariants as next
 
-pub seek_yes : (state : List ℕ) (d count : ℕ) → has_line state d ≡ true → seek state d (suc count) ≡ next.Desk d
+pub seek_yes : (state : List ℕ) (d count : ℕ) → has_line state d ≡ true → seek state d (suc count) ≡ Some d
 unfolding seek
 seek_yes state d count h = rw (seek, h)
 
@@ -41,19 +41,18 @@ seek_start {state} {last} {d} a e f =
     })
 
 module _ {state : List ℕ} {d left : ℕ} (s : Seeking state d left) where
-  pub seek_found : 0 < left → has_line state d ≡ true → next.Desk d ≡ next_desk state
+  pub seek_found : 0 < left → has_line state d ≡ true → Some d ≡ next_desk state
   seek_found h e = let k : left ≡ suc (left - 1) = omega arith in sym (seek_yes state d (left - 1) e) ∙ ap (seek state d) (sym k) ∙ s.goes
 
-  pub seek_on : {d' : ℕ} → 0 < left → has_line state d ≡ false → d' ≡ following d → Seeking state d' (left - 1)
-  seek_on {d'} h e f =
-      let k : left ≡ suc (left - 1) = omega arith in
-      subst (λ (x : ℕ). Seeking state x (left - 1)) (sym f)
+  pub seek_on : (d' left' : ℕ) → left ≡ suc left' → has_line state d ≡ false → d' ≡ following d → Seeking state d' left'
+  seek_on d' left' k e f =
+      subst (λ (x : ℕ). Seeking state x left') (sym f)
       (record {
         asked = record { room = s.asked.room; low = (following_desk d).0; high = (following_desk d).1 };
-        goes = sym (seek_no state d (left - 1) e) ∙ ap (seek state d) (sym k) ∙ s.goes;
+        goes = sym (seek_no state d left' e) ∙ ap (seek state d) (sym k) ∙ s.goes;
       })
 
-  pub seek_ends : left ≤ 0 → next.NoLine ≡ next_desk state
+  pub seek_ends : left ≤ 0 → None ≡ next_desk state
   unfolding seek
   seek_ends h = let k : left ≡ 0 = omega arith in sym (ap (seek state d) k) ∙ s.goes
 
@@ -63,7 +62,7 @@ pub record DeskFound (state : List ℕ) (d : ℕ) : Type 0 where
   pub high : d ≤ desk_count
   pub left : has_line state d ≡ true
 
-pub seek_finds : (state : List ℕ) (d count e : ℕ) → 1 ≤ d → d ≤ desk_count → seek state d count ≡ next.Desk e → DeskFound state e
+pub seek_finds : (state : List ℕ) (d count e : ℕ) → 1 ≤ d → d ≤ desk_count → seek state d count ≡ Some e → DeskFound state e
 unfolding seek
 seek_finds state d zero e low high g = absurd (let z : ◌≡◌ {A = ℕ} 0 1 = cc in omega arith)
 seek_finds state d (suc count) e low high g =
@@ -71,11 +70,11 @@ seek_finds state d (suc count) e low high g =
     (λ h. seek_finds state (following d) count e (following_desk d).0 (following_desk d).1 (sym (seek_no state d count h) ∙ g))
   where
     by : (b : Bool) → has_line state d ≡ b → (has_line state d ≡ false → DeskFound state e) → DeskFound state e
-    by true h later = let q : next.Desk d ≡ next.Desk e = sym (seek_yes state d count h)
+    by true h later = let q : Some d ≡ Some e = sym (seek_yes state d count h)
         ∙ g in let i : d ≡ e = cc in subst (DeskFound state) i (record { low = low; high = high; left = h })
     by false h later = later h
 
-pub next_found : (state : List ℕ) {d : ℕ} → next_desk state ≡ next.Desk d → DeskFound state d
+pub next_found : (state : List ℕ) {d : ℕ} → next_desk state ≡ Some d → DeskFound state d
 unfolding next_desk
 next_found state {d} g = seek_finds state (following (last_served state)) desk_count d (following_desk (last_served state)).0
     (following_desk (last_served state)).1 g

@@ -6,8 +6,12 @@ use mathlib.Core.Bool.{Bool, true, false}
 use mathlib.Core.List.{List}
 use native.Mathlib.Omega.{arith}
 use lib.ListN.{length}
+use Rattle.std.specs.Prelude.{Option, Some, None, Result, Ok, Err}
 use Rattle.lists.specs.Test.{unless}
 use Rattle.lengths.specs.Edge.{edge_count}
+use Rattle.lengths.specs.Refusal.{refusal_number}
+use Rattle.lengths.specs.declared.refusal.Refusal.{Refusal}
+use Rattle.lengths.specs.declared.refusal.Refusal.TheVariants as refusal
 use Rattle.argument.specs.Verdict.{Verdict, accepted, refused}
 use Rattle.argument.specs.Sheet.{Marking, Place, LineStep, over, onward, line_step}
 use Rattle.argument.proofs.Safe.{step_keeps}
@@ -16,18 +20,11 @@ use Rattle.marks.specs.Packed.{ByteSet, packed, well_packed, marks_of, repacked}
 use Rattle.marks.proofs.PackedMarks.{held_set, held_packed}
 use Rattle.sheets.specs.Rules.{marking_of}
 use Rattle.sheets.specs.Sheet.{whole_sheet}
-use Rattle.sheets.specs.declared.verdict.Verdict.TheVariants as verdict
 use Rattle.marking.proofs.MarkingSheets.{struck-set}
 use Rattle.admission.specs.Tests.{ready}
-use Rattle.admission.specs.declared.tested.Tested.{Tested}
-use Rattle.admission.specs.declared.tested.Tested.TheVariants as tests
-use Rattle.desks.specs.State.{lent, next_desk}
-use Rattle.desks.specs.Turn.{DeskTurn, served_of, waiting, step_served, turn_from, turn_tested, turn_marks, repack_desk_turn, turn_of, turn_with, turn_on_marks}
-use Rattle.desks.specs.declared.state.Next.{Next}
-use Rattle.desks.specs.declared.state.Next.TheVariants as next
+use Rattle.desks.specs.State.{lent, next_index, owner, lines_at, next_desk}
+use Rattle.desks.specs.Turn.{DeskSheet, ended, DeskServed, DeskTurn, turn_to, served_of, waiting, step_served, turn_from, turn_tested, turn_marks, repack_desk_turn, turn_of, turn_with, turn_on_marks}
 use Rattle.desks.specs.declared.turn.Served.{Served}
-use Rattle.desks.specs.declared.turn.Served.TheVariants.{Ended}
-use Rattle.desks.specs.declared.turn.Turned.TheVariants as turned
 
 -- a turn changes marks only by an accepted line
 module _ {M : Type 0} (P : M → Type 0) where
@@ -43,14 +40,14 @@ module _ {M : Type 0} (P : M → Type 0) where
       by (refused number rec) e = k
 
 -- behind any tests
-pub tested_keeps : (P : List ℕ → Type 0) (table marks s : List ℕ) (index owner lines : ℕ) → P marks → (t : Tested) →
-    ((n : ℕ) → t ≡ tests.Points n → P (turn_from (marking_of n table) s (waiting marks index owner lines)).marks) →
+pub tested_keeps : (P : List ℕ → Type 0) (table marks s : List ℕ) (index owner lines : ℕ) → P marks → (t : Result ℕ Refusal) →
+    ((n : ℕ) → t ≡ Ok n → P (turn_from (marking_of n table) s (waiting marks index owner lines)).marks) →
     P (turn_tested t table marks s index owner lines).marks
-tested_keeps P table marks s index owner lines k (tests.Refused number) go = k
-tested_keeps P table marks s index owner lines k (tests.Points n) go = whole (whole_sheet (length s))
+tested_keeps P table marks s index owner lines k (Err x) go = k
+tested_keeps P table marks s index owner lines k (Ok n) go = whole (whole_sheet (length s))
   where
     whole : (b : Bool) →
-        P (unless b (served_of (Ended (verdict.Refused 7 0 lines)) marks)
+        P (unless b (turn_to (ended lines (refused (refusal_number refusal.Sheet) 0)) marks)
         (turn_from (marking_of n table) s (waiting marks index owner lines))).marks
     whole true = go n refl
     whole false = k
@@ -61,12 +58,12 @@ pub turn_keeps : (P : List ℕ → Type 0) (state marks : List ℕ) (go : (index
 unfolding turn_with
 turn_keeps P state marks go k each = room (lent state)
   where
-    served : (d : Next) → P (turn_of d state marks go).marks
-    served next.NoLine = k
-    served (next.Desk d) = each _ _ _
+    served : (d : Option ℕ) → P (turn_of d state marks go).marks
+    served None = k
+    served (Some d) = each _ _ _
 
     room : (b : Bool) →
-        P (unless b (record { answer = turned.Refused 22; state = state; marks = marks }) (turn_of (next_desk state) state marks go)).marks
+        P (unless b (record { answer = Err refusal.Buffer; state = state; marks = marks }) (turn_of (next_desk state) state marks go)).marks
     room true = served (next_desk state)
     room false = k
 
@@ -99,20 +96,21 @@ turned_packed p n table s set index owner lines r left some h q =
     let o : DeskTurn (List ℕ) = turn_from (marking_of p table) s (waiting (marks_of n set) index owner lines) in
     let m : marks_of n left ≡ o.marks = ap (λ (x : DeskTurn (List ℕ)). x.marks) q in
     let e : left ≡ packed o.marks = held_packed left some m (from_set p table s index owner lines (held_set n set h)) in
-    ap (served_of r) e ∙ ap (λ (x : Served). served_of x (packed o.marks)) (ap (λ (x : DeskTurn (List ℕ)). x.served) q) ∙ sym (rw h)
+    ap (served_of r) e ∙ ap (λ (x : DeskSheet). turn_to x (packed o.marks)) (ap (λ (x : DeskTurn (List ℕ)). x.served) q) ∙ sym (rw h)
 
 -- the desk that a turn serves is the one that the round robin finds
 module _ (state marks : List ℕ) (go : (index owner lines : ℕ) → DeskTurn (List ℕ)) where
-  pub turned_desk : {d : ℕ} {r : Served} → (turn_with state marks go).answer ≡ turned.Desk d r → next_desk state ≡ next.Desk d
+  pub turned_desk : {d : ℕ} {r : DeskSheet} → (turn_with state marks go).answer ≡ Ok (Some (record { desk = d; sheet = r })) → next_desk state ≡ Some d
   unfolding turn_with
   turned_desk {d} {r} = room (lent state)
     where
       room : (b : Bool) →
-          (unless b (record { answer = turned.Refused 22; state = state; marks = marks }) (turn_of (next_desk state) state marks go)).answer
-          ≡ turned.Desk d r → next_desk state ≡ next.Desk d
+          (unless b (record { answer = Err refusal.Buffer; state = state; marks = marks }) (turn_of (next_desk state) state marks go)).answer
+          ≡ Ok (Some (record { desk = d; sheet = r })) → next_desk state ≡ Some d
       room true e = by (next_desk state) refl e
         where
-          by : (x : Next) → next_desk state ≡ x → (turn_of x state marks go).answer ≡ turned.Desk d r → next_desk state ≡ next.Desk d
-          by next.NoLine f g = absurd (let z : ◌≡◌ {A = ℕ} 0 1 = cc in omega arith)
-          by (next.Desk k) f g = let i : k ≡ d = cc in f ∙ ap next.Desk i
+          by : (x : Option ℕ) → next_desk state ≡ x → (turn_of x state marks go).answer ≡ Ok (Some (record { desk = d; sheet = r })) → next_desk state ≡ Some d
+          by None f g = absurd (let z : ◌≡◌ {A = ℕ} 0 1 = cc in omega arith)
+          by (Some k) f g =
+              let i : ◌≡◌ {A = DeskServed} (record { desk = k; sheet = (go (next_index state k) (owner state k) (lines_at state k)).served }) (record { desk = d; sheet = r }) = cc in f ∙ ap (λ (y : DeskServed). Some y.desk) i
       room false e = absurd (let z : ◌≡◌ {A = ℕ} 0 1 = cc in omega arith)

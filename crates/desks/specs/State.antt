@@ -1,13 +1,11 @@
 -- The desks' state (02, Paper 14), a round robin over eight: lent bytes, of which the first 50 are 25 numbers of 16
 -- bits. The first is the last desk served, 0 at first; then of each desk come the index of its next line, the record
 -- that has this index, and the lines accepted. Any bytes are a state.
-use Rattle.std.specs.Prelude.{ℕ, zero, suc, ◌+◌, ◌-◌, ◌*◌, ◌%◌, Bool, true, false, List, ◌++◌, leb, ltb, length, get_or, take, drop}
+use Rattle.std.specs.Prelude.{ℕ, zero, suc, ◌+◌, ◌-◌, ◌*◌, ◌%◌, Bool, true, false, List, ◌++◌, leb, ltb, length, get_or, take, drop, Option, Some, None, Result, Ok, Err}
 use Rattle.endian.specs.Bytes.{little_endian}
 use Rattle.lists.specs.Test.{unless}
-use Rattle.desks.specs.declared.state.Next.{Next}
-use Rattle.desks.specs.declared.state.Next.TheVariants as next
-use Rattle.desks.specs.declared.state.NextAnswer.{NextAnswer}
-use Rattle.desks.specs.declared.state.NextAnswer.TheVariants as answer
+use Rattle.lengths.specs.declared.refusal.Refusal.{Refusal}
+use Rattle.lengths.specs.declared.refusal.Refusal.TheVariants as refusal
 
 -- "eight candidates"
 abbrev pub desk_count : ℕ
@@ -56,14 +54,14 @@ unfoldable pub following : ℕ → ℕ
 following d = d % desk_count + 1
 
 -- the first of so many desks from d on that has a line left
-unfoldable pub seek : List ℕ → (d count : ℕ) → Next
-seek state d zero = next.NoLine
-seek state d (suc count) = elim (has_line state d) [ true ↦ next.Desk d | false ↦ seek state (following d) count ]
+unfoldable pub seek : List ℕ → (d count : ℕ) → Option ℕ
+seek state d zero = None
+seek state d (suc count) = elim (has_line state d) [ true ↦ Some d | false ↦ seek state (following d) count ]
 
 -- "the next desk after the last served .. that has a line left"
-unfoldable pub next_desk : List ℕ → Next
+unfoldable pub next_desk : List ℕ → Option ℕ
 next_desk state = seek state (following (last_served state)) desk_count
 
 -- the operation "next desk"
-unfoldable pub next_answer : List ℕ → NextAnswer
-next_answer state = unless (lent state) (answer.Refused 22) (answer.Told (next_desk state))
+unfoldable pub next_answer : List ℕ → Result (Option ℕ) Refusal
+next_answer state = unless (lent state) (Err refusal.Buffer) (Ok (next_desk state))

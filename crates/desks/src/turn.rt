@@ -3,22 +3,22 @@ ghost use Rattle.std.specs.Prelude.{◌≡◌, ◌<◌};
 ghost use Rattle.endian.specs.Bytes.{whole16, whole32};
 ghost use Rattle.marks.specs.Packed.{marks_of};
 ghost use Rattle.sheets.specs.Rules.{marking_of};
-ghost use Rattle.desks.specs.Turn.{served_of, waiting, ahead, turn_from, turn_packed, TurnedAs};
+ghost use Rattle.desks.specs.Turn.{desk_sheet, served_of, waiting, ahead, turn_from, turn_packed, TurnedAs};
 ghost use Rattle.desks.specs.asks.State.{DeskAsked};
 ghost use Rattle.desks.specs.asks.Turn.{TurnAdmitted, TurnRows, ServeAsked, ServedAs, PutBackAs};
 
-use crate::state::{Next, STATE_BYTES, next_of, number_at, set_desk};
-use admission::tested::Tested;
-use admission::tests::test_ready;
-use endian::bytes::{count16, put16};
+use crate::state::{STATE_BYTES, next_of, number_at, set_desk};
+use endian::bytes::Number;
 use lengths::instance::Instance;
-use lengths::refusal;
+use lengths::refusal::{Refusal, Refused};
 use lengths::rows::fill_rows;
-use marking::mark::{FEW_ROWS, MOST_ROWS};
+use lengths::two_tables::{Rows, Tables};
+use marking::mark::{FEW_ROWS, MOST_ROWS, test_sheet};
 use marks::mark;
-use sheet_lines::line::{Stepped, mark_line};
-use sheets::sheet::{Sheet, SheetAdmission};
-use sheets::verdict::Verdict;
+use sheet_lines::line::mark_line;
+use sheets::board::Board;
+use sheets::sheet::Sheet;
+use sheets::verdict::{Stopped, Verdict};
 
 // What a turn makes of a desk's sheet: its next line waits at an index, which the record `owner` has, or the sheet has
 // ended.
@@ -28,64 +28,40 @@ pub enum Served {
     Ended(Verdict),
 }
 
-// The answer of "turn": the number of the refusal; that no desk has a line left; or the desk that was served, and what
-// came of it.
-#[derive(Drop)]
-pub enum Turned {
-    Refused(u8),
-    NoLine,
-    Desk { desk: u16, served: Served },
-}
-
-// The sheet has ended with this refusal.
-fn stopped(number: u8, at: u16, lines: u16) -> Served
-    ensures { result ≡ Served.Ended (Verdict.Refused number at lines) }
-{
-    let verdict = Verdict::Refused {
-        refusal: number,
-        record: at,
-        lines: lines,
-    };
-    Served::Ended(verdict)
-}
-
-// The sheet has ended, with all its lines accepted.
-fn accepted(lines: u16) -> Served
-    ensures { result ≡ Served.Ended (Verdict.Accepted lines) }
-{
-    let verdict = Verdict::Accepted { lines: lines };
-    Served::Ended(verdict)
+// What a turn comes to: the desk that was served, and what came of it.
+#[derive(Clone, Copy)]
+pub struct Turned {
+    pub desk: u16,
+    pub served: Served,
 }
 
 // Looks at the next index of an accepted line, in the same turn: 0 ends the sheet, 8 and 9 refuse it, and else the line
 // there waits.
+#[tactic(auto, unfolding(crate::specs::Turn::ahead, sheets::specs::asks::Sheet::index_tested, lengths::specs::Refusal::refusal_number))]
 fn ahead(count: u16, index: u16, owner: u16, high: u16, lines: u16) -> Served
-    ensures { result ≡ ahead count index owner high lines }
+    ensures { desk_sheet result ≡ ahead count index owner high lines }
 {
     if index == 0 {
-        return accepted(lines);
+        return Served::Ended(Ok(lines));
     }
-    if count < index {
-        return stopped(refusal::INDEX_ABOVE, owner, lines);
-    }
-    if index <= high {
-        return stopped(refusal::INDEX_NOT_ABOVE, owner, lines);
-    }
-    Served::Waits {
-        index: index,
-        owner: owner,
-        lines: lines,
+    match Sheet::test_index(count, owner, index, high) {
+        Ok(()) => Served::Waits {
+            index,
+            owner,
+            lines,
+        },
+        Err(refused) => Served::Ended(Err(Stopped { refused, lines })),
     }
 }
 
 // Writes the rows of lengths, and marks the line that waits by them. Its index was found above every record entered,
 // so none is handed on as the highest.
-fn turn_by_rows(
+fn turn_by_rows<'a>(
     n: u16,
-    table: &[u8],
-    rows: &mut [u32],
+    table: &'a [u8],
+    rows: &'a mut [u32],
     marks: &mut [u8],
-    sheet: &[u8],
+    sheet: &'a [u8],
     count: u16,
     index: u16,
     owner: u16,
@@ -97,23 +73,24 @@ fn turn_by_rows(
         (waiting (marks_of n marks.old) index owner lines) }
 {
     fill_rows(n, table, rows);
-    match mark_line(
-        n,
-        mark::STRUCK,
-        table,
-        table,
-        rows,
-        rows,
-        marks,
+    let board = Board {
+        tables: Tables {
+            n,
+            out: table,
+            put: table,
+        },
+        rows: Rows {
+            n,
+            out: rows,
+            put: rows,
+        },
         sheet,
         count,
-        owner,
-        index,
-        0,
-    ) {
-        Stepped::Over => accepted(lines),
-        Stepped::Refused(number, at) => stopped(number, at, lines),
-        Stepped::Struck { next, high } => ahead(count, next, index, high, lines + 1),
+    };
+    match mark_line(board, mark::STRUCK, marks, owner, index, 0) {
+        Ok(None) => Served::Ended(Ok(lines)),
+        Err(refused) => Served::Ended(Err(Stopped { refused, lines })),
+        Ok(Some(strike)) => ahead(count, strike.next, index, strike.high, lines + 1),
     }
 }
 
@@ -160,23 +137,21 @@ fn turn_sheet(
     ensures { served_of result marks.new ≡ turn_packed n (whole32 table.now)
         marks.old (whole16 sheet.now) index owner lines }
 {
-    let points = match test_ready(n, table, marks) {
-        Tested::Points(points) => points,
-        Tested::Refused(number) => return stopped(number, refusal::NO_RECORD, lines),
-    };
-    let numbers = count16(sheet);
-    match Sheet::admit(numbers) {
-        SheetAdmission::Refused => stopped(refusal::SHEET, refusal::NO_RECORD, lines),
-        SheetAdmission::Admitted(admitted) => turn_admitted(
-            points,
+    match test_sheet(n, table, marks, sheet) {
+        Ok(passed) => turn_admitted(
+            passed.points,
             table,
             marks,
             sheet,
-            admitted.records,
+            passed.records,
             index,
             owner,
             lines,
         ),
+        Err(refusal) => Served::Ended(Err(Stopped {
+            refused: Refused::from(refusal),
+            lines,
+        })),
     }
 }
 
@@ -214,26 +189,27 @@ fn serve(
     let lines = number_at(desks, last);
     let served = turn_sheet(n, table, marks, sheet, index, owner, lines);
     put_back(desks, desk, served);
-    put16(desks, 0, desk);
+    u16::put(desks, 0, desk);
     served
 }
 
 // One turn: test 22, then one line of the next desk that has one.
-pub fn turn(desks: &mut [u8], n: u32, table: &[u8], marks: &mut [u8], sheet: &[u8]) -> Turned
+pub fn turn(
+    desks: &mut [u8],
+    n: u32,
+    table: &[u8],
+    marks: &mut [u8],
+    sheet: &[u8],
+) -> Result<Option<Turned>, Refusal>
     ensures { TurnedAs desks.old n (whole32 table.now) marks.old
         (whole16 sheet.now) result desks.new marks.new }
 {
     if desks.len() < STATE_BYTES {
-        return Turned::Refused(refusal::BUFFER);
+        return Err(Refusal::Buffer);
     }
-    match next_of(desks) {
-        Next::NoLine => Turned::NoLine,
-        Next::Desk(desk) => {
-            let served = serve(desks, desk, n, table, marks, sheet);
-            Turned::Desk {
-                desk: desk,
-                served: served,
-            }
-        }
-    }
+    let Some(desk) = next_of(desks) else {
+        return Ok(None);
+    };
+    let served = serve(desks, desk, n, table, marks, sheet);
+    Ok(Some(Turned { desk, served }))
 }

@@ -9,36 +9,13 @@ use lib.ListN.{length, get_or, drop}
 use lib.Seq.{drop-cons}
 use borrow.Author.Tests.{eq-eqb, ne_eqb, eqb-true}
 use Rattle.endian.specs.Bytes.{numbers16, numbers32, whole16, whole32}
-use Rattle.endian.specs.asks.Bytes.{ByteIs}
+use Rattle.endian.specs.Counted.{numbers_count16, numbers_count32}
 
 -- what is left at j: the byte there, and what is left at the next place
 pub drop_next : (xs : List ℕ) (j k : ℕ) → k ≡ suc j → j < length xs → drop j xs ≡ get_or xs j 0 ∷ drop k xs
 drop_next xs j k e h = rw e (drop-cons xs j 0 h)
 
--- how many numbers there are
-numbers_count16 : (bytes : List ℕ) → length (numbers16 bytes) ≡ length bytes / 2
-unfolding numbers16
-numbers_count16 [] = refl
-numbers_count16 (a ∷ []) = refl
-numbers_count16 (a ∷ b ∷ rest) = omega (arith, numbers_count16 rest)
-
-pub numbers_count32 : (bytes : List ℕ) → length (numbers32 bytes) ≡ length bytes / 4
-unfolding numbers32
-numbers_count32 [] = refl
-numbers_count32 (a ∷ []) = refl
-numbers_count32 (a ∷ b ∷ []) = refl
-numbers_count32 (a ∷ b ∷ c ∷ []) = refl
-numbers_count32 (a ∷ b ∷ c ∷ d ∷ rest) = omega (arith, numbers_count32 rest)
-
 module _ (bytes : List ℕ) where
-  pub none16 : (length bytes % 2 ≡ 0 → ⊥) → 0 ≡ length (whole16 bytes)
-  unfolding whole16
-  none16 h = rw (ne_eqb (length bytes % 2) 0 h)
-
-  pub none32 : (length bytes % 4 ≡ 0 → ⊥) → 0 ≡ length (whole32 bytes)
-  unfolding whole32
-  none32 h = rw (ne_eqb (length bytes % 4) 0 h)
-
   pub whole_count16 : length bytes % 2 ≡ 0 → length bytes / 2 ≡ length (whole16 bytes)
   unfolding whole16
   whole_count16 h = rw (eq-eqb (length bytes % 2) 0 h) (sym (numbers_count16 bytes))
@@ -110,12 +87,12 @@ module _ (bytes : List ℕ) (at : ℕ) where
   pub inside32 : at < length (whole32 bytes) → 4 * at + 3 < length bytes
   inside32 h = omega (arith, (whole_of32 bytes (omega arith)).size)
 
-  pub entry16 : {p q : ℕ} → at < length (whole16 bytes) → ByteIs (get_or bytes (2 * at) 0) p → ByteIs (get_or bytes (2 * at + 1) 0) q
+  pub entry16 : {p q : ℕ} → at < length (whole16 bytes) → p ≡ get_or bytes (2 * at) 0 → q ≡ get_or bytes (2 * at + 1) 0
       → p + 256 * q ≡ get_or (whole16 bytes) at 0
-  entry16 h a b = rw (a.same, b.same) (sym (bytes_of16 bytes at (inside16 h)) ∙ ap (λ (xs : List ℕ). get_or xs at 0) (sym (whole_of16 bytes (omega arith)).all))
+  entry16 h a b = rw (a, b) (sym (bytes_of16 bytes at (inside16 h)) ∙ ap (λ (xs : List ℕ). get_or xs at 0) (sym (whole_of16 bytes (omega arith)).all))
 
-  pub entry32 : {p q r s : ℕ} → at < length (whole32 bytes) → ByteIs (get_or bytes (4 * at) 0) p → ByteIs (get_or bytes (4 * at + 1) 0) q
-      → ByteIs (get_or bytes (4 * at + 2) 0) r → ByteIs (get_or bytes (4 * at + 3) 0) s
+  pub entry32 : {p q r s : ℕ} → at < length (whole32 bytes) → p ≡ get_or bytes (4 * at) 0 → q ≡ get_or bytes (4 * at + 1) 0
+      → r ≡ get_or bytes (4 * at + 2) 0 → s ≡ get_or bytes (4 * at + 3) 0
       → p + 256 * q + 65536 * r + 16777216 * s ≡ get_or (whole32 bytes) at 0
   entry32 h a b c d =
-      rw (a.same, b.same, c.same, d.same) (sym (bytes_of32 bytes at (inside32 h)) ∙ ap (λ (xs : List ℕ). get_or xs at 0) (sym (whole_of32 bytes (omega arith)).all))
+      rw (a, b, c, d) (sym (bytes_of32 bytes at (inside32 h)) ∙ ap (λ (xs : List ℕ). get_or xs at 0) (sym (whole_of32 bytes (omega arith)).all))

@@ -1,99 +1,109 @@
 // Little-endian numbers of 16 and 32 bits among bytes, read and written in place.
-ghost use Rattle.std.specs.Prelude.{◌≡◌, ◌++◌, ◌*◌, ◌%◌, ◌<◌, length, get_or, drop};
+ghost use Rattle.std.specs.Prelude.{◌≡◌, ◌++◌, ◌*◌, ◌/◌, ◌%◌, ◌<◌, ℕ, List, cond, eqb, length, get_or, drop};
 ghost use Rattle.endian.specs.Bytes.{bytes16, whole16, whole32};
-ghost use Rattle.endian.specs.asks.Bytes.{ByteIs, EncodeAsked, Entry, Put};
+ghost use Rattle.endian.specs.asks.Bytes.{EncodeAsked, Entry, Put};
+ghost use Rattle.std.proofs.Common.{rules};
+ghost use Rattle.endian.specs.Counted.{counted16, counted32};
 
-// How many numbers of 32 bits the bytes are: none where they are no whole numbers.
-pub fn count32(bytes: &[u8]) -> usize
-    ensures { result ≡ length (whole32 bytes.now) }
+// A number that stands among bytes, its lowest byte first.
+pub trait Number: Copy {
+    // How many bytes it has.
+    ghost BYTES: { ℕ };
+
+    // The number itself, and the numbers that bytes are: none where they are no whole numbers.
+    ghost value: { Self → ℕ };
+
+    ghost whole: { List ℕ → List ℕ };
+
+    const BYTES: usize;
+
+    // The number at a place among the numbers that the bytes are.
+    fn number(bytes: &[u8], at: usize) -> Self
+        requires { at < length (whole bytes.now) }
+        ensures { value result ≡ get_or (whole bytes.now) at 0 };
+
+    // Writes a number over the entry with this number.
+    fn put(bytes: &mut [u8], at: usize, number: Self)
+        requires { Entry BYTES bytes.old at }
+        ensures { Put BYTES bytes.old at (value number) bytes.new };
+
+    // What each `impl` must prove.
+    ghost counted: { (bytes : List ℕ) → length (whole bytes) ≡ cond (eqb (length bytes % BYTES) 0) (length bytes / BYTES) 0 };
+
+    ghost some_bytes: { 0 < BYTES };
+}
+
+// How many numbers the bytes are: none where they are no whole numbers.
+pub fn count_of<T: Number>(bytes: &[u8]) -> usize
+    ensures { result ≡ length (T.whole bytes.now) }
 {
-    if bytes.len() % 4 != 0 {
+    if bytes.len() % T::BYTES != 0 {
         return 0;
     }
-    bytes.len() / 4
+    bytes.len() / T::BYTES
 }
 
-// The same for 16 bits.
-pub fn count16(bytes: &[u8]) -> usize
-    ensures { result ≡ length (whole16 bytes.now) }
-{
-    if bytes.len() % 2 != 0 {
-        return 0;
+impl Number for u16 {
+    ghost BYTES = { 2 };
+
+    ghost value = { λ x. x };
+
+    ghost whole = { whole16 };
+
+    const BYTES: usize = 2;
+
+    fn number(bytes: &[u8], at: usize) -> u16 {
+        let start = 2 * at;
+        u16::from(bytes[start]) + 256 * u16::from(bytes[start + 1])
     }
-    bytes.len() / 2
+
+    fn put(bytes: &mut [u8], at: usize, number: u16) {
+        let start = 2 * at;
+        bytes[start] = (number % 256) as u8;
+        bytes[start + 1] = (number / 256) as u8;
+    }
+
+    ghost counted = { counted16 };
+
+    ghost some_bytes = { Prim.search rules };
 }
 
-// The number of 32 bits at a place among the numbers that the bytes are.
-pub fn number32(bytes: &[u8], at: usize) -> u32
-    requires { at < length (whole32 bytes.now) }
-    ensures { result ≡ get_or (whole32 bytes.now) at 0 }
-{
-    let start = 4 * at;
-    byte(bytes[start])
-        + 256 * byte(bytes[start + 1])
-        + 65_536 * byte(bytes[start + 2])
-        + 16_777_216 * byte(bytes[start + 3])
+impl Number for u32 {
+    ghost BYTES = { 4 };
+
+    ghost value = { λ x. x };
+
+    ghost whole = { whole32 };
+
+    const BYTES: usize = 4;
+
+    fn number(bytes: &[u8], at: usize) -> u32 {
+        let start = 4 * at;
+        u32::from(bytes[start])
+            + 256 * u32::from(bytes[start + 1])
+            + 65_536 * u32::from(bytes[start + 2])
+            + 16_777_216 * u32::from(bytes[start + 3])
+    }
+
+    fn put(bytes: &mut [u8], at: usize, number: u32) {
+        let start = 4 * at;
+        bytes[start] = (number % 256) as u8;
+        bytes[start + 1] = (number / 256 % 256) as u8;
+        bytes[start + 2] = (number / 65_536 % 256) as u8;
+        bytes[start + 3] = (number / 16_777_216) as u8;
+    }
+
+    ghost counted = { counted32 };
+
+    ghost some_bytes = { Prim.search rules };
 }
 
-// The same for 16 bits.
-pub fn number16(bytes: &[u8], at: usize) -> u16
-    requires { at < length (whole16 bytes.now) }
-    ensures { result ≡ get_or (whole16 bytes.now) at 0 }
-{
-    let start = 2 * at;
-    byte16(bytes[start]) + 256 * byte16(bytes[start + 1])
-}
-
-// Writes a number of 32 bits over the entry with this number.
-pub fn put32(bytes: &mut [u8], at: usize, number: u32)
-    requires { Entry 4 bytes.old at }
-    ensures { Put 4 bytes.old at number bytes.new }
-{
-    let start = 4 * at;
-    bytes[start] = low(number);
-    bytes[start + 1] = low(number / 256);
-    bytes[start + 2] = low(number / 65_536);
-    bytes[start + 3] = low(number / 16_777_216);
-}
-
-// The same for 16 bits.
-pub fn put16(bytes: &mut [u8], at: usize, number: u16)
-    requires { Entry 2 bytes.old at }
-    ensures { Put 2 bytes.old at number bytes.new }
-{
-    let start = 2 * at;
-    let wide = number as u32;
-    bytes[start] = low(wide);
-    bytes[start + 1] = low(wide / 256);
-}
-
-// Writes the bytes of the numbers to the front of `bytes`; those past them stay. Ends: i rises to their number.
+// Writes the bytes of the numbers to the front of `bytes`; those past them stay. Ends with the numbers.
 pub fn encode16(numbers: &[u16], bytes: &mut [u8])
     requires { EncodeAsked 2 numbers.now bytes.old }
     ensures { bytes.new ≡ bytes16 numbers.now ++ drop (2 * length numbers.now) bytes.old }
 {
-    let mut i = 0;
-    while i < numbers.len() {
-        put16(bytes, i, numbers[i]);
-        i += 1;
+    for (i, number) in numbers.iter().enumerate() {
+        u16::put(bytes, i, *number);
     }
-}
-
-// The lowest byte of a number.
-fn low(number: u32) -> u8
-    ensures { result ≡ number % 256 }
-{
-    (number % 256) as u8
-}
-
-fn byte(b: u8) -> u32
-    ensures { ByteIs b result }
-{
-    b as u32
-}
-
-fn byte16(b: u8) -> u16
-    ensures { ByteIs b result }
-{
-    b as u16
 }

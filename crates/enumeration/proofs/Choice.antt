@@ -23,7 +23,7 @@ use Rattle.sets.specs.asks.Stored.{Single}
 use Rattle.sets.specs.declared.edge_set.EdgeSet.{EdgeSet}
 use Rattle.search.proofs.SingleEdge.{EndOf, end_first, end_second, end_pairs, single_pairs}
 use Rattle.enumeration.specs.Find.{pairs_at, numbers_of}
-use Rattle.enumeration.specs.asks.Find.{unbarred?, barred_in, passes_apart?, at_end?, FindAsked, Found}
+use Rattle.enumeration.specs.asks.Find.{barred?, unbarred?, barred_in, passes_apart?, at_end?, FindAsked, Found}
 
 pub single_asked : {n : ℕ} {out put marks : List ℕ} {a b c : ℕ} {found : List ℕ} {k : EdgeSet} → FindAsked n out put marks a b c found → Single a b k → SingleAsked n out put marks k c
 single_asked {n} g s = record { legs = g.legs; held = s.held n g.first g.second; one = s.one }
@@ -53,16 +53,13 @@ module _ {n : ℕ} {out put marks : List ℕ} {a b c : ℕ} {found₀ legs : Lis
 -- c is no point of ab
 
 module _ (low high x z : ℕ) (rises : low < high) (first : 1 ≤ x) (up : x < z) where
-  barred_here : x ≡ low → eqb z (barred_in low high x) ≡ eqb z high
-  unfolding barred_in
+  barred_here : x ≡ low → barred? (barred_in low high x) z ≡ eqb z high
   barred_here e = rw (eq-eqb x low e)
 
-  barred_elsewhere : (x ≡ low → ⊥) → eqb z (barred_in low high x) ≡ false
-  unfolding barred_in
-  barred_elsewhere h = rw (ne_eqb x low h) (ne_eqb z 0 (λ e. omega arith))
+  barred_elsewhere : (x ≡ low → ⊥) → barred? (barred_in low high x) z ≡ false
+  barred_elsewhere h = rw (ne_eqb x low h)
 
-  barred_up : eqb z (barred_in low high x) ≡ joins? low high x z
-  unfolding joins?
+  barred_up : barred? (barred_in low high x) z ≡ joins? low high x z
   barred_up = elim (ℕ_discrete x low) [
     | yes e ↦ elim (ℕ_discrete z high) [
       | yes f ↦ rw (barred_here e, eq-eqb z high f, eq-eqb low x (sym e), eq-eqb high z (sym f))
@@ -80,8 +77,7 @@ module _ (low high x z : ℕ) (rises : low < high) (first : 1 ≤ x) (up : x < z
     ]
   ]
 
-  barred_down : eqb z (barred_in low high x) ≡ joins? high low x z
-  unfolding joins?
+  barred_down : barred? (barred_in low high x) z ≡ joins? high low x z
   barred_down = elim (ℕ_discrete x low) [
     | yes e ↦ elim (ℕ_discrete z high) [
       | yes f ↦ rw (
@@ -112,10 +108,10 @@ record Ordered (a b low high : ℕ) : Type 0 where
   rises : low < high
   points : ((a ≡ low) × (b ≡ high)) ⊎ ((a ≡ high) × (b ≡ low))
 
-barred_edge : {a b low high : ℕ} → Ordered a b low high → (x z : ℕ) → 1 ≤ x → x < z → eqb z (barred_in low high x) ≡ joins? a b x z
+barred_edge : {a b low high : ℕ} → Ordered a b low high → (x z : ℕ) → 1 ≤ x → x < z → barred? (barred_in low high x) z ≡ joins? a b x z
 barred_edge {a} {b} {low} {high} o x z first up = go o.points
   where
-    go : ((a ≡ low) × (b ≡ high)) ⊎ ((a ≡ high) × (b ≡ low)) → eqb z (barred_in low high x) ≡ joins? a b x z
+    go : ((a ≡ low) × (b ≡ high)) ⊎ ((a ≡ high) × (b ≡ low)) → barred? (barred_in low high x) z ≡ joins? a b x z
     go (inl e) = barred_up low high x z o.rises first up ∙ ap₂ (λ (p q : ℕ). joins? p q x z) (sym e.0) (sym e.1)
     go (inr e) = barred_down low high x z o.rises first up ∙ ap₂ (λ (p q : ℕ). joins? p q x z) (sym e.0) (sym e.1)
 
@@ -125,7 +121,7 @@ module _ {n : ℕ} {out put marks : List ℕ} {a b c : ℕ} {found₀ legs : Lis
   unfolding pairs_at passes_apart? unbarred?
   apart_pairs {low} {high} o = single_pairs g.legs.intervals.out_lengths g.legs.intervals.put_lengths p g.least g.apart c-a c-b (passes_apart? n put legs bound low high) same
     where
-      same : (x y : ℕ) → IsEdgeUp n x y → passes? n put legs bound x y && not (eqb y (barred_in low high x)) ≡ passes? n put legs bound x y && not (joins? a b x y)
+      same : (x y : ℕ) → IsEdgeUp n x y → passes? n put legs bound x y && not (barred? (barred_in low high x) y) ≡ passes? n put legs bound x y && not (joins? a b x y)
       same x y u = ap (λ (t : Bool). passes? n put legs bound x y && not t) (barred_edge o x y u.low u.up)
 
   pub apart_up : {count : ℕ} {found : List ℕ} → a < b → Found (keep (passes_apart? n put legs bound a b) (edges n)) count found → Found (pairs_at n out put marks a b c) count found

@@ -1,4 +1,5 @@
 // All feasible pairs of one edge at a split point.
 #![tactic(auto)]
 
+pub mod comparison;
 pub mod find;

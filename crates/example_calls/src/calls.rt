@@ -1,5 +1,8 @@
-// The functions for C by their numbers in the list of `example_text`. Arguments that are numbers stand at their
-// places, counted from 0; buffers are what is lent.
+// The functions for C, called. Arguments that are numbers stand at their places, counted from 0; buffers are what is
+// lent.
+use example_text::arguments::Slots;
+use example_text::digits::{Signed, read_signed};
+use example_text::signatures::Function;
 use revosti::between::{revosti_list_between, revosti_mark_between};
 use revosti::converting::{revosti_pack_marks, revosti_unpack_marks};
 use revosti::desk::{revosti_hand_in, revosti_next_desk, revosti_open_desks, revosti_turn};
@@ -16,154 +19,92 @@ use revosti::tell::revosti_tell_line;
 use revosti::tour::revosti_check_tour;
 
 // The answer, a saving's with its sign.
-#[derive(Drop)]
+#[derive(Clone, Copy, PartialEq, Eq)]
 pub enum Answer {
     Number(u64),
     Saving(i64),
 }
 
+impl Answer {
+    // The saving with this sign: none where 64 bits do not hold it.
+    fn saving(signed: Signed) -> Option<Answer> {
+        let saving = match signed {
+            Signed::Plain(size) => i64::try_from(size).ok()?,
+            Signed::Minus(size) => -i64::try_from(size).ok()?,
+        };
+        Some(Answer::Saving(saving))
+    }
+
+    // The answer of a function that a text begins with, and what stands behind it. None is a number that the function
+    // never answers.
+    pub fn read(function: Function, text: &[u8]) -> Option<(Option<Answer>, &[u8])> {
+        let (signed, rest) = read_signed(text)?;
+        let answer = match (function, signed) {
+            (Function::ExchangeSaving | Function::MoveSaving | Function::CrossingSaving, _) => {
+                Answer::saving(signed)
+            }
+            (_, Signed::Plain(number)) => Some(Answer::Number(number)),
+            (_, Signed::Minus(_)) => None,
+        };
+        Some((answer, rest))
+    }
+}
+
 // A number of 32 bits, and one of 16. What is read is never above.
 fn word(x: u64) -> u32 {
-    if x < 4_294_967_296 {
-        return x as u32;
-    }
-    0
+    u32::try_from(x).unwrap_or(0)
 }
 
 fn half(x: u64) -> u16 {
-    if x < 65_536 {
-        return x as u16;
-    }
-    0
+    u16::try_from(x).unwrap_or(0)
 }
 
-// Boards and marks, 0 to 7.
-fn of_boards(
-    number: usize,
-    x: &[u64; 16],
-    table: &mut [u8],
-    marks: &mut [u8],
-    sheet: &mut [u8],
-    text: &[u8],
-) -> u64 {
-    let n = word(x[0]);
-    let rule = word(x[1]);
-    match number {
-        0 => revosti_measure(n, rule, sheet, table),
-        1 => revosti_read_tsplib(text, table),
-        2 => revosti_tsplib_points(text),
-        3 => revosti_fresh_marks(n, marks),
-        4 => revosti_pack_marks(n, sheet, marks),
-        5 => revosti_unpack_marks(n, marks, sheet),
-        6 => revosti_confirm(n, marks),
-        _ => revosti_withdraw(n, marks),
-    }
+// The saving of a crossing.
+fn crossing(n: u32, table: &[u8], h: [u16; 16]) -> i64 {
+    revosti_crossing_saving(n, table, h[2], h[3], h[4], h[5], h[6], h[7], h[8], h[9])
 }
 
-// Sheets that are marked, and tours, 8 to 11.
-fn of_sheets(
-    number: usize,
-    n: u32,
-    table: &[u8],
-    marks: &mut [u8],
-    sheet: &[u8],
-    text: &[u8],
-) -> u64 {
-    match number {
-        8 => revosti_mark_sheet(n, table, marks, sheet),
-        9 => revosti_ask_sheet(n, table, marks, sheet),
-        10 => revosti_mark_between(n, table, text, marks, sheet),
-        _ => revosti_check_tour(n, table, marks, sheet),
-    }
-}
-
-// Pairs, and a line that is told, 12 to 14.
-fn of_pairs(
-    number: usize,
-    x: &[u64; 16],
-    table: &[u8],
-    marks: &[u8],
-    sheet: &mut [u8],
-    text: &mut [u8],
-) -> u64 {
-    let n = word(x[0]);
-    let a = half(x[3]);
-    let b = half(x[4]);
-    let c = half(x[5]);
-    match number {
-        12 => revosti_list_pairs(n, table, marks, a, b, c, sheet),
-        13 => revosti_list_between(n, table, text, marks, b, c, half(x[6]), sheet),
-        _ => revosti_tell_line(n, table, marks, sheet, word(x[4]), text),
-    }
-}
-
-// Slips and pages, 15 to 19.
-fn of_receipts(
-    number: usize,
-    x: &[u64; 16],
-    table: &mut [u8],
-    marks: &mut [u8],
-    sheet: &mut [u8],
-    text: &mut [u8],
-) -> u64 {
-    let n = word(x[0]);
-    match number {
-        15 => revosti_release(x[0]),
-        16 => revosti_examiner_view(x[0], sheet),
-        17 => revosti_candidate_view(x[0], sheet),
-        18 => revosti_write_page(n, table, marks, word(x[3]), text),
-        _ => revosti_read_page(n, word(x[1]), text, table, marks),
-    }
-}
-
-// Desks, 20 to 23.
-fn of_desks(
-    number: usize,
-    x: &[u64; 16],
-    table: &[u8],
-    marks: &mut [u8],
-    sheet: &[u8],
-    desks: &mut [u8],
-) -> u64 {
-    let first = word(x[1]);
-    match number {
-        20 => revosti_open_desks(desks),
-        21 => revosti_hand_in(desks, first, word(x[2]), table, marks, sheet),
-        22 => revosti_next_desk(desks),
-        _ => revosti_turn(desks, first, table, marks, sheet),
-    }
-}
-
-// Savings, from 24 on.
-fn of_savings(number: usize, x: &[u64; 16], table: &[u8]) -> i64 {
-    let n = word(x[0]);
-    let a = half(x[2]);
-    let b = half(x[3]);
-    let c = half(x[4]);
-    let d = half(x[5]);
-    let e = half(x[6]);
-    match number {
-        24 => revosti_exchange_saving(n, table, a, b, c, d),
-        25 => revosti_move_saving(n, table, a, b, c, d, e),
-        _ => revosti_crossing_saving(n, table, a, b, c, d, e, half(x[7]), half(x[8]), half(x[9])),
-    }
-}
-
-// Calls a function.
-pub fn call(
-    number: usize,
-    x: &[u64; 16],
-    table: &mut [u8],
-    marks: &mut [u8],
-    sheet: &mut [u8],
-    text: &mut [u8],
-) -> Answer {
-    match number {
-        0..=7 => Answer::Number(of_boards(number, x, table, marks, sheet, text)),
-        8..=11 => Answer::Number(of_sheets(number, word(x[0]), table, marks, sheet, text)),
-        12..=14 => Answer::Number(of_pairs(number, x, table, marks, sheet, text)),
-        15..=19 => Answer::Number(of_receipts(number, x, table, marks, sheet, text)),
-        20..=23 => Answer::Number(of_desks(number, x, table, marks, sheet, text)),
-        _ => Answer::Saving(of_savings(number, x, table)),
-    }
+// Calls a function with what is lent of the buffers.
+pub fn call(function: Function, numbers: &[u64; 16], slots: &mut Slots) -> Answer {
+    let w = numbers.map(word);
+    let h = numbers.map(half);
+    let table = slots.table.lend();
+    let marks = slots.marks.lend();
+    let sheet = slots.sheet.lend();
+    let text = slots.text.lend();
+    Answer::Number(match function {
+        Function::Measure => revosti_measure(w[0], w[1], sheet, table),
+        Function::ReadTsplib => revosti_read_tsplib(text, table),
+        Function::TsplibPoints => revosti_tsplib_points(text),
+        Function::FreshMarks => revosti_fresh_marks(w[0], marks),
+        Function::PackMarks => revosti_pack_marks(w[0], sheet, marks),
+        Function::UnpackMarks => revosti_unpack_marks(w[0], marks, sheet),
+        Function::Confirm => revosti_confirm(w[0], marks),
+        Function::Withdraw => revosti_withdraw(w[0], marks),
+        Function::MarkSheet => revosti_mark_sheet(w[0], table, marks, sheet),
+        Function::AskSheet => revosti_ask_sheet(w[0], table, marks, sheet),
+        Function::MarkBetween => revosti_mark_between(w[0], table, text, marks, sheet),
+        Function::CheckTour => revosti_check_tour(w[0], table, marks, sheet),
+        Function::ListPairs => revosti_list_pairs(w[0], table, marks, h[3], h[4], h[5], sheet),
+        Function::ListBetween => {
+            revosti_list_between(w[0], table, text, marks, h[4], h[5], h[6], sheet)
+        }
+        Function::TellLine => revosti_tell_line(w[0], table, marks, sheet, w[4], text),
+        Function::Release => revosti_release(numbers[0]),
+        Function::ExaminerView => revosti_examiner_view(numbers[0], sheet),
+        Function::CandidateView => revosti_candidate_view(numbers[0], sheet),
+        Function::WritePage => revosti_write_page(w[0], table, marks, w[3], text),
+        Function::ReadPage => revosti_read_page(w[0], w[1], text, table, marks),
+        Function::OpenDesks => revosti_open_desks(text),
+        Function::HandIn => revosti_hand_in(text, w[1], w[2], table, marks, sheet),
+        Function::NextDesk => revosti_next_desk(text),
+        Function::Turn => revosti_turn(text, w[1], table, marks, sheet),
+        Function::ExchangeSaving => {
+            return Answer::Saving(revosti_exchange_saving(w[0], table, h[2], h[3], h[4], h[5]));
+        }
+        Function::MoveSaving => {
+            return Answer::Saving(revosti_move_saving(w[0], table, h[2], h[3], h[4], h[5], h[6]));
+        }
+        Function::CrossingSaving => return Answer::Saving(crossing(w[0], table, h)),
+    })
 }

@@ -1,5 +1,4 @@
-// The functions for C by their numbers, called with what a line of the examples lends.
+// The functions for C, called with what a line of the examples lends.
 #![tactic(auto)]
 
 pub mod calls;
-pub mod lending;

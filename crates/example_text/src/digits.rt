@@ -1,104 +1,29 @@
-// Bytes, places and numbers of a line.
-use std::num::wrapping_add_usize;
+// Numbers at the front of a text, each with what stands behind it.
+ghost use Rattle.std.specs.Prelude.{◌≤◌, IfSome};
 
-// The number that begins at a place, and the place behind it.
-#[derive(Drop)]
-pub enum Number {
-    Read { value: u64, next: usize },
-    None,
+// The digits at the front, which are a number up to the most.
+pub fn read_number(text: &[u8], most: u64) -> Option<(u64, &[u8])>
+    ensures { IfSome result (λ read. read.0 ≤ most) }
+{
+    let digits = text.iter().take_while(|x| x.is_ascii_digit()).count();
+    let (number, rest) = text.split_at_checked(digits)?;
+    let value = str::from_utf8(number).ok()?.parse::<u64>().ok()?;
+    (value <= most).then_some((value, rest))
 }
 
-// The same with a sign.
-#[derive(Drop)]
+// A number, and whether a minus sign stands before it.
+#[derive(Clone, Copy)]
 pub enum Signed {
-    Read {
-        negative: bool,
-        size: u64,
-        next: usize,
-    },
-    None,
+    Plain(u64),
+    Minus(u64),
 }
 
-#[derive(Drop)]
-enum Grown {
-    To(u64),
-    Past,
-}
-
-// The byte at a place; a newline past the end.
-pub fn byte(line: &[u8], at: usize) -> u8 {
-    if at < line.len() {
-        return line[at];
+// The same, where a minus sign may stand before the number.
+pub fn read_signed(text: &[u8]) -> Option<(Signed, &[u8])> {
+    if let Some(digits) = text.strip_prefix(b"-") {
+        let (size, rest) = read_number(digits, u64::MAX)?;
+        return Some((Signed::Minus(size), rest));
     }
-    b'\n'
-}
-
-// The next place.
-pub fn past(at: usize) -> usize {
-    wrapping_add_usize(at, 1)
-}
-
-fn wide(x: u8) -> u64 {
-    x as u64
-}
-
-// What a digit says; 10 of any other byte.
-fn digit(x: u8) -> u64 {
-    if x < b'0' || b'9' < x {
-        return 10;
-    }
-    wide(x - b'0')
-}
-
-// A number with one digit more, where it is not above the most.
-fn longer(value: u64, last: u64, most: u64) -> Grown {
-    if most / 10 < value {
-        return Grown::Past;
-    }
-    let tens = value * 10;
-    if most - tens < last {
-        return Grown::Past;
-    }
-    Grown::To(tens + last)
-}
-
-// The digits from a place on, which are a number up to the most. What is left of the line becomes less.
-pub fn read_number(line: &[u8], from: usize, most: u64) -> Number {
-    let mut at = from;
-    let mut value = 0;
-    while at < line.len() {
-        let last = digit(line[at]);
-        if 9 < last {
-            break;
-        }
-        let Grown::To(more) = longer(value, last, most) else {
-            return Number::None;
-        };
-        value = more;
-        at += 1;
-    }
-    if at == from {
-        return Number::None;
-    }
-    Number::Read {
-        value: value,
-        next: at,
-    }
-}
-
-// A number of 64 bits, or one below 0, with its minus sign.
-pub fn read_signed(line: &[u8], at: usize) -> Signed {
-    let negative = byte(line, at) == b'-';
-    let mut from = at;
-    if negative {
-        from = past(at);
-    }
-    match read_number(line, from, u64::MAX) {
-        Number::Read { value, next } => Signed::Read {
-            negative: negative,
-            size: value,
-            next: next,
-        },
-        Number::None => Signed::None,
-    }
+    let (size, rest) = read_number(text, u64::MAX)?;
+    Some((Signed::Plain(size), rest))
 }

@@ -4,16 +4,35 @@
 // last line of the output counts them.
 #![tactic(auto)]
 
+ghost use Rattle.std.specs.Prelude.{◌≤◌, length, IfOk};
+
 mod lines;
 mod tally;
 
 use lines::run;
+use std::io;
+use std::io::Read;
 
-fn main() {
-    let mut input = [0u8; 262144];
-    let n = io::read_full(0, &mut input);
-    let mut memory = [0u8; 262144];
-    let mut left = [0u8; 262144];
-    let tally = run(&input[..n], &mut memory, &mut left);
-    tally.print();
+// More than the input has.
+const INPUT: usize = 262_144;
+
+// Reads until the buffer is full or the input ends, and answers how many bytes it has put at the buffer's front.
+fn read_full(from: &mut impl Read, buffer: &mut [u8]) -> io::Result<usize>
+    ensures { IfOk result (λ n. n ≤ length buffer.new) }
+{
+    let mut done = 0;
+    while done < buffer.len() {
+        let count = from.read(&mut buffer[done..])?;
+        if count == 0 {
+            break;
+        }
+        done += count;
+    }
+    Ok(done)
+}
+
+fn main(rt: HostRuntime) -> io::Result<()> {
+    let mut input = [0u8; INPUT];
+    let size = read_full(&mut rt.stdin(), &mut input)?;
+    run(&rt, &input[..size])
 }

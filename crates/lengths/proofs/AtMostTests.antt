@@ -38,9 +38,6 @@ module _ {limit : ℕ} {xs : List ℕ} {within : Bool} {i : ℕ} (at : AtMostLoo
   unfolding all_at_most
   at_most_done h = rw (drop_of_length-le xs h, and-true) at at.same
 
-pub at_most_start : (limit : ℕ) (xs : List ℕ) → AtMostLoop limit xs true 0
-at_most_start limit xs = record { inside = omega arith; same = refl }
-
 -- the test says that each number is within the limit
 pub at_most_each : (limit : ℕ) (xs : List ℕ) → all_at_most limit xs ≡ true → AtMost limit xs
 unfolding all_at_most
@@ -76,9 +73,6 @@ module _ {lows highs : List ℕ} {within : Bool} {i : ℕ} (at : Ordering lows h
   pub ordering_done : length lows ≤ i → within ≡ each_at_most lows highs
   unfolding each_at_most
   ordering_done h = rw (drop_of_length-le lows h, and-true) at at.same
-
-pub ordering_start : (lows highs : List ℕ) → Ordering lows highs true 0
-ordering_start lows highs = record { inside = omega arith; same = refl }
 
 -- the test says that each number is within its own limit, where there are as many limits
 pub order_each : (lows highs : List ℕ) → length lows ≡ length highs → each_at_most lows highs ≡ true → (i : ℕ) → get_or lows i 0 ≤ get_or highs i 0

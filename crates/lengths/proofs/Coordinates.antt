@@ -10,17 +10,15 @@ use Rattle.lengths.specs.Distance.{squares, gap_distance, distance_by, passes}
 use Rattle.lengths.specs.Edge.{edge}
 use Rattle.lengths.specs.Instance.{most_coordinate, most_squares}
 use Rattle.lengths.specs.Measure.{x_of, y_of, gap_of, x_gap, y_gap, edge_distance}
-use Rattle.lengths.specs.asks.Measure.{Located, distance_to}
+use Rattle.lengths.specs.asks.Measure.{distance_to}
 use Rattle.lists.specs.Test.{AtMost}
+use Rattle.std.specs.Int.{abs_diff}
 use Rattle.lengths.proofs.Bisect.{bisect_below}
 
-pub gap_up : {a b : ℕ} → a < b → b - a ≡ gap_of a b
+-- the library's name of a gap
+pub abs_diff_gap : (a b : ℕ) → abs_diff a b ≡ gap_of a b
 unfolding gap_of
-gap_up h = omega arith
-
-pub gap_down : {a b : ℕ} → b ≤ a → a - b ≡ gap_of a b
-unfolding gap_of
-gap_down h = omega arith
+abs_diff_gap a b = omega arith
 
 gap_small : {a b m : ℕ} → a ≤ m → b ≤ m → gap_of a b ≤ m
 unfolding gap_of
@@ -43,15 +41,6 @@ module _ (cs : List ℕ) (small : AtMost most_coordinate cs) (a b : ℕ) where
   pub y_small : y_gap cs a b ≤ most_coordinate
   unfolding y_gap y_of
   y_small = gap_small (small _) (small _)
-
-module _ {cs : List ℕ} {x y b : ℕ} (at : Located cs x y b) where
-  pub x_within : {r z : ℕ} → r ≡ gap_of x z → z ≡ x_of cs b → r ≤ most_coordinate
-  unfolding x_of
-  x_within e h = rw (e, h) (gap_small at.x_small (at.small _))
-
-  pub y_within : {r z : ℕ} → r ≡ gap_of y z → z ≡ y_of cs b → r ≤ most_coordinate
-  unfolding y_of
-  y_within e h = rw (e, h) (gap_small at.y_small (at.small _))
 
 -- from the coordinates of a, this is the distance of the edge
 pub distance_edge : (rule : Rule) (cs : List ℕ) (a b : ℕ) {x y : ℕ} → x ≡ x_of cs a → y ≡ y_of cs a → distance_to rule x y cs b ≡ edge_distance rule cs (edge a b)

@@ -1,6 +1,6 @@
 -- The order of edges: the place of an edge lies in the table, places rise in 01's order, every place is the
 -- place of exactly one edge, and the list of edges has each edge at its place. Assumes nothing.
-use Prim.Native.Nat.{ℕ, zero, suc, ◌+◌, ◌-◌, ◌*◌, ◌/◌, ◌^◌, ◌≤◌, ◌<◌, min}
+use Prim.Native.Nat.{ℕ, zero, suc, ◌+◌, ◌-◌, ◌*◌, ◌/◌, ◌^◌, ◌≤◌, ◌<◌, min, max, max}
 use mathlib.Core.Path.{◌≡◌, refl, sym, ◌∙◌, ap, ap₂}
 use mathlib.Core.Logic.{◌⊎◌, inl, inr, ⊎_elim}
 use mathlib.Core.List.{◌++◌}
@@ -76,15 +76,15 @@ unfolding place
 place_down n a b h = rw (place, le-ltb a b h)
 
 -- the place of an edge is found with its smaller point first
-pub place_sorted : (n a b low : ℕ) → low ≡ min a b → place_up n low (a - low + b) ≡ place n a b
-place_sorted n a b low s = elim (dec_lt a b) [
+pub place_sorted : (n a b : ℕ) {low high : ℕ} → low ≡ min a b → high ≡ max a b → place_up n low high ≡ place n a b
+place_sorted n a b {low} {high} s t = elim (dec_lt a b) [
   | yes h ↦
       let i : low ≡ a = omega arith in
-      let j : a - low + b ≡ b = omega arith in
+      let j : high ≡ b = omega arith in
       ap₂ (place_up n) i j ∙ sym (place_up_lem n a b h)
   | no h ↦
       let i : low ≡ b = omega arith in
-      let j : a - low + b ≡ a = omega arith in
+      let j : high ≡ a = omega arith in
       ap₂ (place_up n) i j ∙ sym (place_down n a b (omega arith))
 ]
 

@@ -15,7 +15,7 @@ use Rattle.lengths.specs.declared.distance.Rule.{Rule}
 use Rattle.lengths.specs.Edge.{Edge, edge, edges, edge_count, tri, place_up, IsEdge}
 use Rattle.lengths.specs.asks.Edge.{IsEdgeUp}
 use Rattle.lengths.specs.Measure.{x_of, y_of, edge_distance, measured_table}
-use Rattle.lengths.specs.asks.Measure.{Fillable, Located, distance_to, RowToMeasure, RowMeasured}
+use Rattle.lengths.specs.asks.Measure.{Fillable, distance_to, RowToMeasure, RowMeasured}
 use Rattle.lengths.specs.Instance.{most_coordinate}
 use Rattle.lengths.specs.Table.{length_of}
 use Rattle.lists.specs.Test.{AtMost}
@@ -65,66 +65,46 @@ measured-length {n} {a} {b} rule cs e = ⊎_elim
     ∙ distance_symmetric rule cs b a)
     (lower_first e)
 
--- the row of a is written up to b, and `place` is where its next distance goes
-pub record RowFilling (n : ℕ) (rule : Rule) (cs : List ℕ) (a at : ℕ) (table₀ table : List ℕ) (b place : ℕ) : Type 0 where
+-- the distances from a to the i points above it are written, from the place `at` on
+pub record RowFilling (n : ℕ) (rule : Rule) (cs : List ℕ) (a at : ℕ) (table₀ table : List ℕ) (i : ℕ) : Type 0 where
   pub asked : RowToMeasure n cs table₀ a at
-  pub low : a ≤ b
-  pub high : b ≤ n
-  pub here : place ≡ at + (b - a)
+  pub high : a + i ≤ n
   pub kept : length table ≡ length table₀
-  pub written : (before : List ℕ) → Encoding 4 (measured_table rule cs n) before table₀ at → Encoding 4 (measured_table rule cs n) before table place
+  pub written : (before : List ℕ) → Encoding 4 (measured_table rule cs n) before table₀ at → Encoding 4 (measured_table rule cs n) before table (at + i)
 
-pub row_start : {n a at : ℕ} {rule : Rule} {cs table : List ℕ} → RowToMeasure n cs table a at → RowFilling n rule cs a at table table a at
-row_start g = record { asked = g; low = omega arith; high = omega (arith, g.first); here = omega arith; kept = refl; written = λ _ e. e }
+pub row_start : {n a at : ℕ} {rule : Rule} {cs table : List ℕ} → RowToMeasure n cs table a at → RowFilling n rule cs a at table table 0
+row_start {n} {a} {at} {rule} {cs} {table} g =
+    let e : at ≡ at + 0 = omega arith in
+    record { asked = g; high = omega (arith, g.first); kept = refl; written = λ before h. subst (Encoding 4 (measured_table rule cs n) before table) e h }
 
-module _ {n a at b place : ℕ} {rule : Rule} {cs table₀ table : List ℕ} (f : RowFilling n rule cs a at table₀ table b place) where
-  module _ (h : b < n) where
-    row_edge : IsEdgeUp n a (b + 1)
-    row_edge = record { low = f.asked.first.low; up = omega (arith, f.low); high = omega arith }
+module _ {n a at i : ℕ} {rule : Rule} {cs table₀ table : List ℕ} (f : RowFilling n rule cs a at table₀ table i) where
+  module _ (h : i < n - a) where
+    row_edge : IsEdgeUp n a (a + i + 1)
+    row_edge = record { low = f.asked.first.low; up = omega arith; high = omega arith }
 
-    row_place : place_up n a (b + 1) ≡ place
+    row_place : place_up n a (a + i + 1) ≡ at + i
     row_place =
-        let e : a + 1 + (b - a) ≡ b + 1 = omega (arith, f.low) in
-        sym (ap (place_up n a) e) ∙ omega (arith, place_up_add n a (a + 1) (b - a) (omega arith), f.asked.place, f.here)
+        let e : a + 1 + i ≡ a + i + 1 = omega arith in
+        sym (ap (place_up n a) e) ∙ omega (arith, place_up_add n a (a + 1) i (omega arith), f.asked.place)
 
-    pub row_inside : place < edge_count n
+    pub row_inside : at + i < edge_count n
     row_inside = omega (arith, row_place, place_up_below row_edge, edge_count_tri n)
 
-    pub row_entry : Entry 4 table place
+    pub row_entry : Entry 4 table (at + i)
     row_entry = record { inside = omega (arith, row_inside, f.kept, f.asked.size) }
 
-    pub row_located : {x y : ℕ} → x ≡ x_of cs a → y ≡ y_of cs a → Located cs x y (b + 1)
-    unfolding x_of y_of
-    row_located p q = record {
-      x_small = rw p (f.asked.small _);
-      y_small = rw q (f.asked.small _);
-      low = omega arith;
-      few = omega (arith, f.asked.few);
-      there = omega (arith, f.asked.located);
-      small = f.asked.small;
-    }
-
-    pub row_more : {x y d : ℕ} {left : List ℕ} → x ≡ x_of cs a → y ≡ y_of cs a → d ≡ distance_to rule x y cs (b + 1) → Put 4 table place d left
-        → RowFilling n rule cs a at table₀ left (b + 1) (place + 1)
-    row_more is_x is_y is p = record {
-      asked = f.asked;
-      low = omega (arith, f.low);
-      high = omega arith;
-      here = omega (arith, f.here, f.low);
-      kept = p.kept ∙ f.kept;
-      written = λ before e. encoding_on (f.written before e) (omega (arith, row_inside, length_measured rule cs n (omega arith)))
-          (is ∙ distance_edge rule cs a (b + 1) is_x is_y ∙ sym (measured_at rule cs row_edge) ∙ ap (λ (k : ℕ). get_or (measured_table rule cs n) k 0) row_place) p;
-    }
-
-    -- the same by a rule that is told to be this one
-    pub row_more_by : {by : Rule} {x y d : ℕ} {left : List ℕ} → by ≡ rule → x ≡ x_of cs a → y ≡ y_of cs a → d ≡ distance_to by x y cs (b + 1) → Put 4 table place d left
-        → RowFilling n rule cs a at table₀ left (b + 1) (place + 1)
-    row_more_by {x = x} {y = y} e is_x is_y is p = row_more is_x is_y (is ∙ ap (λ (r : Rule). distance_to r x y cs (b + 1)) e) p
-
-  pub row_measured : n ≤ b → RowMeasured n rule cs a at table₀ table
-  row_measured h =
-      let e : place ≡ at + (n - a) = omega (arith, f.here, f.high) in
-      record { kept = f.kept; written = λ before g. subst (Encoding 4 (measured_table rule cs n) before table) e (f.written before g) }
+    pub row_more : {x y d : ℕ} {left : List ℕ} → x ≡ x_of cs a → y ≡ y_of cs a → d ≡ distance_to rule x y cs (a + i + 1) → Put 4 table (at + i) d left
+        → RowFilling n rule cs a at table₀ left (i + 1)
+    row_more {left = left} is_x is_y is p =
+        let e : at + i + 1 ≡ at + (i + 1) = omega arith in
+        record {
+          asked = f.asked;
+          high = omega arith;
+          kept = p.kept ∙ f.kept;
+          written = λ before e₀. subst (Encoding 4 (measured_table rule cs n) before left) e
+              (encoding_on (f.written before e₀) (omega (arith, row_inside, length_measured rule cs n (omega arith)))
+              (is ∙ distance_edge rule cs a (a + i + 1) is_x is_y ∙ sym (measured_at rule cs row_edge) ∙ ap (λ (k : ℕ). get_or (measured_table rule cs n) k 0) row_place) p);
+        }
 
 -- the rows of the points below a are written, and `at` is how many edges they have
 pub record Filling (n : ℕ) (rule : Rule) (cs table₀ table : List ℕ) (a at : ℕ) : Type 0 where
@@ -174,10 +154,6 @@ module _ {n : ℕ} {rule : Rule} {cs table₀ table : List ℕ} {a at : ℕ} (f 
           place = omega (arith, f.place, ap tri t, tri_row n a f.high);
           bytes = r.written table₀ f.bytes;
         }
-
-    -- no place lies behind the last
-    pub row_fits : at + (n - a) ≤ edge_count n
-    row_fits = omega (arith, f.place, tri_row n a f.high, edge_count_tri n)
 
   pub all_filled : n ≤ a → table ≡ bytes32 (measured_table rule cs n)
   all_filled h =

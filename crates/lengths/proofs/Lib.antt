@@ -9,6 +9,7 @@ pub mod Instances
 pub mod AtMostTests
 pub mod Measuring
 pub mod Products
+pub mod Refusals
 pub mod RowFilling
 pub mod Savings
 pub mod Searching

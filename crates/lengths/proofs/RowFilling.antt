@@ -9,7 +9,7 @@ use native.Mathlib.Decide.{dec_lt}
 use native.Mathlib.Omega.{arith}
 use lib.ListN.{length, get_or, set, length-set}
 use lib.Seq.{get_or-set_same, get_or-set_other}
-use Rattle.lengths.specs.Edge.{IsEdge, tri, place_up}
+use Rattle.lengths.specs.Edge.{tri, place_up}
 use Rattle.lengths.specs.asks.Edge.{IsEdgeUp, Placed}
 use Rattle.lengths.specs.Table.{length_of}
 use Rattle.lengths.specs.asks.Rows.{RowAt, RowFillable, RowPart, RowFilled, RowsFillable, RowsFilled}
@@ -58,20 +58,19 @@ module _ {n at v low high : ℕ} {table rows r : List ℕ} (p : RowPart n table 
 
 -- the points below v
 
--- `from` is the place of xv, plus 1, where x is below v, and `step` is n - x
-pub record Below (n : ℕ) (table rows : List ℕ) (at v : ℕ) (r : List ℕ) (from step x : ℕ) : Type 0 where
+-- `from` is the place of xv, plus 1, where x is below v
+pub record Below (n : ℕ) (table rows : List ℕ) (at v : ℕ) (r : List ℕ) (from x : ℕ) : Type 0 where
   pub part : RowPart n table rows at v 1 x r
   pub low : 1 ≤ x
   pub high : x ≤ v
   pub here : from + tri (n + 1 - x) ≡ tri n + (v - x)
-  pub left : step + x ≡ n
 
-pub below_start : {n at v : ℕ} {table rows : List ℕ} → RowFillable n table rows at v → Below n table rows at v rows (v - 1) (n - 1) 1
+pub below_start : {n at v : ℕ} {table rows : List ℕ} → RowFillable n table rows at v → Below n table rows at v rows (v - 1) 1
 below_start {n} {at} {v} f =
     let e : n + 1 - 1 ≡ n = omega arith in
-    record { part = no_part n _ _ at v 1; low = omega arith; high = f.point.low; here = omega (arith, ap tri e); left = omega (arith, f.point) }
+    record { part = no_part n _ _ at v 1; low = omega arith; high = f.point.low; here = omega (arith, ap tri e) }
 
-module _ {n at v from step x : ℕ} {table rows r : List ℕ} (f : RowFillable n table rows at v) (b : Below n table rows at v r from step x) (h : x < v) where
+module _ {n at v from x : ℕ} {table rows r : List ℕ} (f : RowFillable n table rows at v) (b : Below n table rows at v r from x) (h : x < v) where
   below_edge : IsEdgeUp n x v
   below_edge = record { low = b.low; up = h; high = f.point.high }
 
@@ -84,7 +83,7 @@ module _ {n at v from step x : ℕ} {table rows r : List ℕ} (f : RowFillable n
   pub below_room : at + x < length r
   below_room = omega (arith, b.part.size, f.room, f.point)
 
-  pub below_more : {d : ℕ} → d ≡ get_or table (from - 1) 0 → Below n table rows at v (set r (at + x) d) (from + (step - 1)) (step - 1) (x + 1)
+  pub below_more : {d : ℕ} → d ≡ get_or table (from - 1) 0 → Below n table rows at v (set r (at + x) d) (from + (n - x - 1)) (x + 1)
   below_more is =
       let t : n + 1 - (x + 1) ≡ n - x = omega arith in
       let i : from - 1 ≡ place_up n x v = omega (arith, below_place) in
@@ -92,38 +91,14 @@ module _ {n at v from step x : ℕ} {table rows r : List ℕ} (f : RowFillable n
         part = part_more b.part b.low below_room (is ∙ ap (λ (j : ℕ). get_or table j 0) i ∙ sym (length_up n table x v h) ∙ length_symmetric n table x v);
         low = omega arith;
         high = omega arith;
-        here = omega (arith, b.here, b.left, ap tri t, tri_row n x (omega (arith, f.point)), f.point);
-        left = omega (arith, b.left, f.point);
+        here = omega (arith, b.here, ap tri t, tri_row n x (omega (arith, f.point)), f.point);
       }
-
-pub below_done : {n at v from step x : ℕ} {table rows r : List ℕ} → Below n table rows at v r from step x → v ≤ x → RowPart n table rows at v 1 v r
-below_done {n} {at} {v} {from} {step} {x} {table} {rows} {r} b h =
-    let e : x ≡ v = omega (arith, b.high) in
-    rw e at b.part
 
 -- the points above v
 
 pub record Above (n : ℕ) (table rows : List ℕ) (at v : ℕ) (r : List ℕ) (i : ℕ) : Type 0 where
   pub part : RowPart n table rows at v (v + 1) (v + 1 + i) r
   pub high : v + i ≤ n
-
-pub none_above : {n at v : ℕ} {table rows : List ℕ} → RowFillable n table rows at v → n ≤ v → RowPart n table rows at v (v + 1) (n + 1) rows
-none_above {n} {at} {v} {table} {rows} f h =
-    let e : v ≡ n = omega (arith, f.point) in
-    rw e (no_part n table rows at n (n + 1))
-
-pub above_edge : {n at v : ℕ} {table rows : List ℕ} → RowFillable n table rows at v → v < n → IsEdge n v (v + 1)
-above_edge {n} {at} {v} f h = record {
-  first = f.point;
-  second = record { low = omega arith; high = omega arith };
-  apart = λ e. omega arith;
-}
-
-pub above_start : {n at v : ℕ} {table rows : List ℕ} → RowFillable n table rows at v → Above n table rows at v rows 0
-above_start {n} {at} {v} {table} {rows} f = record {
-  part = let e : v + 1 + 0 ≡ v + 1 = omega arith in rw e (no_part n table rows at v (v + 1));
-  high = omega (arith, f.point);
-}
 
 module _ {n at v i first : ℕ} {table rows r : List ℕ} (f : RowFillable n table rows at v) (b : Above n table rows at v r i)
     (p : Placed n v (v + 1) first) (h : i < n - v) where
@@ -150,11 +125,6 @@ module _ {n at v i first : ℕ} {table rows r : List ℕ} (f : RowFillable n tab
         high = omega arith;
       }
 
-pub above_done : {n at v i : ℕ} {table rows r : List ℕ} → Above n table rows at v r i → n - v ≤ i → RowPart n table rows at v (v + 1) (n + 1) r
-above_done {n} {at} {v} {i} b h =
-    let e : v + 1 + i ≡ n + 1 = omega (arith, b.high) in
-    rw e at b.part
-
 -- the row
 
 module _ {n at v : ℕ} {table rows r : List ℕ} (f : RowFillable n table rows at v) (p : RowPart n table rows at v 1 v r) where
@@ -174,32 +144,30 @@ module _ {n at v : ℕ} {table rows r : List ℕ} (f : RowFillable n table rows 
       whole : RowPart n table rows at v 1 (n + 1) s
       whole = parts_join with_self (omega arith) (omega (arith, f.point)) q
 
--- the rows of the points below v are written, and `at` is where the row of v starts
-pub record RowsTo (n : ℕ) (table rows r : List ℕ) (v at : ℕ) : Type 0 where
+-- the rows of the points below v are written
+pub record RowsTo (n : ℕ) (table rows r : List ℕ) (v : ℕ) : Type 0 where
   pub size : length r ≡ length rows
   pub low : 1 ≤ v
   pub high : v ≤ n + 1
-  pub start : at ≡ (n + 1) * v
   pub below : (u : ℕ) → 1 ≤ u → u < v → RowAt n table r ((n + 1) * u) u
 
-pub rows_start : {n : ℕ} {table rows : List ℕ} → RowsFillable n table rows → RowsTo n table rows rows 1 (n + 1)
-rows_start f = record { size = refl; low = omega arith; high = omega arith; start = omega arith; below = λ u h g. absurd (omega arith) }
+pub rows_start : {n : ℕ} {table rows : List ℕ} → RowsFillable n table rows → RowsTo n table rows rows 1
+rows_start f = record { size = refl; low = omega arith; high = omega arith; below = λ u h g. absurd (omega arith) }
 
-module _ {n v at : ℕ} {table rows r : List ℕ} (f : RowsFillable n table rows) (t : RowsTo n table rows r v at) (h : v ≤ n) where
-  pub next_row_fits : at + (n + 1) ≤ length rows
+module _ {n v at : ℕ} {table rows r : List ℕ} (f : RowsFillable n table rows) (t : RowsTo n table rows r v) (start : at ≡ (n + 1) * v) (h : v ≤ n) where
+  next_row_fits : at + (n + 1) ≤ length rows
   next_row_fits =
       let m : v + 1 ≤ n + 1 = omega arith in
-      omega (arith, t.start, mul-le-mul_right (n + 1) m, f.room)
+      omega (arith, start, mul-le-mul_right (n + 1) m, f.room)
 
   pub row_fillable : RowFillable n table r at v
   row_fillable = record { few = f.few; whole = f.whole; point = record { low = t.low; high = h }; room = omega (arith, next_row_fits, t.size) }
 
-  pub rows_more : {s : List ℕ} → RowFilled n table r at v s → RowsTo n table rows s (v + 1) (at + (n + 1))
+  pub rows_more : {s : List ℕ} → RowFilled n table r at v s → RowsTo n table rows s (v + 1)
   rows_more {s} g = record {
     size = g.size ∙ t.size;
     low = omega arith;
     high = omega arith;
-    start = omega (arith, t.start);
     below = each;
   }
     where
@@ -209,14 +177,14 @@ module _ {n v at : ℕ} {table rows r : List ℕ} (f : RowsFillable n table rows
           let m : (n + 1) * (u + 1) ≤ (n + 1) * v = omega (arith, mul-le-mul_right (n + 1) l) in
           record {
             room = omega (arith, a.room, g.size);
-            each = λ x i. g.kept ((n + 1) * u + x) (inl (omega (arith, m, t.start, i.high))) ∙ a.each x i;
+            each = λ x i. g.kept ((n + 1) * u + x) (inl (omega (arith, m, start, i.high))) ∙ a.each x i;
           }
 
       each : (u : ℕ) → 1 ≤ u → u < v + 1 → RowAt n table s ((n + 1) * u) u
       each u k l = elim (dec_lt u v) [
         | yes m ↦ earlier u k m
-        | no m ↦ let e : u ≡ v = omega arith in rw (e, ← t.start) g.row
+        | no m ↦ let e : u ≡ v = omega arith in rw (e, ← start) g.row
       ]
 
-pub rows_done : {n v at : ℕ} {table rows r : List ℕ} → RowsTo n table rows r v at → n < v → RowsFilled n table rows r
+pub rows_done : {n v : ℕ} {table rows r : List ℕ} → RowsTo n table rows r v → n < v → RowsFilled n table rows r
 rows_done t h = record { size = t.size; all = record { row = λ u p. t.below u p.low (omega (arith, p.high)) } }

@@ -4,11 +4,11 @@ use Prim.Native.Nat.{ℕ, zero, suc, ◌-◌}
 use mathlib.Core.Path.{◌≡◌, refl, sym, ◌∙◌}
 use mathlib.Core.Bool.{Bool, true, false, cond, ◌&&◌, ◌||◌}
 use native.Mathlib.Omega.{arith}
-use lib.Dec.{leb, ltb}
+use lib.Dec.{ltb}
 use lib.IntN.{ℤ, pos, negsuc}
-use lib.Signed.{le_z, lt_z}
-use borrow.Author.Tests.{le-leb, lt-leb, lt-ltb, le-ltb, ltb-true, ltb-false}
-use Rattle.lists.proofs.Bools.{or_swap}
+use lib.Signed.{lt_z}
+use Rattle.std.proofs.lemmas.Int.{ints, clamps}
+use borrow.Author.Tests.{lt-ltb, le-ltb, ltb-true, ltb-false}
 use Rattle.lengths.specs.Saving.{saving, gains?, smaller, larger}
 
 gains_pos : (k : ℕ) → gains? (pos k) ≡ ltb 0 k
@@ -37,42 +37,8 @@ gains_above (negsuc k) = refl
 
 -- the smaller of two is above 0 exactly when both are
 pub gains_smaller : (a b : ℤ) → gains? (smaller a b) ≡ gains? a && gains? b
-unfolding gains? smaller
-gains_smaller (pos zero) (pos n) = rw (le-leb 0 n (omega arith))
-gains_smaller (pos (suc m)) (pos zero) = rw (lt-leb (suc m) 0 (omega arith))
-gains_smaller (pos (suc m)) (pos (suc n)) = by (leb (suc m) (suc n))
-  where
-    by : (t : Bool) → gains? (cond t (pos (suc m)) (pos (suc n))) ≡ true
-    by true = refl
-    by false = refl
-gains_smaller (pos zero) (negsuc n) = refl
-gains_smaller (pos (suc m)) (negsuc n) = refl
-gains_smaller (negsuc m) (pos n) = refl
-gains_smaller (negsuc m) (negsuc n) = by (leb n m)
-  where
-    by : (t : Bool) → gains? (cond t (negsuc m) (negsuc n)) ≡ false
-    by true = refl
-    by false = refl
+gains_smaller a b = rw (← gains_above (smaller a b), ← gains_above a, ← gains_above b) (grind (arith, ints, clamps))
 
 -- the larger of two is above 0 exactly when one is
-other_gains : (a b : ℤ) → gains? (cond (le_z a b) b a) ≡ gains? a || gains? b
-unfolding gains?
-other_gains (pos zero) (pos n) = rw (le-leb 0 n (omega arith))
-other_gains (pos (suc m)) (pos zero) = rw (lt-leb (suc m) 0 (omega arith))
-other_gains (pos (suc m)) (pos (suc n)) = by (leb (suc m) (suc n))
-  where
-    by : (t : Bool) → gains? (cond t (pos (suc n)) (pos (suc m))) ≡ true
-    by true = refl
-    by false = refl
-other_gains (pos zero) (negsuc n) = refl
-other_gains (pos (suc m)) (negsuc n) = refl
-other_gains (negsuc m) (pos n) = refl
-other_gains (negsuc m) (negsuc n) = by (leb n m)
-  where
-    by : (t : Bool) → gains? (cond t (negsuc n) (negsuc m)) ≡ false
-    by true = refl
-    by false = refl
-
 pub gains_larger : (a b : ℤ) → gains? (larger a b) ≡ gains? a || gains? b
-unfolding larger
-gains_larger a b = other_gains b a ∙ or_swap (gains? b) (gains? a)
+gains_larger a b = rw (← gains_above (larger a b), ← gains_above a, ← gains_above b) (grind (arith, ints, clamps))

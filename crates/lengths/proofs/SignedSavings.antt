@@ -1,20 +1,15 @@
--- A saving in code: the signed difference of two sums fits, and is the saving. Assumes nothing.
-use Prim.Native.Nat.{ℕ, zero, suc, ◌+◌, ◌-◌, ◌^◌, ◌<◌}
-use mathlib.Core.Path.{◌≡◌, refl, sym, ◌∙◌, ap, ap₂, subst}
+-- Savings are small, so that a number that a function answers is read again as it is. Assumes nothing.
+use Prim.Native.Nat.{ℕ, suc, ◌-◌, ◌^◌, ◌<◌}
+use mathlib.Core.Path.{◌≡◌}
 use mathlib.Core.Bool.{Bool, true, false, cond}
 use native.Mathlib.Omega.{arith}
 use lib.Dec.{ltb}
-use borrow.Author.Tests.{le-ltb}
-use lib.IntN.{ℤ, pos, negsuc, sub_ℕ, ◌-ℤ◌}
+use lib.IntN.{ℤ, pos, negsuc}
 use mir.Syntax.{w64}
-use mir.Val.{SFits, to_z, of_z}
-use mir.Facts.{to_z_pos, to_z-of_z}
-use lib.Signed.{mag, le_z}
+use mir.Val.{to_z, of_z}
+use mir.Facts.{to_z-of_z}
+use lib.Signed.{mag, lt_z}
 use Rattle.lengths.specs.Saving.{saving, smaller, larger}
-
-sub_pos : (old new : ℕ) → pos old -ℤ pos new ≡ sub_ℕ old new
-sub_pos old zero = let e : old + 0 ≡ old - 0 = omega arith in ap pos e ∙ sym (rw (le-ltb old 0 (omega arith)))
-sub_pos old (suc new) = refl
 
 -- the saving is no larger than either sum
 pub saving_small : (old new : ℕ) → old < 2 ^ 40 → new < 2 ^ 40 → mag (saving old new) < 2 ^ 40
@@ -24,48 +19,16 @@ saving_small old new h g = by (ltb old new)
     by true = omega arith
     by false = omega arith
 
+one_small : (t : Bool) (a b : ℤ) {k : ℕ} → mag a < k → mag b < k → mag (cond t a b) < k
+one_small true a b h g = h
+one_small false a b h g = g
+
 pub smaller_small : (a b : ℤ) {k : ℕ} → mag a < k → mag b < k → mag (smaller a b) < k
-unfolding smaller
-smaller_small a b {k} h g = by (le_z a b)
-  where
-    by : (t : Bool) → mag (cond t a b) < k
-    by true = h
-    by false = g
+smaller_small a b h g = one_small (lt_z b a) b a g h
 
 pub larger_small : (a b : ℤ) {k : ℕ} → mag a < k → mag b < k → mag (larger a b) < k
-unfolding larger
-larger_small a b {k} h g = by (le_z b a)
-  where
-    by : (t : Bool) → mag (cond t a b) < k
-    by true = h
-    by false = g
-
-saving_fits : (old new : ℕ) → old < 2 ^ 40 → new < 2 ^ 40 → SFits w64 (saving old new)
-saving_fits old new h g = record { sfits = omega (arith, saving_small old new h g) }
-
--- the difference of the two numbers, as the code has it
-pub difference : (old new : ℕ) → old < 2 ^ 40 → new < 2 ^ 40 → to_z w64 old -ℤ to_z w64 new ≡ saving old new
-difference old new h g = ap₂ (λ (a b : ℤ). a -ℤ b) (to_z_pos w64 {n = old} (omega arith)) (to_z_pos w64 {n = new} (omega arith)) ∙ sub_pos old new
-
-pub difference_fits : (old new : ℕ) → old < 2 ^ 40 → new < 2 ^ 40 → SFits w64 (to_z w64 old -ℤ to_z w64 new)
-difference_fits old new h g = subst (λ (z : ℤ). SFits w64 z) (sym (difference old new h g)) (saving_fits old new h g)
-
-pub difference_is : (old new : ℕ) → old < 2 ^ 40 → new < 2 ^ 40 → to_z w64 (of_z w64 (to_z w64 old -ℤ to_z w64 new)) ≡ saving old new
-difference_is old new h g = to_z-of_z {w = w64} (difference_fits old new h g) ∙ difference old new h g
+larger_small a b h g = one_small (lt_z b a) a b h g
 
 -- a number that a function answers, read again
 pub kept : {z : ℤ} → mag z < 2 ^ 63 → to_z w64 (of_z w64 z) ≡ z
 kept h = to_z-of_z {w = w64} (record { sfits = h })
-
--- the smaller and the larger of two, by the code's comparison
-module _ (a b : ℤ) (f : SFits w64 a) (g : SFits w64 b) {t : Bool} (is : le_z (to_z w64 (of_z w64 a)) (to_z w64 (of_z w64 b)) ≡ t) where
-  told : t ≡ le_z a b
-  told = sym is ∙ ap₂ le_z (to_z-of_z {w = w64} f) (to_z-of_z {w = w64} g)
-
-  pub smaller_is : {r : ℤ} → r ≡ cond t (to_z w64 (of_z w64 a)) (to_z w64 (of_z w64 b)) → r ≡ smaller a b
-  unfolding smaller
-  smaller_is e = e ∙ ap₂ (λ (x y : ℤ). cond t x y) (to_z-of_z {w = w64} f) (to_z-of_z {w = w64} g) ∙ ap (λ (u : Bool). cond u a b) told
-
-  pub larger_is : {r : ℤ} → r ≡ cond t (to_z w64 (of_z w64 b)) (to_z w64 (of_z w64 a)) → r ≡ larger b a
-  unfolding larger
-  larger_is e = e ∙ ap₂ (λ (x y : ℤ). cond t x y) (to_z-of_z {w = w64} g) (to_z-of_z {w = w64} f) ∙ ap (λ (u : Bool). cond u b a) told

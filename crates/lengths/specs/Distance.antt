@@ -1,13 +1,11 @@
 -- TSPLIB's distances (01, "Points, lengths, marks"). Rules 1 to 3 go by S, the sum of the two squared coordinate
 -- differences: each distance is the least number that passes a growing test on squares. Rules 4 and 5 go by the two
 -- differences, the gaps, themselves.
-use Rattle.std.specs.Prelude.{ℕ, zero, suc, ◌+◌, ◌-◌, ◌*◌, ◌^◌, ◌≤◌, ◌<◌, max, ◌≡◌, Bool, true, false, ◌⊎◌, leb, ltb, eqb}
+use Rattle.std.specs.Prelude.{ℕ, zero, suc, ◌+◌, ◌-◌, ◌*◌, ◌^◌, ◌≤◌, ◌<◌, max, ◌≡◌, Bool, true, false, ◌⊎◌, leb, ltb, eqb, Option, None, Some}
 use Rattle.lengths.specs.declared.distance.Root.{Root}
 use Rattle.lengths.specs.declared.distance.Root.TheVariants.{Euc2d, Ceil2d, Att}
 use Rattle.lengths.specs.declared.distance.Rule.{Rule}
 use Rattle.lengths.specs.declared.distance.Rule.TheVariants.{Rooted, Man2d, Max2d}
-use Rattle.lengths.specs.declared.distance.NamedRule.{NamedRule}
-use Rattle.lengths.specs.declared.distance.NamedRule.TheVariants.{Known, Unknown}
 
 -- a test that, once passed, is passed by every larger number
 abbrev pub Growing : (ℕ → Bool) → Type 0
@@ -44,21 +42,21 @@ gap_distance Man2d dx dy = dx + dy
 gap_distance Max2d dx dy = max dx dy
 
 -- 01's numbers of the rules
-unfoldable pub rule_of : ℕ → NamedRule
+unfoldable pub rule_of : ℕ → Option Rule
 rule_of number =
     elim (eqb number 1) [
-      | true ↦ Known (Rooted Euc2d)
+      | true ↦ Some (Rooted Euc2d)
       | false ↦
           elim (eqb number 2) [
-            | true ↦ Known (Rooted Ceil2d)
+            | true ↦ Some (Rooted Ceil2d)
             | false ↦
                 elim (eqb number 3) [
-                  | true ↦ Known (Rooted Att)
+                  | true ↦ Some (Rooted Att)
                   | false ↦
                       elim (eqb number 4) [
-                        | true ↦ Known Man2d
+                        | true ↦ Some Man2d
                         | false ↦
-                            elim (eqb number 5) [ true ↦ Known Max2d | false ↦ Unknown ]
+                            elim (eqb number 5) [ true ↦ Some Max2d | false ↦ None ]
                       ]
                 ]
           ]

@@ -1,7 +1,8 @@
 -- The limits of an instance (01, "Points, lengths, marks"), test 1, and the test of a point (11 and 17).
-use Rattle.std.specs.Prelude.{ℕ, ◌+◌, ◌-◌, ◌*◌, ◌/◌, Bool, true, false, ◌&&◌, leb}
-use Rattle.lengths.specs.declared.instance.Admission.{Admission}
-use Rattle.lengths.specs.declared.instance.Admission.TheVariants.{Admitted, OutOfRange}
+use Rattle.std.specs.Prelude.{ℕ, ◌+◌, ◌-◌, ◌*◌, ◌/◌, Bool, true, false, ◌&&◌, leb, Result, Ok, Err}
+use Rattle.lengths.specs.declared.instance.Instance.{Instance}
+use Rattle.lengths.specs.declared.refusal.Refusal.{Refusal}
+use Rattle.lengths.specs.declared.refusal.Refusal.TheVariants.{Points}
 
 -- "An instance has n points, 4 to 180"
 abbrev pub least_points : ℕ
@@ -42,8 +43,8 @@ unfoldable pub in_range : ℕ → Bool
 in_range n = elim (leb least_points n) [ true ↦ leb n most_points | false ↦ false ]
 
 -- what test 1 answers
-unfoldable pub admission : ℕ → Admission
-admission n = elim (in_range n) [ true ↦ Admitted (record { points = n }) | false ↦ OutOfRange ]
+unfoldable pub admission : ℕ → Result Instance Refusal
+admission n = elim (in_range n) [ true ↦ Ok (record { points = n }) | false ↦ Err Points ]
 
 -- a is one of the points 1 to n
 unfoldable pub is_point : (n a : ℕ) → Bool

@@ -3,5 +3,7 @@ pub mod Distance
 pub mod Edge
 pub mod Instance
 pub mod Measure
+pub mod Refusal
 pub mod Saving
 pub mod Table
+pub mod TwoTables

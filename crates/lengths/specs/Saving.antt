@@ -1,7 +1,7 @@
 -- Savings (02, Paper 5): "a signed saving" is what is taken out less what is put in.
-use Rattle.std.specs.Prelude.{ℕ, zero, suc, Bool, true, false, cond, ℤ, pos, negsuc}
+use Rattle.std.specs.Prelude.{ℕ, zero, suc, Bool, true, false, ℤ, pos, negsuc}
 use Rattle.std.proofs.Math.IntN.{sub_ℕ}
-use Rattle.std.specs.Int.Signed.{le_z}
+use Rattle.std.specs.Int.{int_min, int_max}
 
 -- the old sum less the new one
 abbrev pub saving : (old new : ℕ) → ℤ
@@ -14,8 +14,8 @@ gains? (pos (suc k)) = true
 gains? (negsuc k) = false
 
 -- of two savings
-unfoldable pub smaller : (a b : ℤ) → ℤ
-smaller a b = cond (le_z a b) a b
+abbrev pub smaller : (a b : ℤ) → ℤ
+smaller a b = int_min a b
 
-unfoldable pub larger : (a b : ℤ) → ℤ
-larger a b = cond (le_z b a) a b
+abbrev pub larger : (a b : ℤ) → ℤ
+larger a b = int_max a b

@@ -1,10 +1,12 @@
 // TSPLIB's distances in whole numbers: the least number that passes the rule's growing test.
-ghost use Rattle.std.specs.Prelude.{◌≡◌, true, ◌≤◌, max};
+ghost use Rattle.std.specs.Prelude.{◌≡◌, true, ◌≤◌, ok_or};
 ghost use Rattle.lengths.specs.Instance.{most_coordinate, most_squares};
 ghost use Rattle.lengths.specs.Distance.{passes, rule_of, squares};
+ghost use Rattle.lengths.specs.declared.refusal.Refusal.TheVariants as refusal;
 ghost use Rattle.lengths.specs.asks.Distance.{rounded_by, Measurable, Distance, step_from, Close, NewtonAsked, GapDistance};
 
 use crate::instance::Instance;
+use crate::refusal::Refusal;
 
 // The rules that round a square root, under TSPLIB's names.
 #[derive(Clone, Copy)]
@@ -29,25 +31,20 @@ pub enum Rounding {
     Up,
 }
 
-// What a rule's number names.
-#[derive(Drop)]
-pub enum NamedRule {
-    Known(Rule),
-    Unknown,
-}
+// The rule with this number in 01.
+impl TryFrom<u32> for Rule {
+    type Error = Refusal;
 
-impl Rule {
-    // The rule with this number in 01.
-    pub fn numbered(number: u32) -> NamedRule
-        ensures { result ≡ rule_of number }
-    {
+    ghost try_from_gives = { λ number rule. rule ≡ ok_or (rule_of number) refusal.Rule };
+
+    fn try_from(number: u32) -> Result<Rule, Refusal> {
         match number {
-            1 => NamedRule::Known(Rule::Rooted(Root::Euc2d)),
-            2 => NamedRule::Known(Rule::Rooted(Root::Ceil2d)),
-            3 => NamedRule::Known(Rule::Rooted(Root::Att)),
-            4 => NamedRule::Known(Rule::Man2d),
-            5 => NamedRule::Known(Rule::Max2d),
-            _ => NamedRule::Unknown,
+            1 => Ok(Rule::Rooted(Root::Euc2d)),
+            2 => Ok(Rule::Rooted(Root::Ceil2d)),
+            3 => Ok(Rule::Rooted(Root::Att)),
+            4 => Ok(Rule::Man2d),
+            5 => Ok(Rule::Max2d),
+            _ => Err(Refusal::Rule),
         }
     }
 }
@@ -61,16 +58,6 @@ fn test(rounding: Rounding, s: u64, d: u64) -> bool
         Rounding::Nearest => 4 * s < (2 * d + 1) * (2 * d + 1),
         Rounding::Up => s <= d * d,
     }
-}
-
-// The larger of two numbers.
-fn larger(a: u64, b: u64) -> u64
-    ensures { result ≡ max a b }
-{
-    if a < b {
-        return b;
-    }
-    a
 }
 
 // One step of Newton's iteration for the square root of s.
@@ -97,16 +84,10 @@ fn is_close(rounding: Rounding, s: u64, guess: u64) -> bool
     requires { s ≤ most_squares }
     ensures { result ≡ true → Close (rounded_by rounding) s guess }
 {
-    if guess < 1 {
-        return false;
-    }
-    if MOST_GUESS < guess {
-        return false;
-    }
-    if test(rounding, s, guess - 1) {
-        return false;
-    }
-    test(rounding, s, guess + 1)
+    1 <= guess
+        && guess <= MOST_GUESS
+        && !test(rounding, s, guess - 1)
+        && test(rounding, s, guess + 1)
 }
 
 // The step past d: 1 where d fails the test, else 0.
@@ -129,8 +110,8 @@ fn distance(rounding: Rounding, s: u64, guess: u64) -> u64
     by_halving(rounding, s)
 }
 
-// The distance at the sum of squares s: halves the numbers of 21 bits for the least that passes. Ends: the range from
-// low to high shrinks.
+// The distance at the sum of squares s: halves the numbers of 21 bits for the least that passes. A `while`, since the
+// library searches by halves in slices alone, and these numbers stand in none. Ends: the range from low to high shrinks.
 fn by_halving(rounding: Rounding, s: u64) -> u64
     requires { s ≤ most_squares }
     ensures { Distance (rounded_by rounding) s result }
@@ -161,7 +142,7 @@ fn estimate(dx: u64, dy: u64) -> u64
     requires { (dx ≤ most_coordinate) × (dy ≤ most_coordinate) }
     ensures { result ≤ most_squares }
 {
-    let long = larger(dx, dy);
+    let long = dx.max(dy);
     let short = dx + dy - long;
     (123 * long + 51 * short) / 128
 }
@@ -188,7 +169,7 @@ pub fn gap_distance(rule: Rule, dx: u64, dy: u64) -> u64
 {
     match rule {
         Rule::Man2d => dx + dy,
-        Rule::Max2d => larger(dx, dy),
+        Rule::Max2d => dx.max(dy),
         Rule::Rooted(root) => rooted(root, dx, dy),
     }
 }

@@ -1,5 +1,5 @@
 // The edges of an instance and their places in a table or a set of marks.
-ghost use Rattle.std.specs.Prelude.{◌≡◌, min, ◌≤◌};
+ghost use Rattle.std.specs.Prelude.{◌≡◌, ◌≤◌};
 ghost use Rattle.lengths.specs.Edge.{edge_count, IsEdge, place_up};
 ghost use Rattle.lengths.specs.asks.Edge.{Follows, IsEdgeUp, Placed};
 ghost use Rattle.lengths.specs.Instance.{most_points};
@@ -9,10 +9,7 @@ pub fn count(n: u16) -> usize
     ensures { result ≡ edge_count n }
 {
     let points = n as usize;
-    if points == 0 {
-        return 0;
-    }
-    points * (points - 1) / 2
+    points * points.saturating_sub(1) / 2
 }
 
 // The place of the edge ab, in either order of its points.
@@ -20,18 +17,7 @@ pub fn place(n: u16, a: u16, b: u16) -> usize
     requires { IsEdge n a b }
     ensures { Placed n a b result }
 {
-    let low = smaller(a, b);
-    place_up(n, low, a - low + b)
-}
-
-// The smaller of two numbers.
-fn smaller(a: u16, b: u16) -> u16
-    ensures { result ≡ min a b }
-{
-    if a < b {
-        return a;
-    }
-    b
+    place_up(n, a.min(b), a.max(b))
 }
 
 // The place of the edge ab, where a < b: the rows of 1 to a - 1 have n - 1, n - 2, .. edges.
@@ -58,13 +44,14 @@ pub fn following(n: usize, a: usize, b: usize) -> NextEdge
     ensures { Follows n a b result.low result.high }
 {
     if b < n {
-        return NextEdge {
+        NextEdge {
             low: a,
             high: b + 1,
-        };
-    }
-    NextEdge {
-        low: a + 1,
-        high: a + 2,
+        }
+    } else {
+        NextEdge {
+            low: a + 1,
+            high: a + 2,
+        }
     }
 }

@@ -2,17 +2,12 @@
 ghost use Rattle.std.specs.Prelude.{◌≡◌};
 ghost use Rattle.lengths.specs.Instance.{admission, is_point};
 
+use crate::refusal::Refusal;
+
 // An instance of LEAST_POINTS to MOST_POINTS points.
-#[derive(Drop)]
+#[derive(Clone, Copy, Debug, PartialEq, Eq)]
 pub struct Instance {
     pub points: u16,
-}
-
-// What test 1 answers.
-#[derive(Drop)]
-pub enum Admission {
-    Admitted(Instance),
-    OutOfRange,
 }
 
 impl Instance {
@@ -38,16 +33,13 @@ impl Instance {
     pub const FEW_PLACES: usize = Instance::FEW_POINTS as usize + 1;
 
     // The instance of n points, where n is within the limits.
-    pub fn admit(n: u32) -> Admission
+    pub fn admit(n: u32) -> Result<Instance, Refusal>
         ensures { result ≡ admission n }
     {
-        if n < Instance::LEAST_POINTS {
-            return Admission::OutOfRange;
+        if n < Instance::LEAST_POINTS || Instance::MOST_POINTS < n {
+            return Err(Refusal::Points);
         }
-        if Instance::MOST_POINTS < n {
-            return Admission::OutOfRange;
-        }
-        Admission::Admitted(Instance { points: n as u16 })
+        Ok(Instance { points: n as u16 })
     }
 }
 
@@ -55,8 +47,5 @@ impl Instance {
 pub fn is_point(n: u16, a: u16) -> bool
     ensures { result ≡ is_point n a }
 {
-    if a < 1 {
-        return false;
-    }
-    a <= n
+    1 <= a && a <= n
 }

@@ -4,7 +4,7 @@ ghost use Rattle.endian.specs.Bytes.{whole32};
 ghost use Rattle.lengths.specs.asks.Rows.{RowFillable, RowPart, RowFilled, RowsFillable, RowsFilled};
 
 use crate::edge;
-use endian::bytes::number32;
+use endian::bytes::Number;
 
 // Where the row of v begins among the rows of all points.
 pub fn row_start(n: u16, v: u16) -> usize
@@ -21,8 +21,7 @@ pub fn length_in(rows: &[u32], at: usize, x: u16) -> u32
     rows[at + x as usize]
 }
 
-// The lengths from v to the points below it: the place of xv moves on by n - x - 1 as x does by 1, and `step` is n - x.
-// Ends: x rises to v.
+// The lengths from v to the points below it: the place of xv moves on by n - x - 1 as x does by 1.
 fn fill_below(n: u16, table: &[u8], v: u16, rows: &mut [u32], at: usize)
     requires { RowFillable n (whole32 table.now) rows.old at v }
     ensures { RowPart n (whole32 table.now) rows.old at v 1 v rows.new }
@@ -31,18 +30,13 @@ fn fill_below(n: u16, table: &[u8], v: u16, rows: &mut [u32], at: usize)
     let last = v as usize;
     // the place of xv, plus 1
     let mut from = last - 1;
-    let mut step = points - 1;
-    let mut x = 1;
-    while x < last {
-        rows[at + x] = number32(table, from - 1);
-        step -= 1;
-        from += step;
-        x += 1;
+    for x in 1..last {
+        rows[at + x] = u32::number(table, from - 1);
+        from += points - x - 1;
     }
 }
 
 // The lengths from v to the points above it stand side by side in the table.
-// Ends: i rises to the number of points above v.
 fn fill_above(n: u16, table: &[u8], v: u16, rows: &mut [u32], at: usize)
     requires { RowFillable n (whole32 table.now) rows.old at v }
     ensures { RowPart n (whole32 table.now) rows.old at v (v + 1) (n + 1) rows.new }
@@ -50,13 +44,10 @@ fn fill_above(n: u16, table: &[u8], v: u16, rows: &mut [u32], at: usize)
     if n <= v {
         return;
     }
-    let above = (n - v) as usize;
     let first = edge::place(n, v, v + 1);
     let start = at + v as usize + 1;
-    let mut i = 0;
-    while i < above {
-        rows[start + i] = number32(table, first + i);
-        i += 1;
+    for i in 0..(n - v) as usize {
+        rows[start + i] = u32::number(table, first + i);
     }
 }
 
@@ -70,17 +61,12 @@ pub fn fill_row(n: u16, table: &[u8], v: u16, rows: &mut [u32], at: usize)
     fill_above(n, table, v, rows, at);
 }
 
-// Writes the rows of all points. Ends: v rises past n.
+// Writes the rows of all points.
 pub fn fill_rows(n: u16, table: &[u8], rows: &mut [u32])
     requires { RowsFillable n (whole32 table.now) rows.old }
     ensures { RowsFilled n (whole32 table.now) rows.old rows.new }
 {
-    let width = n as usize + 1;
-    let mut v: u16 = 1;
-    let mut at = width;
-    while v <= n {
-        fill_row(n, table, v, rows, at);
-        at += width;
-        v += 1;
+    for v in 1..=n {
+        fill_row(n, table, v, rows, row_start(n, v));
     }
 }

@@ -1,6 +1,6 @@
 // Savings: what is taken out less what is put in, as signed numbers.
 ghost use Rattle.std.specs.Prelude.{◌<◌, ◌^◌, ◌≡◌};
-ghost use Rattle.lengths.specs.Saving.{saving, smaller, larger};
+ghost use Rattle.lengths.specs.Saving.{saving};
 
 // The old sum less the new one.
 pub fn saving(old: u64, new: u64) -> i64
@@ -8,24 +8,4 @@ pub fn saving(old: u64, new: u64) -> i64
     ensures { result ≡ saving old new }
 {
     old as i64 - new as i64
-}
-
-// The smaller of two savings.
-pub fn smaller(a: i64, b: i64) -> i64
-    ensures { result ≡ smaller a b }
-{
-    if a <= b {
-        return a;
-    }
-    b
-}
-
-// The larger of two savings.
-pub fn larger(a: i64, b: i64) -> i64
-    ensures { result ≡ larger a b }
-{
-    if b <= a {
-        return a;
-    }
-    b
 }

@@ -10,7 +10,8 @@ use std::io::Read;
 // More than the 65,448 bytes that an input may have, so a longer one is recognised by what fits.
 const INPUT: usize = 65_536;
 
-// Reads until the buffer is full or the input ends, and answers how many bytes it has put at the buffer's front.
+// Reads until the buffer is full or the input ends, and answers how many bytes it has put at the buffer's front. A loop
+// of its own, since std's `read_to_end` fills a vector, and the project has no heap.
 fn read_full(from: &mut impl Read, buffer: &mut [u8]) -> io::Result<usize>
     ensures { IfOk result (λ n. n ≤ length buffer.new) }
 {

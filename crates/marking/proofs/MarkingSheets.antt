@@ -7,10 +7,14 @@ use mathlib.Core.List.{List}
 use native.Mathlib.Nat.{mul-le-mul}
 use native.Mathlib.Omega.{arith}
 use lib.ListN.{length, replicate, length-replicate}
+use Rattle.std.specs.Prelude.{Result, Ok, Err}
 use Rattle.lists.specs.Test.{unless}
+use Rattle.lengths.specs.declared.refusal.Refusal.{Refusal}
+use Rattle.lengths.specs.declared.refusal.Refusal.TheVariants as refusal
 use Rattle.argument.specs.Record.{records}
-use Rattle.argument.specs.Sheet.{Result, sheet}
-use Rattle.sheets.proofs.Records.{sheet_records, sheet_admitted, sheet_refused}
+use Rattle.argument.specs.Sheet.{sheet}
+use Rattle.argument.specs.Sheet as lines
+use Rattle.sheets.proofs.Records.{sheet_records}
 use Rattle.lengths.specs.Edge.{edge_count, place}
 use Rattle.marks.specs.Mark.{pending_mark, mark_in}
 use Rattle.marks.specs.Packed.{ByteSet, packed, well_packed, marks_of, repacked}
@@ -18,21 +22,14 @@ use Rattle.marks.proofs.Marks.{length_marked, marks_set}
 use Rattle.marks.proofs.PackedSets.{repacked_same}
 use Rattle.marks.proofs.PackedMarks.{held_set, held_packed}
 use Rattle.argument.proofs.Safe.{sheet_keeps}
-use Rattle.sheets.specs.Verdict.{result_of}
+use Rattle.sheets.specs.Verdict.{Verdict, stopped_at_call, result_of}
 use Rattle.sheets.specs.Rules.{marking_between, marking_by}
 use Rattle.sheets.specs.Sheet.{whole_sheet}
-use Rattle.sheets.specs.asks.Sheet.{sheet_admission}
-use Rattle.sheets.specs.declared.sheet.Sheet as declared
-use Rattle.sheets.specs.declared.sheet.SheetAdmission.{SheetAdmission}
-use Rattle.sheets.specs.declared.sheet.SheetAdmission.TheVariants as admitting
-use Rattle.sheets.specs.declared.verdict.Verdict.{Verdict}
-use Rattle.sheets.specs.declared.verdict.Verdict.TheVariants as verdict
 use Rattle.admission.proofs.Passed.{BetweenPassed, both_passed, listable_set, passed_some, passed_well, passed, ready_tested}
-use Rattle.marking.specs.Mark.{turned_down, mark_tested, mark_by, packed_result, repack, mark_packed_by}
+use Rattle.marking.specs.Mark.{until_sheet, tested_sheet, turned_down, mark_tested, mark_by, packed_result, repack, mark_packed_by}
 use Rattle.marking.specs.asks.Mark.{AdmittedBy, RowsAsked}
 use Rattle.admission.specs.Tests.{ready}
-use Rattle.admission.specs.declared.tested.Tested.{Tested}
-use Rattle.admission.specs.declared.tested.Tested.TheVariants.{Points, Refused}
+use Rattle.marking.specs.declared.mark.Passed.{Passed}
 
 -- arrays for the rows of `most` points have room for those of fewer
 pub rows_room : {mark n : ℕ} {out put outrows putrows marks s : List ℕ} {count : ℕ} (most : ℕ) → AdmittedBy mark n out put marks s count → n ≤ most
@@ -46,19 +43,56 @@ rows_room {mark} {n} most a h e f =
 pub cleared : (most : ℕ) → length (replicate {A = ℕ} ((most + 1) * (most + 1)) 0) ≡ (most + 1) * (most + 1)
 cleared most = length-replicate {A = ℕ} ((most + 1) * (most + 1)) 0
 
--- a sheet that the tests pass is admitted with its instance
-pub admits_between : {mark n : ℕ} {out put : List ℕ} (set : List ℕ) {s : List ℕ} {p : ℕ} {a : SheetAdmission} {x : declared.Sheet} → mark ≤ pending_mark → BetweenPassed n out put (marks_of n set) p
-    → a ≡ sheet_admission (length s) → a ≡ admitting.Admitted x → AdmittedBy mark p out put (marks_of p set) s x.records
-unfolding records
-admits_between set {s = s} l t w z =
-    let i = sheet_admitted (sym w ∙ z) in
-    let h = sheet_records s i.passed in
-    let m = listable_set set t in
-    record { admitted = record { least = m.least; intervals = m.intervals; marked = m.marked; whole = record { exact = h.whole; counted = i.counted }; few = h.few }; is_mark = l }
+-- what a sheet that the tests pass has passed
+pub record SheetPassed (base : Result ℕ Refusal) (s : List ℕ) (p : Passed) : Type 0 where
+  pub ready : base ≡ Ok p.points
+  pub whole : whole_sheet (length s) ≡ true
+  pub counted : p.records ≡ records s
 
-pub sheet_admits : {mark : ℕ} (n : ℕ) {table : List ℕ} (set : List ℕ) {s : List ℕ} {r : Tested} {p : ℕ} {a : SheetAdmission} {x : declared.Sheet} → mark ≤ pending_mark → r ≡ ready n table (marks_of n set) → r ≡ Points p
-    → a ≡ sheet_admission (length s) → a ≡ admitting.Admitted x → AdmittedBy mark p table table (marks_of p set) s x.records
-sheet_admits n set l e g w z = admits_between set l (both_passed (passed (ready_tested (sym e ∙ g)).tests)) w z
+pub sheet_passed : (base : Result ℕ Refusal) (s : List ℕ) {p : Passed} → until_sheet base s ≡ Ok p → SheetPassed base s p
+sheet_passed (Err x) s {p} h = absurd (let g : ◌≡◌ {A = Result Passed Refusal} (Err x) (Ok p) = h in cc)
+sheet_passed (Ok n) s {p} h = by (whole_sheet (length s)) refl h
+  where
+    by : (b : Bool) → whole_sheet (length s) ≡ b → ◌≡◌ {A = Result Passed Refusal} (unless b (Err refusal.Sheet) (Ok (record { points = n; records = records s }))) (Ok p) → SheetPassed (Ok n) s p
+    by true e g =
+        let z : ◌≡◌ {A = Passed} (record { points = n; records = records s }) p = cc in
+        record { ready = ap (λ (x : Passed). Ok x.points) z; whole = e; counted = sym (ap (λ (x : Passed). x.records) z) }
+    by false e g = absurd (let f : ◌≡◌ {A = Result Passed Refusal} (Err refusal.Sheet) (Ok p) = g in cc)
+
+-- a refusal of the tests is that of marking
+pub sheet_not : (mark : ℕ) (base : Result ℕ Refusal) (out put marks s : List ℕ) {x : Refusal} → until_sheet base s ≡ Err x
+    → mark_tested mark base out put marks s ≡ turned_down x marks
+sheet_not mark (Err y) out put marks s {x} h = let z : y ≡ x = cc in ap (λ (w : Refusal). turned_down w marks) z
+sheet_not mark (Ok n) out put marks s {x} h = by (whole_sheet (length s)) h
+  where
+    by : (b : Bool) → ◌≡◌ {A = Result Passed Refusal} (unless b (Err refusal.Sheet) (Ok (record { points = n; records = records s }))) (Err x)
+        → unless b (turned_down refusal.Sheet marks) (sheet (marking_between mark n out put) s marks) ≡ turned_down x marks
+    by true g = absurd (let f : ◌≡◌ {A = Result Passed Refusal} (Ok (record { points = n; records = records s })) (Err x) = g in cc)
+    by false g = let z : refusal.Sheet ≡ x = cc in ap (λ (w : Refusal). turned_down w marks) z
+
+-- a sheet that the tests pass is admitted with its instance
+pub admits_between : {mark n : ℕ} {out put : List ℕ} (set : List ℕ) (base : Result ℕ Refusal) (s : List ℕ) {p : Passed} → mark ≤ pending_mark
+    → until_sheet base s ≡ Ok p → BetweenPassed n out put (marks_of n set) p.points → AdmittedBy mark p.points out put (marks_of p.points set) s p.records
+admits_between set base s l h t =
+    let i = sheet_passed base s h in
+    let w = sheet_records s i.whole in
+    let m = listable_set set t in
+    record { admitted = record { least = m.least; intervals = m.intervals; marked = m.marked; whole = record { exact = w.whole; counted = i.counted }; few = w.few }; is_mark = l }
+
+-- the tests of an instance that were passed
+pub ready_passed : {n : ℕ} {table marks : List ℕ} {m : ℕ} → ready n table marks ≡ Ok m → BetweenPassed n table table marks m
+ready_passed h = both_passed (passed (ready_tested h).tests)
+
+pub sheet_ready : (n : ℕ) (table marks s : List ℕ) {p : Passed} → tested_sheet n table marks s ≡ Ok p → BetweenPassed n table table marks p.points
+unfolding tested_sheet
+sheet_ready n table marks s h = ready_passed (sheet_passed (ready n table marks) s h).ready
+
+pub sheet_admits : {mark : ℕ} (n : ℕ) (table set s : List ℕ) {p : Passed} → mark ≤ pending_mark → tested_sheet n table (marks_of n set) s ≡ Ok p
+    → AdmittedBy mark p.points table table (marks_of p.points set) s p.records
+unfolding tested_sheet
+sheet_admits n table set s l h =
+    let base : Result ℕ Refusal = ready n table (marks_of n set) in
+    admits_between set base s l h (ready_passed (sheet_passed base s h).ready)
 
 -- marks of n points, one of them or those of a sheet's lines marked anew, are marks of n points
 pub struck-set : (mark p : ℕ) {n : ℕ} → mark ≤ pending_mark → (m : List ℕ) (a b : ℕ) → ByteSet n m → ByteSet n (mark_in mark p m a b)
@@ -69,64 +103,51 @@ pub marked_set : (mark p : ℕ) {n : ℕ} (out put s : List ℕ) {marks : List �
 marked_set mark p {n} out put s {marks} l = sheet_keeps (marking_between mark p out put) (ByteSet n) (struck-set mark p l) s marks
 
 packed-result : (v : Verdict) {left : List ℕ} (marks : List ℕ) → left ≡ packed marks → result_of v left ≡ packed_result (result_of v marks)
-packed-result (verdict.Accepted lines) marks e = ap (λ (m : List ℕ). result_of (verdict.Accepted lines) m) e
-packed-result (verdict.Refused number rec lines) marks e = ap (λ (m : List ℕ). result_of (verdict.Refused number rec lines) m) e
+packed-result (Ok lines) marks e = ap (λ (m : List ℕ). result_of (Ok lines) m) e
+packed-result (Err s) marks e = ap (λ (m : List ℕ). result_of (Err s) m) e
 
 -- the marks of a result are those that are left
 pub result_marks : (v : Verdict) (marks : List ℕ) → (result_of v marks).marks ≡ marks
-result_marks (verdict.Accepted lines) marks = refl
-result_marks (verdict.Refused number rec lines) marks = refl
+result_marks (Ok lines) marks = refl
+result_marks (Err s) marks = refl
 
 -- lines that are marked over the marks of a well packed set leave the packed set of what they leave
 marked_packed : (mark p n : ℕ) (out put s set : List ℕ) (v : Verdict) (left : List ℕ) → mark ≤ pending_mark → 0 < edge_count n → well_packed n set ≡ true
     → result_of v (marks_of n left) ≡ sheet (marking_between mark p out put) s (marks_of n set) → result_of v left ≡ repack n set (sheet (marking_between mark p out put) s (marks_of n set))
 unfolding repacked
 marked_packed mark p n out put s set v left l some h q =
-    let m : marks_of n left ≡ (sheet (marking_between mark p out put) s (marks_of n set)).marks = sym (result_marks v (marks_of n left)) ∙ ap (λ (r : Result (List ℕ)). r.marks) q in
+    let m : marks_of n left ≡ (sheet (marking_between mark p out put) s (marks_of n set)).marks = sym (result_marks v (marks_of n left)) ∙ ap (λ (r : lines.Result (List ℕ)). r.marks) q in
     let e : left ≡ packed (marks_of n left) = held_packed left some m (marked_set mark p out put s l (held_set n set h)) ∙ ap packed (sym m) in
     packed-result v (marks_of n left) e ∙ ap packed_result q ∙ sym (rw h)
 
--- the ways out, over the packed set, behind tests that answer `base`
-module _ (mark n : ℕ) (out put set s : List ℕ) {r base : Tested} (e : r ≡ base) where
-  as_tested : {r' : Tested} → r ≡ r' → repack n set (mark_tested mark r' out put (marks_of n set) s) ≡ repack n set (mark_tested mark base out put (marks_of n set) s)
-  as_tested g = ap (λ (t : Tested). repack n set (mark_tested mark t out put (marks_of n set) s)) (sym g ∙ e)
+-- the ways out, over the packed set, behind tests that answer `base`: a call that is turned down leaves the set as it is
+pub untested : (mark n : ℕ) (out put set : List ℕ) (base : Result ℕ Refusal) (s : List ℕ) {x : Refusal} → until_sheet base s ≡ Err x
+    → result_of (Err (stopped_at_call x)) set ≡ repack n set (mark_tested mark base out put (marks_of n set) s)
+untested mark n out put set base s {x} h =
+    ap (λ (m : List ℕ). result_of (Err (stopped_at_call x)) m) (sym (repacked_same n set))
+    ∙ ap (repack n set) (sym (sheet_not mark base out put (marks_of n set) s h))
 
-  -- a call that is turned down leaves the set as it is
-  turns_down : {v : Verdict} {number : ℕ} → v ≡ verdict.Refused number 0 0 → result_of v set ≡ repack n set (turned_down number (marks_of n set))
-  turns_down {number = number} h =
-      ap (λ (v : Verdict). result_of v set) h
-      ∙ ap (λ (m : List ℕ). result_of (verdict.Refused number 0 0) m) (sym (repacked_same n set))
-
-  pub untested : {number : ℕ} {v : Verdict} → r ≡ Refused number → v ≡ verdict.Refused number 0 0 → result_of v set ≡ repack n set (mark_tested mark base out put (marks_of n set) s)
-  untested g h = turns_down h ∙ as_tested g
-
-  module _ {p : ℕ} (g : r ≡ Points p) {a : SheetAdmission} (w : a ≡ sheet_admission (length s)) where
-    as_whole : (b : Bool) → whole_sheet (length s) ≡ b → repack n set (unless b (turned_down 7 (marks_of n set)) (sheet (marking_between mark p out put) s (marks_of n set)))
-        ≡ repack n set (mark_tested mark base out put (marks_of n set) s)
-    as_whole b h = ap (λ (t : Bool). repack n set (unless t (turned_down 7 (marks_of n set)) (sheet (marking_between mark p out put) s (marks_of n set)))) (sym h) ∙ as_tested g
-
-    pub not_whole : {v : Verdict} → a ≡ admitting.Refused → v ≡ verdict.Refused 7 0 0 → result_of v set ≡ repack n set (mark_tested mark base out put (marks_of n set) s)
-    not_whole z h = turns_down h ∙ as_whole false (sheet_refused (length s) (sym w ∙ z))
-
-    pub marked : {x : declared.Sheet} → a ≡ admitting.Admitted x → BetweenPassed n out put (marks_of n set) p → (v : Verdict) (left : List ℕ) → mark ≤ pending_mark
-        → result_of v (marks_of p left) ≡ sheet (marking_between mark p out put) s (marks_of p set) → result_of v left ≡ repack n set (mark_tested mark base out put (marks_of n set) s)
-    marked z t v left l q =
-        marked_packed mark p n out put s set v left l (passed_some t) (passed_well set t)
-        (ap (λ (k : ℕ). result_of v (marks_of k left)) (sym t.same) ∙ q ∙ ap (λ (k : ℕ). sheet (marking_between mark p out put) s (marks_of k set)) t.same)
-        ∙ as_whole true (sheet_admitted (sym w ∙ z)).passed
+pub marked : (mark n : ℕ) (out put set : List ℕ) (base : Result ℕ Refusal) (s : List ℕ) {p : Passed} → until_sheet base s ≡ Ok p → BetweenPassed n out put (marks_of n set) p.points
+    → (v : Verdict) (left : List ℕ) → mark ≤ pending_mark
+    → result_of v (marks_of p.points left) ≡ sheet (marking_between mark p.points out put) s (marks_of p.points set)
+    → result_of v left ≡ repack n set (mark_tested mark base out put (marks_of n set) s)
+marked mark n out put set base s {p} h t v left l q =
+    let i = sheet_passed base s h in
+    let r : lines.Result (List ℕ) = sheet (marking_between mark p.points out put) s (marks_of n set) in
+    marked_packed mark p.points n out put s set v left l (passed_some t) (passed_well set t)
+    (ap (λ (k : ℕ). result_of v (marks_of k left)) (sym t.same) ∙ q ∙ ap (λ (k : ℕ). sheet (marking_between mark p.points out put) s (marks_of k set)) t.same)
+    ∙ ap (λ (b : Bool). repack n set (unless b (turned_down refusal.Sheet (marks_of n set)) r)) (sym i.whole)
+    ∙ ap (λ (b : Result ℕ Refusal). repack n set (mark_tested mark b out put (marks_of n set) s)) (sym i.ready)
 
 -- the ways out of `mark_with`
-module _ (mark n : ℕ) (table set s : List ℕ) {r : Tested} (e : r ≡ ready n table (marks_of n set)) where
-  pub sheet_untested : {number : ℕ} {v : Verdict} → r ≡ Refused number → v ≡ verdict.Refused number 0 0 → result_of v set ≡ mark_packed_by mark n table set s
-  unfolding mark_by mark_packed_by
-  sheet_untested g h = untested mark n table table set s e g h
+module _ (mark n : ℕ) (table set s : List ℕ) where
+  pub sheet_untested : {x : Refusal} → tested_sheet n table (marks_of n set) s ≡ Err x → result_of (Err (stopped_at_call x)) set ≡ mark_packed_by mark n table set s
+  unfolding tested_sheet mark_by mark_packed_by
+  sheet_untested h = untested mark n table table set (ready n table (marks_of n set)) s h
 
-  module _ {p : ℕ} (g : r ≡ Points p) {a : SheetAdmission} (w : a ≡ sheet_admission (length s)) where
-    pub sheet_not_whole : {v : Verdict} → a ≡ admitting.Refused → v ≡ verdict.Refused 7 0 0 → result_of v set ≡ mark_packed_by mark n table set s
-    unfolding mark_by mark_packed_by
-    sheet_not_whole z h = not_whole mark n table table set s e g w z h
-
-    pub sheet_marked : {x : declared.Sheet} → a ≡ admitting.Admitted x → (v : Verdict) (left : List ℕ) → mark ≤ pending_mark
-        → result_of v (marks_of p left) ≡ sheet (marking_by mark p table) s (marks_of p set) → result_of v left ≡ mark_packed_by mark n table set s
-    unfolding mark_by mark_packed_by
-    sheet_marked z v left l q = marked mark n table table set s e g w z (both_passed (passed (ready_tested (sym e ∙ g)).tests)) v left l q
+  pub sheet_marked : {p : Passed} → tested_sheet n table (marks_of n set) s ≡ Ok p → (v : Verdict) (left : List ℕ) → mark ≤ pending_mark
+      → result_of v (marks_of p.points left) ≡ sheet (marking_by mark p.points table) s (marks_of p.points set) → result_of v left ≡ mark_packed_by mark n table set s
+  unfolding tested_sheet mark_by mark_packed_by
+  sheet_marked h v left l q =
+      let base : Result ℕ Refusal = ready n table (marks_of n set) in
+      marked mark n table table set base s h (ready_passed (sheet_passed base s h).ready) v left l q

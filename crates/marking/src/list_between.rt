@@ -3,9 +3,10 @@ ghost use Rattle.endian.specs.Bytes.{whole32};
 ghost use Rattle.marks.specs.Packed.{marks_of};
 ghost use Rattle.marking.specs.ListBetween.{ListedBetweenAs};
 
-use crate::listing::{Listed, list_tested, turned_down};
-use admission::tested::Tested;
+use crate::listing::list_tested;
 use admission::tests::test_between;
+use lengths::refusal::Refused;
+use lengths::two_tables::Tables;
 
 // Lists the feasible pairs of K = {ab} at the split point c: tests 1, 2, 5, 25, 6, 11, 12 and 18, then the list.
 pub fn list_between(
@@ -17,12 +18,15 @@ pub fn list_between(
     b: u16,
     c: u16,
     list: &mut [u8],
-) -> Listed
+) -> Result<u16, Refused>
     ensures { ListedBetweenAs n (whole32 low.now) (whole32 high.now)
         (marks_of n marks.now) a b c list.old result list.new }
 {
-    match test_between(n, low, high, marks) {
-        Tested::Points(points) => list_tested(points, low, high, marks, a, b, c, list),
-        Tested::Refused(number) => turned_down(number),
-    }
+    let points = test_between(n, low, high, marks)?;
+    let tables = Tables {
+        n: points,
+        out: low,
+        put: high,
+    };
+    list_tested(tables, marks, a, b, c, list)
 }

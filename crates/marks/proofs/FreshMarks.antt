@@ -10,7 +10,6 @@ use lib.ListN.{length, replicate, get_or-replicate, length-replicate, get_or-eq_
 use borrow.Author.Tests.{eq-eqb, ne_eqb}
 use Rattle.lengths.specs.Edge.{edge_count, place, IsEdge}
 use Rattle.lengths.specs.Instance.{admission, in_range}
-use Rattle.lengths.specs.declared.instance.Admission.TheVariants.{OutOfRange}
 use Rattle.lengths.specs.declared.instance.Instance.{Instance}
 use Rattle.lengths.proofs.Edges.{place_below}
 use Rattle.lengths.proofs.AtMostTests.{at_most_all}
@@ -20,7 +19,10 @@ use Rattle.marks.specs.Packed.{ByteSet, packed_bytes, packed_size, byte_of, pack
 use Rattle.marks.specs.Fresh.{fresh_answer, fresh_set_answer, fresh_left, fresh_set_left, fresh_marks, FreshAs}
 use Rattle.marks.specs.asks.Converting.{fourth, byte_at}
 use Rattle.marks.specs.asks.Fresh.{open_of, open_byte}
-use Rattle.lengths.specs.declared.outcome.Outcome.TheVariants.{Done, Refused}
+use Rattle.std.specs.Prelude.{Ok, Err}
+use Rattle.lengths.specs.Refusal.{refuse}
+use Rattle.lengths.specs.declared.refusal.Refusal.{Refusal}
+use Rattle.lengths.specs.declared.refusal.Refusal.TheVariants.{Marks}
 
 -- a byte of open edges, by how many edges are left
 
@@ -62,23 +64,23 @@ open_room edges room = room ∙ ap packed_bytes (sym (length-replicate {A = ℕ}
 
 -- the ways out of `fresh_marks`
 module _ {n : ℕ} {s : List ℕ} where
-  refused : {k : ℕ} → fresh_set_answer n (length s) ≡ Refused k 0 → FreshAs n s (Refused k 0) s
+  refused : {k : Refusal} → fresh_set_answer n (length s) ≡ refuse k → FreshAs n s (refuse k) s
   refused h = record { answered = sym h; set-left = rw h }
 
-  pub refused_fresh_points : admission n ≡ OutOfRange → FreshAs n s (Refused 1 0) s
+  pub refused_fresh_points : {k : Refusal} → admission n ≡ Err k → FreshAs n s (refuse k) s
   unfolding fresh_set_answer
-  refused_fresh_points h = refused (rw (fresh_set_answer, out_of_range n h))
+  refused_fresh_points h = let o = out_of_range n h in refused (rw (fresh_set_answer, o.0, o.1))
 
   module _ {i : Instance} (a : Admits n i) where
-    pub refused_fresh_size : (length s ≡ packed_size i.points → ⊥) → FreshAs n s (Refused 6 0) s
+    pub refused_fresh_size : (length s ≡ packed_size i.points → ⊥) → FreshAs n s (refuse Marks) s
     unfolding fresh_set_answer
     refused_fresh_size h = refused
         (rw (fresh_set_answer, a.range, ne_eqb (length s) (packed_size n) (λ e. h (e ∙ ap packed_size (sym a.points)))))
 
-    pub made_fresh : {left : List ℕ} → length s ≡ packed_size i.points → left ≡ packed (replicate (edge_count i.points) open_mark) → FreshAs n s Done left
+    pub made_fresh : {left : List ℕ} → length s ≡ packed_size i.points → left ≡ packed (replicate (edge_count i.points) open_mark) → FreshAs n s (Ok tt) left
     unfolding fresh_set_answer fresh_marks
     made_fresh {left} h l =
-        let answer : fresh_set_answer n (length s) ≡ Done = rw (fresh_set_answer, a.range, eq-eqb (length s) (packed_size n) (h ∙ ap packed_size a.points)) in
+        let answer : fresh_set_answer n (length s) ≡ (Ok tt) = rw (fresh_set_answer, a.range, eq-eqb (length s) (packed_size n) (h ∙ ap packed_size a.points)) in
         record { answered = sym answer; set-left = rw (answer, fresh_marks) (l ∙ ap (λ (m : ℕ). packed (replicate (edge_count m) open_mark)) a.points) }
 
 -- what *fresh marks* leaves in a buffer of the right size

@@ -40,9 +40,6 @@ pub record Testing (most : ℕ) (set : List ℕ) (within : Bool) (i : ℕ) : Typ
   pub bytes : (k : ℕ) → k < i → get_or set k 0 ≤ 255
   pub same : (within && all_at_most most (quarters (drop i set))) ≡ all_at_most most (quarters set)
 
-pub testing_start : (most : ℕ) (set : List ℕ) → Testing most set true 0
-testing_start most set = record { inside = omega arith; bytes = λ k h. absurd (omega arith); same = refl }
-
 module _ {most : ℕ} {set : List ℕ} {within : Bool} {i : ℕ} (t : Testing most set within i) where
   -- one turn, by the way that its branch went: A, a byte with a mark above the limit decides; B, any
   -- other changes nothing
@@ -168,9 +165,6 @@ module _ (n : ℕ) (set : List ℕ) where
     pub wrong_mark : {r : Bool} → SetWithin pending_mark set r → r ≡ false → false ≡ well_packed n set
     unfolding well_packed
     wrong_mark t e = sym (rw (eq-eqb (length set) (packed_size n) size, at_most_all 255 set (λ i g. t.bytes i), sym t.tested ∙ e))
-
-    pub last_asked : {r : Bool} → 0 < edge_count n → SetWithin pending_mark set r → LastAsked n set
-    last_asked some t = record { some = some; size = size; bytes = t.bytes }
 
     pub unused_left : {r clear : Bool} → SetWithin pending_mark set r → r ≡ true → clear ≡ unused_clear n set → clear ≡ well_packed n set
     unfolding well_packed unused_clear

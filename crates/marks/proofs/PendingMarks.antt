@@ -16,8 +16,8 @@ use Rattle.lengths.specs.Instance.{in_range}
 use Rattle.marks.specs.Mark.{mark_at, set_mark, struck_mark, open_mark, pending_mark, are_marks, none_pending, opens, open_up_to, open_in}
 use Rattle.marks.specs.Pending.{resolved_answer, resolved_mark, resolved_marks, resolved_left}
 use Rattle.marks.proofs.Marks.{open-mark}
-use Rattle.lengths.specs.declared.outcome.Outcome.{Outcome}
-use Rattle.lengths.specs.declared.outcome.Outcome.TheVariants.{Done, Refused}
+use Rattle.std.specs.Prelude.{Result, Ok, Err}
+use Rattle.lengths.specs.declared.refusal.Refused.{Refused}
 
 -- resolved marks: the size stays, each mark is resolved by itself, and an open edge stays open
 pub resolved_size : (to : ℕ) (marks : List ℕ) → length (resolved_marks to marks) ≡ length marks
@@ -59,9 +59,9 @@ resolved_none to (m ∷ marks) h =
 pub left_none : (to n : ℕ) (marks : List ℕ) → none_pending marks ≡ true → resolved_left (resolved_answer n marks) to marks ≡ marks
 left_none to n marks h = by (resolved_answer n marks)
   where
-    by : (r : Outcome) → resolved_left r to marks ≡ marks
-    by Done = resolved_none to marks h
-    by (Refused k rec) = refl
+    by : (r : Result Unit Refused) → resolved_left r to marks ≡ marks
+    by (Ok _) = resolved_none to marks h
+    by (Err refused) = refl
 
 -- what confirming or withdrawing leaves of n points' marks: all resolved, also where nothing is pending
 -- and it is refused

@@ -1,19 +1,16 @@
 -- A packed set that is resolved: a byte, the loop of `resolve_all`, and the answer and the set at each way out of
 -- `resolve`. Assumes nothing.
-use Prim.Native.Nat.{ℕ, ◌+◌, ◌/◌, ◌%◌, ◌≤◌, ◌<◌}
+use Prim.Native.Nat.{ℕ, ◌/◌, ◌%◌, ◌≤◌, ◌<◌}
 use mathlib.Core.Path.{◌≡◌, refl, sym, ◌∙◌, ap}
 use mathlib.Core.Bool.{Bool, true, false, cond, not, true≢false}
 use mathlib.Core.List.{List, [], map}
 use native.Mathlib.Omega.{arith}
-use native.Mathlib.Decide.{ℕ_discrete}
 use lib.Dec.{eqb}
-use lib.ListN.{length, get_or, set, length-set, length-map, get_or-map}
-use lib.Seq.{get_or-set_same, get_or-set_other, ext_get_or}
+use lib.ListN.{length, get_or, length-map, get_or-map}
 use borrow.Author.Tests.{eq-eqb, ne_eqb}
 use Rattle.lists.specs.Test.{all_at_most, unless}
 use Rattle.lengths.specs.Edge.{edge_count}
 use Rattle.lengths.specs.Instance.{admission}
-use Rattle.lengths.specs.declared.instance.Admission.TheVariants.{OutOfRange}
 use Rattle.lengths.specs.declared.instance.Instance.{Instance}
 use Rattle.lengths.proofs.Instances.{Admits, out_of_range}
 use Rattle.lengths.proofs.AtMostTests.{at_most_each, at_most_all}
@@ -22,8 +19,11 @@ use Rattle.marks.specs.Packed.{ByteSet, quarter, quarters, packed_bytes, byte_of
 use Rattle.marks.specs.Pending.{resolved_answer, resolved_mark, resolved_marks, resolved_left, ResolvedAs}
 use Rattle.marks.specs.asks.Packed.{SetWithin}
 use Rattle.marks.specs.asks.Pending.{resolved_byte}
-use Rattle.lengths.specs.declared.outcome.Outcome.{Outcome}
-use Rattle.lengths.specs.declared.outcome.Outcome.TheVariants.{Done, Refused}
+use Rattle.std.specs.Prelude.{Result, Ok, Err}
+use Rattle.lengths.specs.Refusal.{refuse}
+use Rattle.lengths.specs.declared.refusal.Refusal.{Refusal}
+use Rattle.lengths.specs.declared.refusal.Refusal.TheVariants.{Marks, NothingPending}
+use Rattle.lengths.specs.declared.refusal.Refused.{Refused}
 use Rattle.marks.proofs.PackedSets.{quarter_small, quarters_byte, quarters_at, packed_as, well-packed, marks_are, marks_size, marks_quarter, repacked_same, marks_none, some_edges}
 use Rattle.marks.proofs.PendingMarks.{resolved_size, resolved_at}
 
@@ -46,27 +46,6 @@ pub record Resolving (to : ℕ) (set₀ set : List ℕ) (i : ℕ) : Type 0 where
   pub kept : length set ≡ length set₀
   pub resolved : (j : ℕ) → j < i → get_or set j 0 ≡ resolved_byte to (get_or set₀ j 0)
   pub rest : (j : ℕ) → i ≤ j → get_or set j 0 ≡ get_or set₀ j 0
-
-pub none_resolved : (to : ℕ) (s : List ℕ) → Resolving to s s 0
-none_resolved to s = record { within = omega arith; kept = refl; resolved = λ j h. absurd (omega arith); rest = λ j h. refl }
-
-module _ {to : ℕ} {set₀ s : List ℕ} {i : ℕ} (o : Resolving to set₀ s i) where
-  pub one_resolved : {m : ℕ} → i < length s → m ≡ resolved_byte to (get_or s i 0) → Resolving to set₀ (set s i m) (i + 1)
-  one_resolved {m} h is = record {
-    within = omega (arith, o.kept);
-    kept = length-set s i m ∙ o.kept;
-    resolved = λ j g. at j g (ℕ_discrete j i);
-    rest = λ j g. get_or-set_other s i j m 0 (λ e. omega arith) ∙ o.rest j (omega arith);
-  }
-    where
-      at : (j : ℕ) → j < i + 1 → Dec (j ≡ i) → get_or (set s i m) j 0 ≡ resolved_byte to (get_or set₀ j 0)
-      at j g (yes e) = rw e (get_or-set_same s i m 0 h ∙ is ∙ ap (resolved_byte to) (o.rest i (omega arith)))
-      at j g (no d) = get_or-set_other s i j m 0 d ∙ o.resolved j (omega (arith, d))
-
-  pub all_resolved : length s ≤ i → s ≡ map (resolved_byte to) set₀
-  unfolding resolved_byte quarter byte_of
-  all_resolved h = ext_get_or 0 s (map (resolved_byte to) set₀) (o.kept ∙ sym (length-map set₀ (resolved_byte to)))
-      (λ j g. o.resolved j (omega arith) ∙ sym (get_or-map (resolved_byte to) set₀ j 0))
 
 -- a well packed set and the marks that it holds
 module _ (n : ℕ) (s : List ℕ) (h : well_packed n s ≡ true) where
@@ -101,15 +80,15 @@ module _ (n : ℕ) (s : List ℕ) (h : well_packed n s ≡ true) where
 
 -- the ways out of `resolve`
 module _ {n : ℕ} (s : List ℕ) where
-  refused : {to k : ℕ} → resolved_answer n (marks_of n s) ≡ Refused k 0 → ResolvedAs n to s (Refused k 0) s
+  refused : {to : ℕ} {k : Refusal} → resolved_answer n (marks_of n s) ≡ refuse k → ResolvedAs n to s (refuse k) s
   refused h = record { answered = sym h; set-left = sym (rw h (repacked_same n s)) }
 
-  pub refused_points : {to : ℕ} → admission n ≡ OutOfRange → ResolvedAs n to s (Refused 1 0) s
+  pub refused_points : {to : ℕ} → {k : Refusal} → admission n ≡ Err k → ResolvedAs n to s (refuse k) s
   unfolding resolved_answer
-  refused_points h = refused (rw (resolved_answer, out_of_range n h))
+  refused_points h = let o = out_of_range n h in refused (rw (resolved_answer, o.0, o.1))
 
   module _ {i : Instance} (a : Admits n i) where
-    pub refused_set : {to : ℕ} {r : Bool} → r ≡ well_packed i.points s → r ≡ false → ResolvedAs n to s (Refused 6 0) s
+    pub refused_set : {to : ℕ} {r : Bool} → r ≡ well_packed i.points s → r ≡ false → ResolvedAs n to s (refuse Marks) s
     unfolding resolved_answer
     refused_set e f =
         let none : marks_of n s ≡ [] = marks_none n s (ap (λ (m : ℕ). well_packed m s) (sym a.points) ∙ sym e ∙ f) in
@@ -119,24 +98,24 @@ module _ {n : ℕ} (s : List ℕ) where
       well : well_packed n s ≡ true
       well = ap (λ (m : ℕ). well_packed m s) (sym a.points) ∙ sym is ∙ yes
 
-      answer : (t : Bool) → none_pending (marks_of n s) ≡ t → resolved_answer n (marks_of n s) ≡ unless (not t) (Refused 21 0) Done
+      answer : (t : Bool) → none_pending (marks_of n s) ≡ t → resolved_answer n (marks_of n s) ≡ unless (not t) (refuse NothingPending) (Ok tt)
       unfolding resolved_answer
       answer t e = rw (resolved_answer, a.range, eq-eqb (length (marks_of n s)) (edge_count n) (marks_size n s well), marks_are n s, e)
 
-      pub refused_nothing : {to : ℕ} {t : Bool} → SetWithin open_mark s t → t ≡ true → ResolvedAs n to s (Refused 21 0) s
+      pub refused_nothing : {to : ℕ} {t : Bool} → SetWithin open_mark s t → t ≡ true → ResolvedAs n to s (refuse NothingPending) s
       refused_nothing w e = refused (answer true (sym (within_held n s well open_mark) ∙ sym w.tested ∙ e))
 
-      pub done : {to : ℕ} {t : Bool} {left : List ℕ} → to ≤ pending_mark → SetWithin open_mark s t → t ≡ false → left ≡ map (resolved_byte to) s → ResolvedAs n to s Done left
+      pub done : {to : ℕ} {t : Bool} {left : List ℕ} → to ≤ pending_mark → SetWithin open_mark s t → t ≡ false → left ≡ map (resolved_byte to) s → ResolvedAs n to s (Ok tt) left
       unfolding repacked
       done {to} l w e q =
-          let d : resolved_answer n (marks_of n s) ≡ Done = answer false (sym (within_held n s well open_mark) ∙ sym w.tested ∙ e) in
+          let d : resolved_answer n (marks_of n s) ≡ (Ok tt) = answer false (sym (within_held n s well open_mark) ∙ sym w.tested ∙ e) in
           record { answered = sym d; set-left = q ∙ resolved_packed n s well to l ∙ sym (rw (d, well)) }
 
 -- what is left of marks of p points are marks of p points
-pub resolved_byte_set : (mark : ℕ) {p : ℕ} {marks : List ℕ} → mark ≤ pending_mark → ByteSet p marks → (r : Outcome) → ByteSet p (resolved_left r mark marks)
+pub resolved_byte_set : (mark : ℕ) {p : ℕ} {marks : List ℕ} → mark ≤ pending_mark → ByteSet p marks → (r : Result Unit Refused) → ByteSet p (resolved_left r mark marks)
 unfolding mark_at
-resolved_byte_set mark {p} {marks} l b (Refused k rec) = b
-resolved_byte_set mark {p} {marks} l b Done =
+resolved_byte_set mark {p} {marks} l b (Err refused) = b
+resolved_byte_set mark {p} {marks} l b (Ok _) =
     record { size = resolved_size mark marks ∙ b.size; are = at_most_all pending_mark (resolved_marks mark marks) (λ i h. omega (arith, resolved_at mark marks i, small i (eqb (mark_at marks i) pending_mark))) }
   where
     small : (i : ℕ) (t : Bool) → cond t mark (mark_at marks i) ≤ pending_mark

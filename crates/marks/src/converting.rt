@@ -7,21 +7,19 @@ ghost use Rattle.marks.specs.asks.Converting.{byte_at, ByteAsked, PackAsked};
 
 use crate::packed::{PER_BYTE, byte_of, quarter, well_packed};
 use crate::{mark, packed};
-use lengths::instance::{Admission, Instance};
-use lengths::outcome::{Outcome, refused};
-use lengths::{edge, refusal};
+use lengths::edge;
+use lengths::instance::Instance;
+use lengths::refusal::{Refusal, Refused};
 
-// Is no byte above a mark?
+// Is no byte above a mark? It reads all of them, with no early exit, so that the compiler compares several at once.
 fn bytes_are_marks(bytes: &[u8]) -> bool
     ensures { result ≡ are_marks bytes.now }
 {
     let mut are = true;
-    let mut i = 0;
-    while i < bytes.len() {
-        if mark::PENDING < bytes[i] {
+    for &byte in bytes {
+        if mark::PENDING < byte {
             are = false;
         }
-        i += 1;
     }
     are
 }
@@ -30,20 +28,14 @@ fn bytes_are_marks(bytes: &[u8]) -> bool
 fn is_byte_set(n: u16, bytes: &[u8]) -> bool
     ensures { result ≡ is_byte_set n bytes.now }
 {
-    if bytes.len() != edge::count(n) {
-        return false;
-    }
-    bytes_are_marks(bytes)
+    bytes.len() == edge::count(n) && bytes_are_marks(bytes)
 }
 
 // The mark at this place, 0 past the last.
 fn mark_or_zero(bytes: &[u8], at: usize) -> u8
     ensures { result ≡ get_or bytes.now at 0 }
 {
-    if at < bytes.len() {
-        return bytes[at];
-    }
-    0
+    bytes.get(at).copied().unwrap_or(0)
 }
 
 // The k-th byte of the packed set, from 0.
@@ -64,10 +56,8 @@ fn pack_all(bytes: &[u8], set: &mut [u8])
     requires { PackAsked bytes.now set.old }
     ensures { set.new ≡ packed bytes.now }
 {
-    let mut k = 0;
-    while k < set.len() {
-        set[k] = packed_byte(bytes, k);
-        k += 1;
+    for (k, byte) in set.iter_mut().enumerate() {
+        *byte = packed_byte(bytes, k);
     }
 }
 
@@ -76,43 +66,31 @@ fn unpack_all(set: &[u8], bytes: &mut [u8])
     requires { length bytes.old ≤ 4 * length set.now }
     ensures { bytes.new ≡ take (length bytes.old) (quarters set.now) }
 {
-    let mut i = 0;
-    while i < bytes.len() {
-        bytes[i] = quarter(set[i / PER_BYTE], i % PER_BYTE);
-        i += 1;
+    for (i, mark) in bytes.iter_mut().enumerate() {
+        *mark = quarter(set[i / PER_BYTE], i % PER_BYTE);
     }
 }
 
 // Packs the byte set of n points.
-pub fn pack_marks(n: u32, bytes: &[u8], set: &mut [u8]) -> Outcome
+pub fn pack_marks(n: u32, bytes: &[u8], set: &mut [u8]) -> Result<(), Refused>
     ensures { PackedAs n bytes.now set.old result set.new }
 {
-    let Admission::Admitted(instance) = Instance::admit(n) else {
-        return refused(refusal::POINTS);
-    };
-    if !is_byte_set(instance.points, bytes) {
-        return refused(refusal::MARKS);
-    }
-    if set.len() != packed::size(instance.points) {
-        return refused(refusal::MARKS);
+    let points = Instance::admit(n)?.points;
+    if !is_byte_set(points, bytes) || set.len() != packed::size(points) {
+        return Err(Refusal::Marks.into());
     }
     pack_all(bytes, set);
-    Outcome::Done
+    Ok(())
 }
 
 // Unpacks the packed set of n points.
-pub fn unpack_marks(n: u32, set: &[u8], bytes: &mut [u8]) -> Outcome
+pub fn unpack_marks(n: u32, set: &[u8], bytes: &mut [u8]) -> Result<(), Refused>
     ensures { UnpackedAs n set.now bytes.old result bytes.new }
 {
-    let Admission::Admitted(instance) = Instance::admit(n) else {
-        return refused(refusal::POINTS);
-    };
-    if !well_packed(instance.points, set) {
-        return refused(refusal::MARKS);
-    }
-    if bytes.len() != edge::count(instance.points) {
-        return refused(refusal::MARKS);
+    let points = Instance::admit(n)?.points;
+    if !well_packed(points, set) || bytes.len() != edge::count(points) {
+        return Err(Refusal::Marks.into());
     }
     unpack_all(set, bytes);
-    Outcome::Done
+    Ok(())
 }

@@ -6,19 +6,16 @@ use crate::mark;
 use crate::mark::open_at;
 use lengths::edge;
 
-// How many of n points' edges are open. Ends: i rises to the number of edges.
+// How many of n points' edges are open.
 pub fn open_edges(n: u16, set: &[u8]) -> u16
     requires { CountAsked n (marks_of n set.now) }
     ensures { OpenIs (marks_of n set.now) result }
 {
-    let edges = edge::count(n);
     let mut opens: u16 = 0;
-    let mut i = 0;
-    while i < edges {
+    for i in 0..edge::count(n) {
         if open_at(set, i, mark::OPEN) {
             opens += 1;
         }
-        i += 1;
     }
     opens
 }

@@ -7,9 +7,9 @@ ghost use Rattle.marks.specs.asks.Fresh.{open_byte};
 
 use crate::packed;
 use crate::packed::PER_BYTE;
-use lengths::instance::{Admission, Instance};
-use lengths::outcome::{Outcome, refused};
-use lengths::{edge, refusal};
+use lengths::edge;
+use lengths::instance::Instance;
+use lengths::refusal::{Refusal, Refused};
 
 // Four open edges in a byte.
 const FOUR_OPEN: u8 = 0b01_01_01_01;
@@ -20,9 +20,10 @@ fn open_byte(left: usize) -> u8
     ensures { result ≡ open_byte left }
 {
     if PER_BYTE <= left {
-        return FOUR_OPEN;
+        FOUR_OPEN
+    } else {
+        FOUR_OPEN >> (2 * (PER_BYTE - left))
     }
-    FOUR_OPEN >> (2 * (PER_BYTE - left))
 }
 
 // Opens so many edges.
@@ -30,23 +31,19 @@ fn open_all(edges: usize, set: &mut [u8])
     requires { length set.old ≡ packed_bytes edges }
     ensures { set.new ≡ packed (replicate edges open_mark) }
 {
-    let mut i = 0;
-    while i < set.len() {
-        set[i] = open_byte(edges - PER_BYTE * i);
-        i += 1;
+    for (i, byte) in set.iter_mut().enumerate() {
+        *byte = open_byte(edges - PER_BYTE * i);
     }
 }
 
 // Makes the marks of n points fresh.
-pub fn fresh_marks(n: u32, set: &mut [u8]) -> Outcome
+pub fn fresh_marks(n: u32, set: &mut [u8]) -> Result<(), Refused>
     ensures { FreshAs n set.old result set.new }
 {
-    let Admission::Admitted(instance) = Instance::admit(n) else {
-        return refused(refusal::POINTS);
-    };
-    if set.len() != packed::size(instance.points) {
-        return refused(refusal::MARKS);
+    let points = Instance::admit(n)?.points;
+    if set.len() != packed::size(points) {
+        return Err(Refusal::Marks.into());
     }
-    open_all(edge::count(instance.points), set);
-    Outcome::Done
+    open_all(edge::count(points), set);
+    Ok(())
 }

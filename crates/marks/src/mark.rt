@@ -7,6 +7,9 @@ ghost use Rattle.marks.specs.asks.Mark.{MarkAtAsked, MarkSet, MarkAsked, SetAske
 use crate::packed::{PER_BYTE, put_quarter, quarter};
 use lengths::edge;
 
+// A mark is a number and no enum: sets come in as bytes of any value, which test 6 reads, and the definitions of
+// specs/Mark.antt, which 01's theorems are about, speak of the numbers 0, 1 and 2.
+
 // An edge that is struck: it is eliminated.
 pub const STRUCK: u8 = 0;
 

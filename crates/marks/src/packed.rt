@@ -54,18 +54,16 @@ fn marks_above(byte: u8, most: u8) -> u8
         + (byte / 64 % 4 + add) / 4
 }
 
-// Is no mark of the set above this one? Ends: i rises to the set's size.
+// Is no mark of the set above this one? It reads all bytes, with no early exit, so that the compiler tests several at once.
 pub fn marks_within(set: &[u8], most: u8) -> bool
     requires { most ≤ 3 }
     ensures { SetWithin most set.now result }
 {
     let mut within = true;
-    let mut i = 0;
-    while i < set.len() {
-        if 0 < marks_above(set[i], most) {
+    for &byte in set {
+        if 0 < marks_above(byte, most) {
             within = false;
         }
-        i += 1;
     }
     within
 }
@@ -85,11 +83,5 @@ pub fn well_packed(n: u16, set: &[u8]) -> bool
     requires { 0 < edge_count n }
     ensures { result ≡ well_packed n set.now }
 {
-    if set.len() != size(n) {
-        return false;
-    }
-    if !marks_within(set, mark::PENDING) {
-        return false;
-    }
-    unused_clear(n, set)
+    set.len() == size(n) && marks_within(set, mark::PENDING) && unused_clear(n, set)
 }

@@ -7,9 +7,8 @@ ghost use Rattle.marks.specs.asks.Pending.{resolved_byte, ResolvedQuarter};
 
 use crate::mark;
 use crate::packed::{byte_of, marks_within, quarter, well_packed};
-use lengths::instance::{Admission, Instance};
-use lengths::outcome::{Outcome, refused};
-use lengths::refusal;
+use lengths::instance::Instance;
+use lengths::refusal::{Refusal, Refused};
 
 // The mark in quarter j of a byte, with `to` in the place of pending.
 fn resolve_quarter(byte: u8, j: usize, to: u8) -> u8
@@ -17,10 +16,7 @@ fn resolve_quarter(byte: u8, j: usize, to: u8) -> u8
     ensures { ResolvedQuarter to byte j result }
 {
     let mark = quarter(byte, j);
-    if mark == mark::PENDING {
-        return to;
-    }
-    mark
+    if mark == mark::PENDING { to } else { mark }
 }
 
 // The byte with `to` in the place of each pending mark.
@@ -40,40 +36,36 @@ fn resolve_all(set: &mut [u8], to: u8)
     requires { to ≤ 3 }
     ensures { set.new ≡ map (resolved_byte to) set.old }
 {
-    let mut i = 0;
-    while i < set.len() {
-        set[i] = resolve_byte(set[i], to);
-        i += 1;
+    for byte in set.iter_mut() {
+        *byte = resolve_byte(*byte, to);
     }
 }
 
 // Tests 1, 6 and 21, and then turns every pending mark into this one.
-fn resolve(n: u32, set: &mut [u8], to: u8) -> Outcome
+fn resolve(n: u32, set: &mut [u8], to: u8) -> Result<(), Refused>
     requires { to ≤ open_mark }
     ensures { ResolvedAs n to set.old result set.new }
 {
-    let Admission::Admitted(instance) = Instance::admit(n) else {
-        return refused(refusal::POINTS);
-    };
-    if !well_packed(instance.points, set) {
-        return refused(refusal::MARKS);
+    let points = Instance::admit(n)?.points;
+    if !well_packed(points, set) {
+        return Err(Refusal::Marks.into());
     }
     if marks_within(set, mark::OPEN) {
-        return refused(refusal::NOTHING_PENDING);
+        return Err(Refusal::NothingPending.into());
     }
     resolve_all(set, to);
-    Outcome::Done
+    Ok(())
 }
 
 // Strikes every pending edge of n points.
-pub fn confirm(n: u32, set: &mut [u8]) -> Outcome
+pub fn confirm(n: u32, set: &mut [u8]) -> Result<(), Refused>
     ensures { ResolvedAs n struck_mark set.old result set.new }
 {
     resolve(n, set, mark::STRUCK)
 }
 
 // Opens every pending edge of n points again.
-pub fn withdraw(n: u32, set: &mut [u8]) -> Outcome
+pub fn withdraw(n: u32, set: &mut [u8]) -> Result<(), Refused>
     ensures { ResolvedAs n open_mark set.old result set.new }
 {
     resolve(n, set, mark::OPEN)

@@ -18,8 +18,9 @@ use Rattle.lengths.specs.Edge.{Point}
 use Rattle.lengths.specs.Instance.{most_length, most_points}
 use Rattle.lengths.specs.Table.{length_of}
 use Rattle.lengths.specs.asks.Rows.{Rows}
+use Rattle.lengths.specs.declared.two_tables.Rows.{Rows as TwoRows}
 use Rattle.lengths.proofs.Tables.{length_symmetric}
-use Rattle.sets.specs.asks.Stored.{edges_of, edge_list, most_known, Stored}
+use Rattle.sets.specs.asks.Stored.{edges_of, edge_list, most_known}
 use Rattle.sets.specs.declared.edge_set.EdgeSet.{EdgeSet}
 use Rattle.sets.specs.Joined.{has?}
 use Rattle.sets.proofs.Laws.Joined.{has_exact}
@@ -39,40 +40,40 @@ own_second leg c s t e = ap (λ (b : Bool). cond b leg far) (sym (true_or (eqb s
 pub own_third : (leg c s t : ℕ) → (s ≡ c → ⊥) → (t ≡ c → ⊥) → far ≡ cond (eqb s c || eqb t c) leg far
 own_third leg c s t e f = rw (ne_eqb s c e, ne_eqb t c f)
 
-module _ {n : ℕ} {out put : List ℕ} {c w s t : ℕ} {legs : List ℕ} (a : MoveAsked n out put c w s t legs) where
-  out_row : {at : ℕ} → at ≡ (n + 1) * w → RowLent n out at
+module _ {rows : TwoRows} {c w s t : ℕ} {legs : List ℕ} (a : MoveAsked rows c w s t legs) where
+  out_row : {at : ℕ} → at ≡ (rows.n + 1) * w → RowLent rows.n rows.out.now at
   out_row e = rw e (a.asked.lent.out_rows.row w a.asked.point)
 
-  put_row : {at : ℕ} → at ≡ (n + 1) * w → RowLent n put at
+  put_row : {at : ℕ} → at ≡ (rows.n + 1) * w → RowLent rows.n rows.put.now at
   put_row e = rw e (a.asked.lent.put_rows.row w a.asked.point)
 
-  end_row : {at : ℕ} → at ≡ (n + 1) * s → RowLent n put at
+  end_row : {at : ℕ} → at ≡ (rows.n + 1) * s → RowLent rows.n rows.put.now at
   end_row e = rw e (a.asked.lent.put_rows.row s a.asked.first)
 
   pub own_place : w ≤ most_points
   own_place = omega (arith, a.asked.point.high, a.asked.lent.few)
 
-  module _ {at ends : ℕ} (e : at ≡ (n + 1) * w) (f : ends ≡ (n + 1) * s) where
-    pub room_s : at + s < length out
+  module _ {at ends : ℕ} (e : at ≡ (rows.n + 1) * w) (f : ends ≡ (rows.n + 1) * s) where
+    pub room_s : at + s < length rows.out.now
     room_s = omega (arith, (out_row e).room, a.asked.first.high)
 
-    pub room_t : at + t < length out
+    pub room_t : at + t < length rows.out.now
     room_t = omega (arith, (out_row e).room, a.asked.second.high)
 
-    pub room_c : at + c < length put
+    pub room_c : at + c < length rows.put.now
     room_c = omega (arith, (put_row e).room, a.asked.lent.centre.high)
 
-    pub room_st : ends + t < length put
+    pub room_st : ends + t < length rows.put.now
     room_st = omega (arith, (end_row f).room, a.asked.second.high)
 
-    module _ {sw tw cw st : ℕ} (es : sw ≡ get_or out (at + s) 0) (et : tw ≡ get_or out (at + t) 0) (ec : cw ≡ get_or put (at + c) 0) (ei : st ≡ get_or put (ends + t) 0) where
+    module _ {sw tw cw st : ℕ} (es : sw ≡ get_or rows.out.now (at + s) 0) (et : tw ≡ get_or rows.out.now (at + t) 0) (ec : cw ≡ get_or rows.put.now (at + c) 0) (ei : st ≡ get_or rows.put.now (ends + t) 0) where
       pub taken_small : sw + tw ≤ 2 * most_length
       taken_small = omega (arith, es, et, (out_row e).small s a.asked.first, (out_row e).small t a.asked.second)
 
       pub given_small : cw + st ≤ 2 * most_length
       given_small = omega (arith, ec, ei, (put_row e).small c a.asked.lent.centre, (end_row f).small t a.asked.second)
 
-      pub narrow_asks : NarrowAsked n put legs at at (sw + tw) (cw + st) (cw + st)
+      pub narrow_asks : NarrowAsked rows.n rows.put.now legs at at (sw + tw) (cw + st) (cw + st)
       narrow_asks = record {
         few = a.asked.lent.few;
         list = a.asked.lent.list;
@@ -81,7 +82,7 @@ module _ {n : ℕ} {out put : List ℕ} {c w s t : ℕ} {legs : List ℕ} (a : M
         sums = record { first = taken_small; second = given_small; third = given_small };
       }
 
-      module _ {r : List ℕ} (h : Narrowed n put legs at at (sw + tw) (cw + st) (cw + st) r) {own : ℕ} (eo : own ≡ cond (eqb s c || eqb t c) (get_or legs w 0) far) where
+      module _ {r : List ℕ} (h : Narrowed rows.n rows.put.now legs at at (sw + tw) (cw + st) (cw + st) r) {own : ℕ} (eo : own ≡ cond (eqb s c || eqb t c) (get_or legs w 0) far) where
         pub moved_list : LegList (set r w own)
         moved_list = stored_list h.list w own own_place (small (eqb s c || eqb t c) eo)
           where
@@ -89,70 +90,69 @@ module _ {n : ℕ} {out put : List ℕ} {c w s t : ℕ} {legs : List ℕ} (a : M
             small true e = omega (arith, e, a.asked.lent.list.at_most_far w)
             small false e = omega (arith, e)
 
-        module _ (low high : List ℕ) (rl : Rows n low out) (rh : Rows n high put) where
+        module _ (low high : List ℕ) (rl : Rows rows.n low rows.out.now) (rh : Rows rows.n high rows.put.now) where
           -- the comparison is that of `stays?`, at a leg that is a length
-          leg_test : (x : ℕ) → Point n x → (x ≡ w → ⊥)
-              → leb (length_of n low c x + (sw + tw)) (max (cw + st + get_or put (at + x) 0) (cw + st + get_or put (at + x) 0)) ≡ stays? (length_of n low) (length_of n high) w s t c x
+          leg_test : (x : ℕ) → Point rows.n x → (x ≡ w → ⊥)
+              → leb (length_of rows.n low c x + (sw + tw)) (max (cw + st + get_or rows.put.now (at + x) 0) (cw + st + get_or rows.put.now (at + x) 0)) ≡ stays? (length_of rows.n low) (length_of rows.n high) w s t c x
           unfolding stays?
-          leg_test x p nx = go (ltb (length_of n high s t + length_of n high c w + length_of n high x w) (length_of n low c x + length_of n low s w + length_of n low t w)) refl
+          leg_test x p nx = go (ltb (length_of rows.n high s t + length_of rows.n high c w + length_of rows.n high x w) (length_of rows.n low c x + length_of rows.n low s w + length_of rows.n low t w)) refl
             where
-              is_sw : sw ≡ length_of n low w s
-              is_sw = es ∙ ap (λ (i : ℕ). get_or out (i + s) 0) e ∙ (rl.row w a.asked.point).each s a.asked.first
+              is_sw : sw ≡ length_of rows.n low w s
+              is_sw = es ∙ ap (λ (i : ℕ). get_or rows.out.now (i + s) 0) e ∙ (rl.row w a.asked.point).each s a.asked.first
 
-              is_tw : tw ≡ length_of n low w t
-              is_tw = et ∙ ap (λ (i : ℕ). get_or out (i + t) 0) e ∙ (rl.row w a.asked.point).each t a.asked.second
+              is_tw : tw ≡ length_of rows.n low w t
+              is_tw = et ∙ ap (λ (i : ℕ). get_or rows.out.now (i + t) 0) e ∙ (rl.row w a.asked.point).each t a.asked.second
 
-              is_cw : cw ≡ length_of n high w c
-              is_cw = ec ∙ ap (λ (i : ℕ). get_or put (i + c) 0) e ∙ (rh.row w a.asked.point).each c a.asked.lent.centre
+              is_cw : cw ≡ length_of rows.n high w c
+              is_cw = ec ∙ ap (λ (i : ℕ). get_or rows.put.now (i + c) 0) e ∙ (rh.row w a.asked.point).each c a.asked.lent.centre
 
-              is_st : st ≡ length_of n high s t
-              is_st = ei ∙ ap (λ (i : ℕ). get_or put (i + t) 0) f ∙ (rh.row s a.asked.first).each t a.asked.second
+              is_st : st ≡ length_of rows.n high s t
+              is_st = ei ∙ ap (λ (i : ℕ). get_or rows.put.now (i + t) 0) f ∙ (rh.row s a.asked.first).each t a.asked.second
 
-              is_xw : get_or put (at + x) 0 ≡ length_of n high w x
-              is_xw = ap (λ (i : ℕ). get_or put (i + x) 0) e ∙ (rh.row w a.asked.point).each x p
+              is_xw : get_or rows.put.now (at + x) 0 ≡ length_of rows.n high w x
+              is_xw = ap (λ (i : ℕ). get_or rows.put.now (i + x) 0) e ∙ (rh.row w a.asked.point).each x p
 
-              old : length_of n low c x + (sw + tw) ≡ length_of n low c x + length_of n low s w + length_of n low t w
-              old = omega (arith, is_sw, is_tw, length_symmetric n low w s, length_symmetric n low w t)
+              old : length_of rows.n low c x + (sw + tw) ≡ length_of rows.n low c x + length_of rows.n low s w + length_of rows.n low t w
+              old = omega (arith, is_sw, is_tw, length_symmetric rows.n low w s, length_symmetric rows.n low w t)
 
-              new : cw + st + get_or put (at + x) 0 ≡ length_of n high s t + length_of n high c w + length_of n high x w
-              new = omega (arith, is_cw, is_st, is_xw, length_symmetric n high w c, length_symmetric n high w x)
+              new : cw + st + get_or rows.put.now (at + x) 0 ≡ length_of rows.n high s t + length_of rows.n high c w + length_of rows.n high x w
+              new = omega (arith, is_cw, is_st, is_xw, length_symmetric rows.n high w c, length_symmetric rows.n high w x)
 
-              go : (b : Bool) → ltb (length_of n high s t + length_of n high c w + length_of n high x w) (length_of n low c x + length_of n low s w + length_of n low t w) ≡ b
-                  → leb (length_of n low c x + (sw + tw)) (max (cw + st + get_or put (at + x) 0) (cw + st + get_or put (at + x) 0))
-                  ≡ eqb c w || (eqb x w || not (ltb (length_of n high s t + length_of n high c w + length_of n high x w) (length_of n low c x + length_of n low s w + length_of n low t w)))
-              go true i = lt-leb (length_of n low c x + (sw + tw)) (max (cw + st + get_or put (at + x) 0) (cw + st + get_or put (at + x) 0)) (omega (arith, old, new, ltb-true (length_of n high s t + length_of n high c w + length_of n high x w) (length_of n low c x + length_of n low s w + length_of n low t w) i))
+              go : (b : Bool) → ltb (length_of rows.n high s t + length_of rows.n high c w + length_of rows.n high x w) (length_of rows.n low c x + length_of rows.n low s w + length_of rows.n low t w) ≡ b
+                  → leb (length_of rows.n low c x + (sw + tw)) (max (cw + st + get_or rows.put.now (at + x) 0) (cw + st + get_or rows.put.now (at + x) 0))
+                  ≡ eqb c w || (eqb x w || not (ltb (length_of rows.n high s t + length_of rows.n high c w + length_of rows.n high x w) (length_of rows.n low c x + length_of rows.n low s w + length_of rows.n low t w)))
+              go true i = lt-leb (length_of rows.n low c x + (sw + tw)) (max (cw + st + get_or rows.put.now (at + x) 0) (cw + st + get_or rows.put.now (at + x) 0)) (omega (arith, old, new, ltb-true (length_of rows.n high s t + length_of rows.n high c w + length_of rows.n high x w) (length_of rows.n low c x + length_of rows.n low s w + length_of rows.n low t w) i))
                   ∙ rw (ne_eqb c w (λ q. a.apart (sym q)), ne_eqb x w nx, i)
-              go false i = le-leb (length_of n low c x + (sw + tw)) (max (cw + st + get_or put (at + x) 0) (cw + st + get_or put (at + x) 0)) (omega (arith, old, new, ltb-false (length_of n high s t + length_of n high c w + length_of n high x w) (length_of n low c x + length_of n low s w + length_of n low t w) i))
+              go false i = le-leb (length_of rows.n low c x + (sw + tw)) (max (cw + st + get_or rows.put.now (at + x) 0) (cw + st + get_or rows.put.now (at + x) 0)) (omega (arith, old, new, ltb-false (length_of rows.n high s t + length_of rows.n high c w + length_of rows.n high x w) (length_of rows.n low c x + length_of rows.n low s w + length_of rows.n low t w) i))
                   ∙ rw (ne_eqb c w (λ q. a.apart (sym q)), ne_eqb x w nx, i)
 
-          leg_moved : (x : ℕ) → Point n x → (x ≡ w → ⊥) → (g : Bool)
-              → narrowed_by (cond g (length_of n low c x) far) (cond g (length_of n low c x) far + (sw + tw)) (cw + st + get_or put (at + x) 0) (cw + st + get_or put (at + x) 0)
-              ≡ cond (stays? (length_of n low) (length_of n high) w s t c x && g) (length_of n low c x) far
-          unfolding narrowed_by
-          leg_moved x p nx true = ap (λ (b : Bool). cond b (length_of n low c x) far) (leg_test x p nx ∙ sym (and_yes (stays? (length_of n low) (length_of n high) w s t c x)))
+          leg_moved : (x : ℕ) → Point rows.n x → (x ≡ w → ⊥) → (g : Bool)
+              → narrowed_by (cond g (length_of rows.n low c x) far) (cond g (length_of rows.n low c x) far + (sw + tw)) (cw + st + get_or rows.put.now (at + x) 0) (cw + st + get_or rows.put.now (at + x) 0)
+              ≡ cond (stays? (length_of rows.n low) (length_of rows.n high) w s t c x && g) (length_of rows.n low c x) far
+          leg_moved x p nx true = ap (λ (b : Bool). cond b (length_of rows.n low c x) far) (leg_test x p nx ∙ sym (and_yes (stays? (length_of rows.n low) (length_of rows.n high) w s t c x)))
           leg_moved x p nx false =
-              cond_same (leb (far + (sw + tw)) (max (cw + st + get_or put (at + x) 0) (cw + st + get_or put (at + x) 0))) far
-              ∙ no_and (stays? (length_of n low) (length_of n high) w s t c x)
+              cond_same (leb (far + (sw + tw)) (max (cw + st + get_or rows.put.now (at + x) 0) (cw + st + get_or rows.put.now (at + x) 0))) far
+              ∙ no_and (stays? (length_of rows.n low) (length_of rows.n high) w s t c x)
             where
-              no_and : (b : Bool) → far ≡ cond (b && false) (length_of n low c x) far
+              no_and : (b : Bool) → far ≡ cond (b && false) (length_of rows.n low c x) far
               no_and true = refl
               no_and false = refl
 
           -- at the point itself, and at another
-          own_joint : joint? (length_of n low) (length_of n high) c w w s t ≡ eqb s c || eqb t c
+          own_joint : joint? (length_of rows.n low) (length_of rows.n high) c w w s t ≡ eqb s c || eqb t c
           unfolding joint? stays?
           own_joint = rw (ne_eqb c w (λ q. a.apart (sym q)), eq-eqb w w refl)
 
-          other_joint : (x : ℕ) → (x ≡ w → ⊥) → joint? (length_of n low) (length_of n high) c x w s t ≡ stays? (length_of n low) (length_of n high) w s t c x
+          other_joint : (x : ℕ) → (x ≡ w → ⊥) → joint? (length_of rows.n low) (length_of rows.n high) c x w s t ≡ stays? (length_of rows.n low) (length_of rows.n high) w s t c x
           unfolding joint?
-          other_joint x nx = ap (λ (b : Bool). stays? (length_of n low) (length_of n high) w s t c x && (not b || (eqb s c || eqb t c))) (ne_eqb x w nx) ∙ and_yes (stays? (length_of n low) (length_of n high) w s t c x)
+          other_joint x nx = ap (λ (b : Bool). stays? (length_of rows.n low) (length_of rows.n high) w s t c x && (not b || (eqb s c || eqb t c))) (ne_eqb x w nx) ∙ and_yes (stays? (length_of rows.n low) (length_of rows.n high) w s t c x)
 
-          own_moved : (b d : Bool) → cond b (cond d (length_of n low c w) far) far ≡ cond (b && d) (length_of n low c w) far
+          own_moved : (b d : Bool) → cond b (cond d (length_of rows.n low c w) far) far ≡ cond (b && d) (length_of rows.n low c w) far
           own_moved true d = refl
           own_moved false d = refl
 
-          moved_each : (g : ℕ → Bool) → LegsBy n (length_of n low) c g legs
-              → LegsBy n (length_of n low) c (λ (x : ℕ). joint? (length_of n low) (length_of n high) c x w s t && g x) (set r w own)
+          moved_each : (g : ℕ → Bool) → LegsBy rows.n (length_of rows.n low) c g legs
+              → LegsBy rows.n (length_of rows.n low) c (λ (x : ℕ). joint? (length_of rows.n low) (length_of rows.n high) c x w s t && g x) (set r w own)
           moved_each g i x p = elim (ℕ_discrete x w) [
             | yes q ↦
                 ap (λ (j : ℕ). get_or (set r w own) j 0) q
@@ -160,90 +160,90 @@ module _ {n : ℕ} {out put : List ℕ} {c w s t : ℕ} {legs : List ℕ} (a : M
                 ∙ eo
                 ∙ ap (λ (j : ℕ). cond (eqb s c || eqb t c) j far) (i w a.asked.point)
                 ∙ own_moved (eqb s c || eqb t c) (g w)
-                ∙ sym (ap (λ (j : ℕ). cond (joint? (length_of n low) (length_of n high) c j w s t && g j) (length_of n low c j) far) q ∙ ap (λ (b : Bool). cond (b && g w) (length_of n low c w) far) own_joint)
+                ∙ sym (ap (λ (j : ℕ). cond (joint? (length_of rows.n low) (length_of rows.n high) c j w s t && g j) (length_of rows.n low c j) far) q ∙ ap (λ (b : Bool). cond (b && g w) (length_of rows.n low c w) far) own_joint)
             | no nx ↦
                 get_or-set_other r w x own 0 nx
                 ∙ h.each x p
-                ∙ ap (λ (j : ℕ). narrowed_by j (j + (sw + tw)) (cw + st + get_or put (at + x) 0) (cw + st + get_or put (at + x) 0)) (i x p)
+                ∙ ap (λ (j : ℕ). narrowed_by j (j + (sw + tw)) (cw + st + get_or rows.put.now (at + x) 0) (cw + st + get_or rows.put.now (at + x) 0)) (i x p)
                 ∙ leg_moved x p nx (g x)
-                ∙ sym (ap (λ (b : Bool). cond (b && g x) (length_of n low c x) far) (other_joint x nx))
+                ∙ sym (ap (λ (b : Bool). cond (b && g x) (length_of rows.n low c x) far) (other_joint x nx))
           ]
 
-        pub moved_told : Moved n out put c w s t legs (set r w own)
+        pub moved_told : Moved rows c w s t legs (set r w own)
         moved_told = record { list = moved_list; each = moved_each }
 
 -- one test after the other
-pub further_then : {n : ℕ} {out put : List ℕ} {c : ℕ} {legs mid left : List ℕ} (one two both : (l m : ℕ → ℕ → ℕ) → ℕ → Bool)
-    → ((l m : ℕ → ℕ → ℕ) (x : ℕ) → two l m x && one l m x ≡ both l m x) → Further n out put c one legs mid → Further n out put c two mid left → Further n out put c both legs left
-further_then {n} {out} {put} {c} one two both e f g = record {
+pub further_then : {rows : TwoRows} {c : ℕ} {legs mid left : List ℕ} (one two both : (l m : ℕ → ℕ → ℕ) → ℕ → Bool)
+    → ((l m : ℕ → ℕ → ℕ) (x : ℕ) → two l m x && one l m x ≡ both l m x) → Further rows c one legs mid → Further rows c two mid left → Further rows c both legs left
+further_then {rows} {c} one two both e f g = record {
   list = g.list;
   each = λ low high rl rh test i x p.
-      g.each low high rl rh (λ (z : ℕ). one (length_of n low) (length_of n high) z && test z) (f.each low high rl rh test i) x p
-      ∙ ap (λ (b : Bool). cond b (length_of n low c x) far) (and_assoc (two (length_of n low) (length_of n high) x) (one (length_of n low) (length_of n high) x) (test x) ∙ ap (λ (b : Bool). b && test x) (e (length_of n low) (length_of n high) x));
+      g.each low high rl rh (λ (z : ℕ). one (length_of rows.n low) (length_of rows.n high) z && test z) (f.each low high rl rh test i) x p
+      ∙ ap (λ (b : Bool). cond b (length_of rows.n low c x) far) (and_assoc (two (length_of rows.n low) (length_of rows.n high) x) (one (length_of rows.n low) (length_of rows.n high) x) (test x) ∙ ap (λ (b : Bool). b && test x) (e (length_of rows.n low) (length_of rows.n high) x));
 }
 
 -- a test that passes at every point
-pub further_kept : {n : ℕ} {out put : List ℕ} {c : ℕ} {legs : List ℕ} (test : (l m : ℕ → ℕ → ℕ) → ℕ → Bool) → LegList legs → ((l m : ℕ → ℕ → ℕ) (x : ℕ) → test l m x ≡ true)
-    → Further n out put c test legs legs
-further_kept {n} {out} {put} {c} test list h = record {
+pub further_kept : {rows : TwoRows} {c : ℕ} {legs : List ℕ} (test : (l m : ℕ → ℕ → ℕ) → ℕ → Bool) → LegList legs → ((l m : ℕ → ℕ → ℕ) (x : ℕ) → test l m x ≡ true)
+    → Further rows c test legs legs
+further_kept {rows} {c} test list h = record {
   list = list;
-  each = λ low high rl rh g i x p. i x p ∙ ap (λ (b : Bool). cond (b && g x) (length_of n low c x) far) (sym (h (length_of n low) (length_of n high) x));
+  each = λ low high rl rh g i x p. i x p ∙ ap (λ (b : Bool). cond (b && g x) (length_of rows.n low c x) far) (sym (h (length_of rows.n low) (length_of rows.n high) x));
 }
 
 -- the ways out of `meet`: each leaves the legs as they are but the last
-module _ {n : ℕ} {out put : List ℕ} {c w s t : ℕ} {legs : List ℕ} (z : ℕ) (a : MeetAsked n out put c w s t legs) where
-  kept : ((l m : ℕ → ℕ → ℕ) (x : ℕ) → meeting? l m c x w z s t ≡ true) → Met n out put c w z s t legs legs
+module _ {rows : TwoRows} {c w s t : ℕ} {legs : List ℕ} (z : ℕ) (a : MeetAsked rows c w s t legs) where
+  kept : ((l m : ℕ → ℕ → ℕ) (x : ℕ) → meeting? l m c x w z s t ≡ true) → Met rows c w z s t legs legs
   kept h = further_kept (λ (l m : ℕ → ℕ → ℕ) (x : ℕ). meeting? l m c x w z s t) a.lent.list h
 
-  pub met_apart : (w ≡ z → ⊥) → Met n out put c w z s t legs legs
+  pub met_apart : (w ≡ z → ⊥) → Met rows c w z s t legs legs
   unfolding meeting?
   met_apart e = kept (λ l m x. rw (ne_eqb w z e))
 
-  pub met_same : s ≡ t → Met n out put c w z s t legs legs
+  pub met_same : s ≡ t → Met rows c w z s t legs legs
   unfolding meeting?
   met_same e = kept (λ l m x. true_or (not (eqb w z)) _ (inr (rw (eq-eqb s t e))))
 
-  pub met_centre : w ≡ c → Met n out put c w z s t legs legs
+  pub met_centre : w ≡ c → Met rows c w z s t legs legs
   unfolding meeting?
   met_centre e = kept (λ l m x. true_or (not (eqb w z)) _ (inr (true_or (eqb s t) _ (inr (rw (eq-eqb w c e))))))
 
-  pub move_asks : (w ≡ c → ⊥) → MoveAsked n out put c w s t legs
+  pub move_asks : (w ≡ c → ⊥) → MoveAsked rows c w s t legs
   move_asks nc = record { asked = a; apart = nc }
 
   module _ (wz : w ≡ z) (st : s ≡ t → ⊥) (nc : w ≡ c → ⊥) where
-    pub met_moved : {left : List ℕ} → Moved n out put c w s t legs left → Met n out put c w z s t legs left
+    pub met_moved : {left : List ℕ} → Moved rows c w s t legs left → Met rows c w z s t legs left
     unfolding meeting?
     met_moved h = record {
       list = h.list;
       each = λ low high rl rh g i x p.
           h.each low high rl rh g i x p
-          ∙ ap (λ (b : Bool). cond (b && g x) (length_of n low c x) far) (shown (joint? (length_of n low) (length_of n high) c x w s t));
+          ∙ ap (λ (b : Bool). cond (b && g x) (length_of rows.n low c x) far) (shown (joint? (length_of rows.n low) (length_of rows.n high) c x w s t));
     }
       where
         shown : (b : Bool) → b ≡ not (eqb w z) || (eqb s t || (eqb w c || b))
         shown b = rw (eq-eqb w z wz, ne_eqb s t st, ne_eqb w c nc)
 
 -- two edges, at their ends one after the other
-module _ {n : ℕ} {out put : List ℕ} {c p q u v : ℕ} {legs : List ℕ} (a : TwoAsked n out put c p q u v legs) where
-  lent_with : {now : List ℕ} → LegList now → LegsLent n out put c now
+module _ {rows : TwoRows} {c p q u v : ℕ} {legs : List ℕ} (a : TwoAsked rows c p q u v legs) where
+  lent_with : {now : List ℕ} → LegList now → LegsLent rows c now
   lent_with l = let b = a.lent in record { few = b.few; centre = b.centre; out_rows = b.out_rows; put_rows = b.put_rows; list = l }
 
-  pub meets_pu : MeetAsked n out put c p q v legs
+  pub meets_pu : MeetAsked rows c p q v legs
   meets_pu = record { lent = a.lent; point = a.point_p; first = a.point_q; second = a.point_v }
 
-  module _ {one : List ℕ} (f : Met n out put c p u q v legs one) where
-    pub meets_pv : MeetAsked n out put c p q u one
+  module _ {one : List ℕ} (f : Met rows c p u q v legs one) where
+    pub meets_pv : MeetAsked rows c p q u one
     meets_pv = record { lent = lent_with f.list; point = a.point_p; first = a.point_q; second = a.point_u }
 
-    module _ {two : List ℕ} (g : Met n out put c p v q u one two) where
-      pub meets_qu : MeetAsked n out put c q p v two
+    module _ {two : List ℕ} (g : Met rows c p v q u one two) where
+      pub meets_qu : MeetAsked rows c q p v two
       meets_qu = record { lent = lent_with g.list; point = a.point_q; first = a.point_p; second = a.point_v }
 
-      module _ {three : List ℕ} (h : Met n out put c q u p v two three) where
-        pub meets_qv : MeetAsked n out put c q p u three
+      module _ {three : List ℕ} (h : Met rows c q u p v two three) where
+        pub meets_qv : MeetAsked rows c q p u three
         meets_qv = record { lent = lent_with h.list; point = a.point_q; first = a.point_p; second = a.point_u }
 
-        pub two_told : {left : List ℕ} → Met n out put c q v p u three left → TwoTold n out put c p q u v legs left
+        pub two_told : {left : List ℕ} → Met rows c q v p u three left → TwoTold rows c p q u v legs left
         unfolding apart?
         two_told i =
             further_then
@@ -283,15 +283,15 @@ module _ {n : ℕ} {out put : List ℕ} {c p q u v : ℕ} {legs : List ℕ} (a :
                 none false d b = refl
 
 -- edge i with the edges before it
-pub record Pairing (n : ℕ) (out put from to : List ℕ) (c i : ℕ) (legs₀ legs : List ℕ) (j : ℕ) : Type 0 where
-  pub lent : LegsLent n out put c legs₀
+pub record Pairing (rows : TwoRows) (from to : List ℕ) (c i : ℕ) (legs₀ legs : List ℕ) (j : ℕ) : Type 0 where
+  pub lent : LegsLent rows c legs₀
   pub room : i < most_known
-  pub from_point : (e : ℕ) → e ≤ i → Point n (get_or from e 0)
-  pub to_point : (e : ℕ) → e ≤ i → Point n (get_or to e 0)
+  pub from_point : (e : ℕ) → e ≤ i → Point rows.n (get_or from e 0)
+  pub to_point : (e : ℕ) → e ≤ i → Point rows.n (get_or to e 0)
   pub within : j ≤ i
-  pub told : Further n out put c (λ (l m : ℕ → ℕ → ℕ) (x : ℕ). every (apart? l m c x (get_or from i 0) (get_or to i 0)) (edges_of from to j)) legs₀ legs
+  pub told : Further rows c (λ (l m : ℕ → ℕ → ℕ) (x : ℕ). every (apart? l m c x (get_or from i 0) (get_or to i 0)) (edges_of from to j)) legs₀ legs
 
-pub pairing_start : {n : ℕ} {out put : List ℕ} {k : EdgeSet} {c i : ℕ} {legs : List ℕ} → WithAsked n out put k c i legs → Pairing n out put k.from k.to c i legs legs 0
+pub pairing_start : {rows : TwoRows} {k : EdgeSet} {c i : ℕ} {legs : List ℕ} → WithAsked rows k c i legs → Pairing rows k.from k.to c i legs legs 0
 unfolding every edges_of
 pairing_start a = record {
   lent = a.all.lent;
@@ -302,12 +302,12 @@ pairing_start a = record {
   told = further_kept (λ (l m : ℕ → ℕ → ℕ) (x : ℕ). true) a.all.lent.list (λ l m x. refl);
 }
 
-module _ {n : ℕ} {out put from to : List ℕ} {c i : ℕ} {legs₀ legs : List ℕ} {j : ℕ} (s : Pairing n out put from to c i legs₀ legs j) where
-  pub pairing_end : i ≤ j → Further n out put c (λ (l m : ℕ → ℕ → ℕ) (x : ℕ). every (apart? l m c x (get_or from i 0) (get_or to i 0)) (edges_of from to i)) legs₀ legs
+module _ {rows : TwoRows} {from to : List ℕ} {c i : ℕ} {legs₀ legs : List ℕ} {j : ℕ} (s : Pairing rows from to c i legs₀ legs j) where
+  pub pairing_end : i ≤ j → Further rows c (λ (l m : ℕ → ℕ → ℕ) (x : ℕ). every (apart? l m c x (get_or from i 0) (get_or to i 0)) (edges_of from to i)) legs₀ legs
   pairing_end h = let e : j ≡ i = omega (arith, s.within) in rw e at s.told
 
   module _ (h : j < i) where
-    pub pairing_asks : TwoAsked n out put c (get_or from i 0) (get_or to i 0) (get_or from j 0) (get_or to j 0) legs
+    pub pairing_asks : TwoAsked rows c (get_or from i 0) (get_or to i 0) (get_or from j 0) (get_or to j 0) legs
     pairing_asks =
         let a = s.lent in
         record {
@@ -318,7 +318,7 @@ module _ {n : ℕ} {out put from to : List ℕ} {c i : ℕ} {legs₀ legs : List
           point_v = s.to_point j (omega arith);
         }
 
-    pub pairing_on : {left : List ℕ} → TwoTold n out put c (get_or from i 0) (get_or to i 0) (get_or from j 0) (get_or to j 0) legs left → Pairing n out put from to c i legs₀ left (j + 1)
+    pub pairing_on : {left : List ℕ} → TwoTold rows c (get_or from i 0) (get_or to i 0) (get_or from j 0) (get_or to j 0) legs left → Pairing rows from to c i legs₀ left (j + 1)
     unfolding every edges_of
     pairing_on {left} t = record {
       lent = s.lent;
@@ -336,30 +336,26 @@ module _ {n : ℕ} {out put from to : List ℕ} {c i : ℕ} {legs₀ legs : List
     }
 
 -- the edges of K one after the other
-pub record TakingIn (n : ℕ) (out put : List ℕ) (k : EdgeSet) (c : ℕ) (legs₀ legs : List ℕ) (i : ℕ) : Type 0 where
-  pub asked : PointsAsked n out put k c legs₀
+pub record TakingIn (rows : TwoRows) (k : EdgeSet) (c : ℕ) (legs₀ legs : List ℕ) (i : ℕ) : Type 0 where
+  pub asked : PointsAsked rows k c legs₀
   pub within : i ≤ k.count
-  pub told : Further n out put c (λ (l m : ℕ → ℕ → ℕ) (x : ℕ). degree_two_stays? l m (edges_of k.from k.to i) c x) legs₀ legs
+  pub told : Further rows c (λ (l m : ℕ → ℕ → ℕ) (x : ℕ). degree_two_stays? l m (edges_of k.from k.to i) c x) legs₀ legs
 
-pub taking_start : {n : ℕ} {out put : List ℕ} {k : EdgeSet} {c : ℕ} {legs : List ℕ} → PointsAsked n out put k c legs → TakingIn n out put k c legs legs 0
+pub taking_start : {rows : TwoRows} {k : EdgeSet} {c : ℕ} {legs : List ℕ} → PointsAsked rows k c legs → TakingIn rows k c legs legs 0
 unfolding degree_two_stays? edges_of
 taking_start a = record { asked = a; within = omega arith; told = further_kept (λ (l m : ℕ → ℕ → ℕ) (x : ℕ). true) a.lent.list (λ l m x. refl) }
 
-module _ {n : ℕ} {out put : List ℕ} {k : EdgeSet} {c : ℕ} {legs₀ legs : List ℕ} {i : ℕ} (s : TakingIn n out put k c legs₀ legs i) where
-  pub taking_end : k.count ≤ i → PointsTold n out put k c legs₀ legs
+module _ {rows : TwoRows} {k : EdgeSet} {c : ℕ} {legs₀ legs : List ℕ} {i : ℕ} (s : TakingIn rows k c legs₀ legs i) where
+  pub taking_end : k.count ≤ i → PointsTold rows k c legs₀ legs
   unfolding edge_list
   taking_end h = let e : i ≡ k.count = omega (arith, s.within) in rw e at s.told
 
   module _ (h : i < k.count) where
-    -- the edges before edge i
-    pub taking_stored : Stored (record { from = k.from; to = k.to; count = i })
-    taking_stored = let a = s.asked.held.stored in record { from_size = a.from_size; to_size = a.to_size; few = omega (arith, a.few) }
-
     -- edge i is one of them
-    pub taking_again : {r : Bool} {now : List ℕ} → r ≡ has? (edge_list (record { from = k.from; to = k.to; count = i })) (get_or k.from i 0) (get_or k.to i 0) → r ≡ true → now ≡ legs
-        → TakingIn n out put k c legs₀ now (i + 1)
+    pub taking_again : {r : Bool} {now : List ℕ} → r ≡ has? (edges_of k.from k.to i) (get_or k.from i 0) (get_or k.to i 0) → r ≡ true → now ≡ legs
+        → TakingIn rows k c legs₀ now (i + 1)
     unfolding degree_two_stays? edges_of edge_list
-    taking_again {r} {now} is met same-legs = subst (λ (l : List ℕ). TakingIn n out put k c legs₀ l (i + 1)) (sym same-legs) (
+    taking_again {r} {now} is met same-legs = subst (λ (l : List ℕ). TakingIn rows k c legs₀ l (i + 1)) (sym same-legs) (
         let es = edges_of k.from k.to i in
         let p = get_or k.from i 0 in
         let q = get_or k.to i 0 in
@@ -370,10 +366,10 @@ module _ {n : ℕ} {out put : List ℕ} {k : EdgeSet} {c : ℕ} {legs₀ legs : 
             list = s.told.list;
             each = λ low high rl rh g j x r.
                 s.told.each low high rl rh g j x r
-                ∙ ap (λ (b : Bool). cond (b && g x) (length_of n low c x) far)
-                (same (every (apart? (length_of n low) (length_of n high) c x p q) es) (degree_two_stays? (length_of n low) (length_of n high) es c x)
-                (λ t. degree_two_again (length_of n low) (length_of n high) (length_symmetric n low) (length_symmetric n high) c x es t p q ((has_exact es p q).0 (sym is ∙ met)))
-                ∙ ap (λ (m : ℕ). degree_two_stays? (length_of n low) (length_of n high) (edges_of k.from k.to m) c x) (sym (add-one i)));
+                ∙ ap (λ (b : Bool). cond (b && g x) (length_of rows.n low c x) far)
+                (same (every (apart? (length_of rows.n low) (length_of rows.n high) c x p q) es) (degree_two_stays? (length_of rows.n low) (length_of rows.n high) es c x)
+                (λ t. degree_two_again (length_of rows.n low) (length_of rows.n high) (length_symmetric rows.n low) (length_symmetric rows.n high) c x es t p q ((has_exact es p q).0 (sym is ∙ met)))
+                ∙ ap (λ (m : ℕ). degree_two_stays? (length_of rows.n low) (length_of rows.n high) (edges_of k.from k.to m) c x) (sym (add-one i)));
           };
         })
       where
@@ -381,14 +377,14 @@ module _ {n : ℕ} {out put : List ℕ} {k : EdgeSet} {c : ℕ} {legs₀ legs : 
         same a true h = sym (ap (λ (d : Bool). d && true) (h refl))
         same a false h = sym (and_no a)
 
-    pub taking_asks : WithAsked n out put k c i legs
+    pub taking_asks : WithAsked rows k c i legs
     taking_asks =
         let a = s.asked.lent in
         record { all = record { lent = record { few = a.few; centre = a.centre; out_rows = a.out_rows; put_rows = a.put_rows; list = s.told.list }; held = s.asked.held }; stored = h }
 
-    pub taking_on : {left now : List ℕ} → WithTold n out put k c i legs left → now ≡ left → TakingIn n out put k c legs₀ now (i + 1)
+    pub taking_on : {left now : List ℕ} → WithTold rows k c i legs left → now ≡ left → TakingIn rows k c legs₀ now (i + 1)
     unfolding degree_two_stays? edges_of
-    taking_on {left} t e = subst (λ (l : List ℕ). TakingIn n out put k c legs₀ l (i + 1)) (sym e) (record {
+    taking_on {left} t e = subst (λ (l : List ℕ). TakingIn rows k c legs₀ l (i + 1)) (sym e) (record {
       asked = s.asked;
       within = omega arith;
       told =

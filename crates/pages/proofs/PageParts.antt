@@ -1,29 +1,33 @@
 -- Pages: the ways out of test 26, the edges of a page, and the walk to the edge at a place. Assumes nothing.
 use Prim.Native.Nat.{ℕ, ◌+◌, ◌-◌, ◌*◌, ◌/◌, ◌≤◌, ◌<◌, min}
-use mathlib.Core.Path.{◌≡◌, refl, sym, ◌∙◌, ap, ap₂}
-use mathlib.Core.Bool.{Bool, true, false, cond}
+use mathlib.Core.Path.{◌≡◌, refl, sym, ◌∙◌, ap}
+use mathlib.Core.Bool.{Bool, true, false}
 use native.Mathlib.Omega.{arith}
 use lib.Dec.{leb}
 use lib.ListN.{get_or}
 use borrow.Author.Tests.{le-leb, lt-leb, leb-true}
+use Rattle.std.specs.Prelude.{Ok, Err}
+use Rattle.lists.specs.Test.{unless}
 use Rattle.lists.proofs.Bools.{and_left, and_right, and_both, and_no}
 use Rattle.lengths.specs.Edge.{edge, edges, edge_count}
 use Rattle.lengths.specs.Instance.{most_points, least_points}
 use Rattle.lengths.specs.asks.Edge.{Cursor, Follows, IsEdgeUp}
 use Rattle.lengths.proofs.Edges.{cursor_start, edges_at, place_onto}
-use Rattle.pages.specs.Page.{most_lines, page_count, is_page, first_place, page_lines, page_of, edge_at}
+use Rattle.pages.specs.Page.{most_lines, page_count, is_page, first_place, page_lines, lines_at, page_of, edge_at}
 use Rattle.pages.specs.asks.PageLine.{ShortPoints}
 use Rattle.pages.specs.asks.Page.{PlaceAsked, PartAsked}
-use Rattle.pages.specs.declared.page.Page.TheVariants.{Lines, OutOfRange}
+use Rattle.lengths.specs.declared.refusal.Refusal.{Refusal}
+use Rattle.lengths.specs.declared.refusal.Refusal.TheVariants as why
+use Rattle.pages.specs.declared.page.PageLines.{PageLines}
 
 -- the ways out of `page_of`
 module _ (n p : ℕ) where
-  pub page_zero : p < 1 → OutOfRange ≡ page_of n p
+  pub page_zero : p < 1 → Err why.Page ≡ page_of n p
   unfolding page_of is_page
   page_zero h = rw (page_of, is_page, lt-leb 1 p h)
 
   module _ {count : ℕ} (is : count ≡ edge_count n) (h : 1 ≤ p) where
-    pub page_past : count ≤ most_lines * (p - 1) → OutOfRange ≡ page_of n p
+    pub page_past : count ≤ most_lines * (p - 1) → Err why.Page ≡ page_of n p
     unfolding page_of is_page page_count
     page_past g = rw (page_of, is_page, lt-leb p ((edge_count n + 59) / 60) (omega arith), and_no) refl
 
@@ -31,17 +35,10 @@ module _ (n p : ℕ) where
     unfolding is_page page_count
     page_there g = and_both (leb 1 p) (leb p (page_count n)) (le-leb 1 p h) (le-leb p (page_count n) (omega arith))
 
-    lines_there : {first lines : ℕ} → most_lines * (p - 1) < count → first ≡ most_lines * (p - 1) → lines ≡ min most_lines (count - first) → Lines first lines ≡ page_of n p
+    pub lines_there : {lines : ℕ} → most_lines * (p - 1) < count → lines ≡ min most_lines (count - most_lines * (p - 1))
+        → Ok (lines_at (most_lines * (p - 1)) lines) ≡ page_of n p
     unfolding page_of first_place page_lines
-    lines_there {first} {lines} g e l =
-        ap₂ Lines e (omega (arith, is, e, l))
-        ∙ sym (ap (λ (t : Bool). cond t (Lines (first_place p) (page_lines n p)) OutOfRange) (page_there g))
-
-    pub page_last : {first : ℕ} → first ≡ most_lines * (p - 1) → (count ≤ first → ⊥) → count - first < most_lines → Lines first (count - first) ≡ page_of n p
-    page_last {first} e g l = lines_there (omega (arith, e, g)) e (omega arith)
-
-    pub page_full : {first : ℕ} → first ≡ most_lines * (p - 1) → (count ≤ first → ⊥) → most_lines ≤ count - first → Lines first most_lines ≡ page_of n p
-    page_full {first} e g l = lines_there (omega (arith, e, g)) e (omega arith)
+    lines_there {lines} g l = rw (page_of, page_there g, l, is)
 
 -- a page that is there
 pub record Paged (n p first lines : ℕ) : Type 0 where
@@ -49,21 +46,25 @@ pub record Paged (n p first lines : ℕ) : Type 0 where
   pub first_is : first ≡ first_place p
   pub lines_are : lines ≡ page_lines n p
 
-pub paged : {n p first lines : ℕ} → page_of n p ≡ Lines first lines → Paged n p first lines
+pub paged : {n p : ℕ} {l : PageLines} → page_of n p ≡ Ok l → Paged n p l.first l.lines
 unfolding page_of
-paged {n} {p} {first} {lines} h = by (is_page n p) refl h
+paged {n} {p} {l} h = by (is_page n p) refl h
   where
-    by : (t : Bool) → is_page n p ≡ t → cond t (Lines (first_place p) (page_lines n p)) OutOfRange ≡ Lines first lines → Paged n p first lines
-    by true e g = record { page = e; first_is = cc; lines_are = cc }
-    by false e g = absurd (let z : ◌≡◌ {A = ℕ} 0 1 = cc in omega arith)
+    by : (t : Bool) → is_page n p ≡ t → unless t (Err why.Page) (Ok (lines_at (first_place p) (page_lines n p))) ≡ Ok l → Paged n p l.first l.lines
+    by true e g =
+        let s : lines_at (first_place p) (page_lines n p) ≡ l = cc in
+        record { page = e; first_is = ap (λ (k : PageLines). k.first) (sym s); lines_are = ap (λ (k : PageLines). k.lines) (sym s) }
+    by false e g = absurd cc
 
-pub not_paged : (n p : ℕ) → page_of n p ≡ OutOfRange → is_page n p ≡ false
+-- and where it is refused there is none
+pub not_paged : (n p : ℕ) {r : Refusal} → page_of n p ≡ Err r → (is_page n p ≡ false) × (r ≡ why.Page)
 unfolding page_of
-not_paged n p h = by (is_page n p) refl h
+not_paged n p {r} h = by (is_page n p) refl h
   where
-    by : (t : Bool) → is_page n p ≡ t → cond t (Lines (first_place p) (page_lines n p)) OutOfRange ≡ OutOfRange → is_page n p ≡ false
-    by true e g = absurd (let z : ◌≡◌ {A = ℕ} 0 1 = cc in omega arith)
-    by false e g = e
+    by : (t : Bool) → is_page n p ≡ t → unless t (Err why.Page) (Ok (lines_at (first_place p) (page_lines n p))) ≡ Err r
+        → (is_page n p ≡ false) × (r ≡ why.Page)
+    by true e g = absurd cc
+    by false e g = (e, cc)
 
 -- its edges are those of n points
 pub page_part : {n : ℕ} (p : ℕ) → least_points ≤ n → n ≤ most_points → is_page n p ≡ true → PartAsked n (first_place p) (page_lines n p)

@@ -17,15 +17,16 @@ use Rattle.marks.specs.Mark.{are_marks}
 use Rattle.marks.specs.Packed.{packed_bytes, packed, well_packed, marks_of}
 use Rattle.marks.proofs.PackedMarks.{held_packed}
 use Rattle.marks.proofs.PackedSets.{some_edges, marks_are, whole_well, well-packed}
-use Rattle.admission.specs.declared.tested.Tested.TheVariants as tests
+use Rattle.std.specs.Prelude.{Ok, Err}
+use Rattle.lengths.specs.declared.refusal.Refusal.{Refusal}
+use Rattle.lengths.specs.declared.refusal.Refusal.TheVariants as why
 use Rattle.pages.specs.PageLine.{line_bytes}
 use Rattle.pages.specs.Page.{first_place, page_lines, page_of}
-use Rattle.pages.specs.Reading.{lengths_read, marks_read, right_line, wrong_line, is_page_text, read_answer, overlay, ReadAs}
+use Rattle.pages.specs.Reading.{lengths_read, marks_read, right_line, wrong_line, is_page_text, read_answer, overlay, is_read, not_read, ReadAs}
 use Rattle.admission.specs.Tests.{places_tested}
 use Rattle.pages.specs.asks.Page.{PartAsked}
 use Rattle.pages.specs.asks.Reading.{StoreAsked, MarksStored}
-use Rattle.pages.specs.declared.page.Page.TheVariants.{OutOfRange}
-use Rattle.pages.specs.declared.reading.PageRead.TheVariants.{Done, Refused}
+use Rattle.pages.specs.declared.reading.PageRefused.{PageRefused}
 use Rattle.pages.proofs.Overlays.{overlay-length}
 use Rattle.pages.proofs.PageParts.{Paged, not_paged, paged_part}
 use Rattle.admission.proofs.Passed.{PlacesPassed, places}
@@ -36,21 +37,21 @@ pub wrong_few : (n first lines : ℕ) (text : List ℕ) → wrong_line n first l
 unfolding wrong_line
 wrong_few n first lines text = omega (arith, first_from_high (λ k. not (right_line n first text k)) 0 lines)
 
-refused_read : {n p : ℕ} {text table s : List ℕ} {k line : ℕ} → read_answer n p text (length (whole32 table)) (marks_of n s) ≡ Refused k line → ReadAs n p text table s (Refused k line) table s
+refused_read : {n p : ℕ} {text table s : List ℕ} {r : PageRefused} → read_answer n p text (length (whole32 table)) (marks_of n s) ≡ Err r → ReadAs n p text table s (Err r) table s
 refused_read h = record { answered = sym h; table-left = rw h; set-left = rw h }
 
-pub read_tests : {n p : ℕ} {text table s : List ℕ} {k : ℕ} → places_tested n (length (whole32 table)) (marks_of n s) ≡ tests.Refused k → ReadAs n p text table s (Refused k 0) table s
+pub read_tests : {n p : ℕ} {text table s : List ℕ} {r : Refusal} → places_tested n (length (whole32 table)) (marks_of n s) ≡ Err r → ReadAs n p text table s (not_read r 0) table s
 unfolding read_answer
 read_tests h = refused_read (rw (read_answer, h))
 
 -- the tests are passed, and m is answered, which is n
-module _ (n : ℕ) (table s : List ℕ) {m : ℕ} (h : places_tested n (length (whole32 table)) (marks_of n s) ≡ tests.Points m) where
+module _ (n : ℕ) (table s : List ℕ) {m : ℕ} (h : places_tested n (length (whole32 table)) (marks_of n s) ≡ Ok m) where
   passed : PlacesPassed n (length (whole32 table)) (marks_of n s) m
   passed = places h
 
-  pub read_page : {p : ℕ} {text : List ℕ} → page_of m p ≡ OutOfRange → ReadAs n p text table s (Refused 26 0) table s
+  pub read_page : {p : ℕ} {text : List ℕ} {r : Refusal} → page_of m p ≡ Err r → ReadAs n p text table s (not_read r 0) table s
   unfolding read_answer
-  read_page {p} g = refused_read (rw (read_answer, h, not_paged m p g))
+  read_page {p} g = let q = not_paged m p g in refused_read (rw (read_answer, h, q.0, q.1))
 
   module _ {p first lines : ℕ} (g : Paged m p first lines) where
     pub part_of : PartAsked m first lines
@@ -63,15 +64,15 @@ module _ (n : ℕ) (table s : List ℕ) {m : ℕ} (h : places_tested n (length (
       pub wrong_small : wrong ≤ 61
       wrong_small = omega (arith, is, wrong_few m first lines text, part_of.most)
 
-      refused_text : is_page_text m p text ≡ false → ReadAs n p text table s (Refused 27 wrong) table s
+      refused_text : is_page_text m p text ≡ false → ReadAs n p text table s (not_read why.PageText wrong) table s
       unfolding read_answer
-      refused_text f = refused_read (rw (read_answer, h, g.page, f) (ap (Refused 27) (sym wrong_is)))
+      refused_text f = refused_read (rw (read_answer, h, g.page, f) (ap (not_read why.PageText) (sym wrong_is)))
 
-      pub read_wrong : wrong ≤ lines → ReadAs n p text table s (Refused 27 wrong) table s
+      pub read_wrong : wrong ≤ lines → ReadAs n p text table s (not_read why.PageText wrong) table s
       unfolding is_page_text
       read_wrong l = refused_text (rw (is_page_text, ne_eqb (wrong_line m (first_place p) (page_lines m p) text) (suc (page_lines m p)) (λ e. omega (arith, e, wrong_is, g.lines_are, l))))
 
-      pub read_surplus : (length text ≡ line_bytes * lines → ⊥) → ReadAs n p text table s (Refused 27 wrong) table s
+      pub read_surplus : (length text ≡ line_bytes * lines → ⊥) → ReadAs n p text table s (not_read why.PageText wrong) table s
       unfolding is_page_text
       read_surplus d =
           refused_text (
@@ -114,10 +115,10 @@ module _ (n : ℕ) (table s : List ℕ) {m : ℕ} (h : places_tested n (length (
         }
 
         pub read_done : {table-out set_out : List ℕ} → table-out ≡ overlay (4 * first) (bytes32 (lengths_read text lines)) table → MarksStored text first lines s set_out
-            → ReadAs n p text table s Done table-out set_out
+            → ReadAs n p text table s is_read table-out set_out
         unfolding read_answer
         read_done {table-out} {set_out} t k =
-            let d : read_answer n p text (length (whole32 table)) (marks_of n s) ≡ Done = rw (read_answer, h, g.page, whole) in
+            let d : read_answer n p text (length (whole32 table)) (marks_of n s) ≡ is_read = rw (read_answer, h, g.page, whole) in
             let count : lines ≡ page_lines n p = g.lines_are ∙ ap (λ (j : ℕ). page_lines j p) passed.same in
             let held = k.stored n well inside in
             let fits : first + length (marks_read text lines) ≤ length (marks_of n s) = omega (arith, inside, marks_count text lines, passed.marked) in

@@ -26,9 +26,8 @@ use Rattle.pages.specs.AllPages.{PageBuffers, read_into, read_pages}
 use Rattle.pages.specs.PageLine.{length_read, mark_read}
 use Rattle.pages.specs.Page.{most_lines, page_count, is_page, first_place, page_lines, part_of, place_line, page_text}
 use Rattle.pages.specs.PageOf.{Printable, PageOf}
-use Rattle.pages.specs.Reading.{line_at, lengths_read, marks_read, Passes, read_answer, overlay, page_answer, table_after, set_after}
+use Rattle.pages.specs.Reading.{line_at, lengths_read, marks_read, Passes, is_read, read_answer, overlay, page_answer, table_after, set_after}
 use Rattle.pages.specs.asks.Page.{PartAsked}
-use Rattle.pages.specs.declared.reading.PageRead.TheVariants.{Done}
 use Rattle.pages.proofs.Joining.{singles_at}
 use Rattle.pages.proofs.LineTexts.{length_again, mark_again}
 use Rattle.pages.proofs.Overlays.{overlay-length, overlay_before, overlay_inside, overlay_most}
@@ -102,7 +101,7 @@ module _ {n : ℕ} (p : ℕ) {lengths marks table set : List ℕ} (i : Printable
   -- ROUND TRIP, page p: it is accepted, and sets exactly its edges to what was written. Each line says its length and
   -- its mark, so what is read is the page's part of both; and the numbers of the table's bytes after writing over a
   -- part are the numbers with that part written over.
-  pub read_accepted : page_answer n p (page_text n p lengths marks) table set ≡ Done
+  pub read_accepted : page_answer n p (page_text n p lengths marks) table set ≡ is_read
   unfolding read_answer text
   read_accepted = rw (read_answer, t.tests, h, read_page n p part text the_page)
 

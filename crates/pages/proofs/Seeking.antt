@@ -48,7 +48,7 @@ pub seek_start : {n first lines : ℕ} {text : List ℕ} {a b : ℕ} → Cursor 
 seek_start {first = first} c = record { inside = omega arith; cursor = rw (add-zero first) c; right = λ j h. absurd (omega arith) }
 
 module _ {n first lines : ℕ} {text : List ℕ} {a b i : ℕ} (p : PartAsked n first lines) (s : Seeking n first lines text a b i) where
-  pub seek_done : lines ≤ i → i + 1 ≡ wrong_line n first lines text
+  pub seek_done : lines ≤ i → lines + 1 ≡ wrong_line n first lines text
   unfolding wrong_line
   seek_done h =
       let none = first_from_none (λ k. not (right_line n first text k)) 0 lines (λ j l g. ap not (s.right j (omega arith))) in

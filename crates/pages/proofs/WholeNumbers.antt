@@ -8,7 +8,7 @@ use lib.ListN.{length, get_or, take, drop, length-append, length-drop, take-appe
 use lib.Seq.{length-take-le, take_at, drop_at}
 use borrow.Author.Tests.{eq-eqb}
 use Rattle.endian.specs.Bytes.{numbers32, whole32, bytes_of}
-use Rattle.endian.proofs.Reading.{numbers_count32}
+use Rattle.endian.specs.Counted.{numbers_count32}
 use Rattle.endian.proofs.Writing.{bytes_length, read_again32}
 use Rattle.pages.specs.Reading.{overlay}
 

@@ -1,10 +1,33 @@
 -- The pages of the wall list (02, Paper 12): "pages of 60 lines, the last with what is left, edges in order".
-use Rattle.std.specs.Prelude.{ℕ, zero, suc, ◌+◌, ◌-◌, ◌*◌, ◌/◌, min, Bool, cond, ◌&&◌, List, [], ◌++◌, leb, get_or, take, drop}
+use Rattle.std.specs.Prelude.{
+  ℕ,
+  zero,
+  suc,
+  ◌+◌,
+  ◌-◌,
+  ◌*◌,
+  ◌/◌,
+  min,
+  Bool,
+  ◌&&◌,
+  List,
+  [],
+  ◌++◌,
+  Result,
+  Ok,
+  Err,
+  leb,
+  get_or,
+  take,
+  drop,
+}
+use Rattle.lists.specs.Test.{unless}
 use Rattle.lengths.specs.Edge.{Edge, edge, edges, edge_count}
 use Rattle.marks.specs.Mark.{mark_at}
 use Rattle.pages.specs.PageLine.{line_text}
-use Rattle.pages.specs.declared.page.Page.{Page}
-use Rattle.pages.specs.declared.page.Page.TheVariants.{Lines, OutOfRange}
+use Rattle.lengths.specs.declared.refusal.Refusal.{Refusal}
+use Rattle.lengths.specs.declared.refusal.Refusal.TheVariants as why
+use Rattle.pages.specs.declared.page.PageLines.{PageLines}
 
 abbrev pub most_lines : ℕ
 most_lines = 60
@@ -28,9 +51,12 @@ page_lines n p = min most_lines (edge_count n - first_place p)
 abbrev pub part_of : (n p : ℕ) → List ℕ → List ℕ
 part_of n p xs = take (page_lines n p) (drop (first_place p) xs)
 
--- what test 26 answers
-unfoldable pub page_of : (n p : ℕ) → Page
-page_of n p = cond (is_page n p) (Lines (first_place p) (page_lines n p)) OutOfRange
+-- what test 26 answers: the place of the page's first edge and the number of its lines, or the refusal
+abbrev pub lines_at : (first lines : ℕ) → PageLines
+lines_at first lines = record { first = first; lines = lines }
+
+unfoldable pub page_of : (n p : ℕ) → Result PageLines Refusal
+page_of n p = unless (is_page n p) (Err why.Page) (Ok (lines_at (first_place p) (page_lines n p)))
 
 -- the edge at a place, from 0, of 01's order
 unfoldable pub edge_at : (n i : ℕ) → Edge

@@ -1,17 +1,37 @@
 -- The operation "read a page" (02, Paper 12), "by n and page number, into a lent table and marks": 1, 2, 6, 26, 27.
-use Rattle.std.specs.Prelude.{ℕ, suc, ◌+◌, ◌*◌, ◌≡◌, Bool, true, not, ◌&&◌, List, [], ◌∷◌, ◌++◌, eqb, length, take, drop}
+use Rattle.std.specs.Prelude.{
+  ℕ,
+  suc,
+  ◌+◌,
+  ◌*◌,
+  ◌≡◌,
+  Bool,
+  true,
+  not,
+  ◌&&◌,
+  List,
+  [],
+  ◌∷◌,
+  ◌++◌,
+  Result,
+  Ok,
+  Err,
+  eqb,
+  length,
+  take,
+  drop,
+}
 use Rattle.endian.specs.Bytes.{bytes32, whole32}
 use Rattle.lengths.specs.Edge.{Edge, edge}
 use Rattle.lists.specs.FirstFrom.{first_from}
 use Rattle.lists.specs.Test.{unless}
 use Rattle.marks.specs.Packed.{packed, marks_of}
 use Rattle.admission.specs.Tests.{places_tested}
-use Rattle.admission.specs.declared.tested.Tested.{Tested}
-use Rattle.admission.specs.declared.tested.Tested.TheVariants as tests
+use Rattle.lengths.specs.declared.refusal.Refusal.{Refusal}
+use Rattle.lengths.specs.declared.refusal.Refusal.TheVariants as why
 use Rattle.pages.specs.PageLine.{line_bytes, length_read, mark_read, is_line}
 use Rattle.pages.specs.Page.{is_page, first_place, page_lines, edge_at, joined}
-use Rattle.pages.specs.declared.reading.PageRead.{PageRead}
-use Rattle.pages.specs.declared.reading.PageRead.TheVariants.{Done, Refused}
+use Rattle.pages.specs.declared.reading.PageRefused.{PageRefused}
 
 -- line k of a text, from 0
 unfoldable pub line_at : List ℕ → ℕ → List ℕ
@@ -42,20 +62,34 @@ is_page_text n p text =
 
 -- a table and a packed set that pass 1, 2 and 6
 pub record Passes (n : ℕ) (table set : List ℕ) : Type 0 where
-  pub tests : places_tested n (length (whole32 table)) (marks_of n set) ≡ tests.Points n
+  pub tests : places_tested n (length (whole32 table)) (marks_of n set) ≡ Ok n
 
 -- and a page number that passes 26
 pub record Tried (n p : ℕ) (table set : List ℕ) : Type 0 where
   pub passes : Passes n table set
   pub page : is_page n p ≡ true
 
+-- a refusal and its line
+abbrev pub page_refused : Refusal → (line : ℕ) → PageRefused
+page_refused refusal line = record { refusal = refusal; line = line }
+
+-- what reading a page answers
+abbrev pub PageRead : Type 0
+PageRead = Result (Unit {0}) PageRefused
+
+abbrev pub is_read : PageRead
+is_read = Ok tt
+
+abbrev pub not_read : Refusal → (line : ℕ) → PageRead
+not_read refusal line = Err (page_refused refusal line)
+
 -- a refusal names line 0, but 27 its line
-abbrev pub read_tested : Tested → (p : ℕ) → List ℕ → PageRead
-read_tested (tests.Refused number) p text = Refused number 0
-read_tested (tests.Points n) p text =
-    unless (is_page n p) (Refused 26 0)
-    (unless (is_page_text n p text) (Refused 27 (wrong_line n (first_place p) (page_lines n p) text))
-    Done)
+abbrev pub read_tested : Result ℕ Refusal → (p : ℕ) → List ℕ → PageRead
+read_tested (Err refusal) p text = not_read refusal 0
+read_tested (Ok n) p text =
+    unless (is_page n p) (not_read why.Page 0)
+    (unless (is_page_text n p text) (not_read why.PageText (wrong_line n (first_place p) (page_lines n p) text))
+    is_read)
 
 unfoldable pub read_answer : (n p : ℕ) → List ℕ → (size : ℕ) → (marks : List ℕ) → PageRead
 read_answer n p text size marks = read_tested (places_tested n size marks) p text
@@ -66,12 +100,12 @@ overlay at new old = take at old ++ (new ++ drop (at + length new) old)
 
 -- the table and the marks that are left: "changes only its own edges there"
 abbrev pub table_left : PageRead → (n p : ℕ) → (text table : List ℕ) → List ℕ
-table_left Done n p text table = overlay (4 * first_place p) (bytes32 (lengths_read text (page_lines n p))) table
-table_left (Refused number line) n p text table = table
+table_left (Ok done) n p text table = overlay (4 * first_place p) (bytes32 (lengths_read text (page_lines n p))) table
+table_left (Err refused) n p text table = table
 
 abbrev pub set_left : PageRead → (n p : ℕ) → (text set : List ℕ) → List ℕ
-set_left Done n p text set = packed (overlay (first_place p) (marks_read text (page_lines n p)) (marks_of n set))
-set_left (Refused number line) n p text set = set
+set_left (Ok done) n p text set = packed (overlay (first_place p) (marks_read text (page_lines n p)) (marks_of n set))
+set_left (Err refused) n p text set = set
 
 -- over bytes: the answer, and what is left
 abbrev pub page_answer : (n p : ℕ) → (text table set : List ℕ) → PageRead

@@ -6,57 +6,44 @@ ghost use Rattle.pages.specs.asks.Page.{PlaceAsked};
 
 use lengths::edge;
 use lengths::edge::{NextEdge, following};
+use lengths::refusal::Refusal;
 
 // How many lines a page has at most.
 pub const LINES: usize = 60;
 
-// What test 26 answers: the place of the page's first edge, and how many lines it has.
-#[derive(Drop)]
-pub enum Page {
-    Lines { first: usize, lines: usize },
-    OutOfRange,
+// The lines of a page: the place of its first edge, and how many they are.
+#[derive(Clone, Copy)]
+pub struct PageLines {
+    pub first: usize,
+    pub lines: usize,
 }
 
-// The lines of a page of n points: those of its 60 edges, on the last page those of what is left.
-pub fn page_of(n: u16, page: u32) -> Page
+// Test 26, and the lines of a page of n points: those of its 60 edges, on the last page those of what is left.
+pub fn page_of(n: u16, page: u32) -> Result<PageLines, Refusal>
     ensures { result ≡ page_of n page }
 {
     if page < 1 {
-        return Page::OutOfRange;
+        return Err(Refusal::Page);
     }
     let edges = edge::count(n);
     let first = LINES * (page as usize - 1);
     if edges <= first {
-        return Page::OutOfRange;
+        return Err(Refusal::Page);
     }
-    if edges - first < LINES {
-        return Page::Lines {
-            first: first,
-            lines: edges - first,
-        };
-    }
-    Page::Lines {
+    Ok(PageLines {
         first: first,
-        lines: LINES,
-    }
+        lines: LINES.min(edges - first),
+    })
 }
 
-// The edge at a place, from 0: as many edges behind 1-2. Ends: i rises to the place.
+// The edge at a place, from 0: as many edges behind 1-2.
 pub fn edge_at(n: usize, place: usize) -> NextEdge
     requires { PlaceAsked n place }
     ensures { Cursor n place result.low result.high }
 {
-    let mut low: usize = 1;
-    let mut high: usize = 2;
-    let mut i = 0;
-    while i < place {
-        let next = following(n, low, high);
-        low = next.low;
-        high = next.high;
-        i += 1;
+    let mut edge = NextEdge { low: 1, high: 2 };
+    for _ in 0..place {
+        edge = following(n, edge.low, edge.high);
     }
-    NextEdge {
-        low: low,
-        high: high,
-    }
+    edge
 }

@@ -13,17 +13,16 @@ use text::words::{put_word, same};
 pub const BYTES: usize = 25;
 
 // Writes the end of a line, from column 16: the word of the mark, and the newline.
+#[tactic(auto, unfolding(crate::specs::PageLine::mark_word, crate::specs::asks::PageLine::line_end))]
 fn put_end(mark: u8, out: &mut [u8], at: usize) -> usize
     requires { Room out.old at (line_end mark) }
     ensures { Wrote out.old at (line_end mark) result out.new }
 {
-    if mark == mark::OPEN {
-        return put_word(b" open    \n", out, at);
+    match mark {
+        mark::OPEN => put_word(b" open    \n", out, at),
+        mark::PENDING => put_word(b" pending \n", out, at),
+        _ => put_word(b" struck  \n", out, at),
     }
-    if mark == mark::PENDING {
-        return put_word(b" pending \n", out, at);
-    }
-    put_word(b" struck  \n", out, at)
 }
 
 // Writes the line of the edge ab, whose lower point is a. The blank before a number is one of its columns.
@@ -46,18 +45,16 @@ pub fn length_read(line: &[u8]) -> u32
 }
 
 // The mark that a line says, whatever bytes it is.
+#[tactic(auto, unfolding(crate::specs::PageLine::mark_read, crate::specs::PageLine::mark_of_letter))]
 pub fn mark_read(line: &[u8]) -> u8
     requires { length line.now ≡ line_bytes }
     ensures { MarkReadIs line.now result }
 {
-    let letter = line[16];
-    if letter == b'o' {
-        return mark::OPEN;
+    match line[16] {
+        b'o' => mark::OPEN,
+        b'p' => mark::PENDING,
+        _ => mark::STRUCK,
     }
-    if letter == b'p' {
-        return mark::PENDING;
-    }
-    mark::STRUCK
 }
 
 // Is the line one of the edge ab? What it says, the length within the limit, is written anew and compared.

@@ -14,8 +14,9 @@ use Rattle.lengths.specs.Saving.{gains?}
 use Rattle.lengths.specs.Edge.{edge, Before}
 use Rattle.sets.specs.EdgeSet.{AtMostTwo, NoShortCycle}
 use Rattle.rules.specs.Pair.{exchange_saving, move_saving, FeasiblePair}
-use Rattle.sentences.specs.Reason.{struck, third, loop, exchange, move}
-use Rattle.reasons.specs.PairReason.{PairOutcome, shut, stands, gain, end?, third?, struck_at, loop_of, exchange_of, moves?, move_of}
+use Rattle.sentences.specs.Reason.{Reason, struck, third, loop, exchange, move}
+use Rattle.std.specs.Prelude.{Option, Some, None}
+use Rattle.reasons.specs.PairReason.{gain, end?, third?, struck_at, loop_of, exchange_of, moves?, move_of}
 use Rattle.reasons.specs.PairReason.{pair_outcome}
 use Rattle.reasons.specs.Tells.{FirstPair, One, Four, ToldStruck, ToldThird, ToldLoop, ToldExchange, ToldMove}
 use Rattle.reasons.proofs.Single.{grown, End, cycle_ends, Mover, centre, lower, upper}
@@ -33,17 +34,17 @@ module _ (n : ℕ) (len : ℕ → ℕ → ℕ) (turns : (p q : ℕ) → len p q 
       subst (λ (z : ℕ). Before (min c x) (max c x) z q) (sym e.0)
       (subst (λ (z : ℕ). Before (min c x) (max c x) (min c y) z) (sym e.1) (legs_rise c x y P.up))
 
-  pub told_struck : (p q : ℕ) → ToldStruck open? c x y p q → pair_outcome len open? a b c x y ≡ shut (struck p q)
+  pub told_struck : (p q : ℕ) → ToldStruck open? c x y p q → pair_outcome len open? a b c x y ≡ Some (struck p q)
   unfolding pair_outcome struck_at
   told_struck p q t = ⊎_elim at_x at_y (which_leg t.leg)
     where
       leg_shut : (z : ℕ) → (p ≡ min c z) × (q ≡ max c z) → open? c z ≡ false
       leg_shut z e = sym (sorted_same open? opens c z) ∙ ap₂ open? (sym e.0) (sym e.1) ∙ t.shut
 
-      at_x : (p ≡ min c x) × (q ≡ max c x) → pair_outcome len open? a b c x y ≡ shut (struck p q)
+      at_x : (p ≡ min c x) × (q ≡ max c x) → pair_outcome len open? a b c x y ≡ Some (struck p q)
       at_x e = rw (leg_shut x e, e.0, e.1)
 
-      at_y : (p ≡ min c y) × (q ≡ max c y) → pair_outcome len open? a b c x y ≡ shut (struck p q)
+      at_y : (p ≡ min c y) × (q ≡ max c y) → pair_outcome len open? a b c x y ≡ Some (struck p q)
       at_y e =
           let o : open? c x ≡ true = never_false (open? c x)
           (λ f. t.lowest (min c x) (max c x) (leg_x c x y P.x_c) (sorted_same open? opens c x ∙ f) (leg_before e)) in
@@ -52,13 +53,13 @@ module _ (n : ℕ) (len : ℕ → ℕ → ℕ) (turns : (p q : ℕ) → len p q 
   no_third : AtMostTwo (grown a b c x y) → third? a b c x y ≡ false
   no_third two = never_true (third? a b c x y) (λ e. none_at two (third_three a b c x y P.ab (apart P) e))
 
-  pub told_third : (w : ℕ) → ToldThird open? (edge a b ∷ []) c x y w → pair_outcome len open? a b c x y ≡ shut (third w)
+  pub told_third : (w : ℕ) → ToldThird open? (edge a b ∷ []) c x y w → pair_outcome len open? a b c x y ≡ Some (third w)
   unfolding pair_outcome
   told_third w t =
       let e : third? a b c x y ≡ true = never_false (third? a b c x y) (λ f. none_at (third_room a b c x y P.ab (apart P) f) t.three_edges) in
       rw (t.one.0, t.one.1, e, third_centre a b c x y P.ab (apart P) w t.three_edges)
 
-  pub told_loop : (p q r : ℕ) → ToldLoop n open? (edge a b ∷ []) c x y p q r → pair_outcome len open? a b c x y ≡ shut (loop p q r)
+  pub told_loop : (p q r : ℕ) → ToldLoop n open? (edge a b ∷ []) c x y p q r → pair_outcome len open? a b c x y ≡ Some (loop p q r)
   unfolding pair_outcome loop_of
   told_loop p q r t =
       let e = cycle_ends P.ab (adding P t.two) (p ∷ q ∷ r ∷ []) t.cycle in
@@ -66,11 +67,11 @@ module _ (n : ℕ) (len : ℕ → ℕ → ℕ) (turns : (p q : ℕ) → len p q 
       rw (t.one.0, t.one.1, no_third t.two, says_end a b x e.0, says_end a b y e.1, k.0, k.1, k.2)
 
   -- what conditions 4 and 5 come to
-  abbrev after_three : PairOutcome
+  abbrev after_three : Option Reason
   after_three =
-      cond (gains? (exchange_saving len len c x a b)) (shut (exchange_of len a b c x))
-      (cond (gains? (exchange_saving len len c y a b)) (shut (exchange_of len a b c y))
-      (cond (moves? len a b c x y) (shut (move_of len a b c x y)) stands))
+      cond (gains? (exchange_saving len len c x a b)) (Some (exchange_of len a b c x))
+      (cond (gains? (exchange_saving len len c y a b)) (Some (exchange_of len a b c y))
+      (cond (moves? len a b c x y) (Some (move_of len a b c x y)) None))
 
   module _ (one : One open? c x y) (two : AtMostTwo (grown a b c x y)) (three : NoShortCycle n (grown a b c x y)) where
     no_loop : end? a b x && end? a b y ≡ false
@@ -83,17 +84,17 @@ module _ (n : ℕ) (len : ℕ → ℕ → ℕ) (turns : (p q : ℕ) → len p q 
     past_three = rw (one.0, one.1, no_third two, no_loop)
 
     past_four : Four len (edge a b ∷ []) c x y
-        → pair_outcome len open? a b c x y ≡ cond (moves? len a b c x y) (shut (move_of len a b c x y)) stands
+        → pair_outcome len open? a b c x y ≡ cond (moves? len a b c x y) (Some (move_of len a b c x y)) None
     past_four four = let f = four a b (inl (inl (refl, refl))) in past_three ∙ rw (f.0, f.1)
 
   pub told_exchange : (p q u v saved : ℕ) → ToldExchange n len open? (edge a b ∷ []) c x y p q u v saved
-      → pair_outcome len open? a b c x y ≡ shut (exchange p q u v saved)
+      → pair_outcome len open? a b c x y ≡ Some (exchange p q u v saved)
   told_exchange p q u v saved t = past_three t.one t.two t.three ∙ ⊎_elim at_x at_y (which_leg t.exchange.leg)
     where
-      at_x : (p ≡ min c x) × (q ≡ max c x) → after_three ≡ shut (exchange p q u v saved)
+      at_x : (p ≡ min c x) × (q ≡ max c x) → after_three ≡ Some (exchange p q u v saved)
       at_x e = let k = saved_leg len turns P x e t.exchange in rw (k.0, k.1)
 
-      at_y : (p ≡ min c y) × (q ≡ max c y) → after_three ≡ shut (exchange p q u v saved)
+      at_y : (p ≡ min c y) × (q ≡ max c y) → after_three ≡ Some (exchange p q u v saved)
       at_y e =
           let k = saved_leg len turns P y e t.exchange in
           let f : gains? (exchange_saving len len c x a b) ≡ false = never_true _ (λ g.
@@ -101,11 +102,11 @@ module _ (n : ℕ) (len : ℕ → ℕ → ℕ) (turns : (p q : ℕ) → len p q 
           rw (f, k.0, k.1)
 
   pub told_move : (w u v saved : ℕ) → ToldMove n len open? (edge a b ∷ []) c x y w u v saved
-      → pair_outcome len open? a b c x y ≡ shut (move w u v saved)
+      → pair_outcome len open? a b c x y ≡ Some (move w u v saved)
   unfolding move_of
   told_move w u v saved t =
-      past_four t.one t.two t.three t.four ∙ ap (λ (m : Bool). cond m (shut (move_of len a b c x y)) stands) (moves_test len turns P nc g.0)
-      ∙ ap shut (by who.2)
+      past_four t.one t.two t.three t.four ∙ ap (λ (m : Bool). cond m (Some (move_of len a b c x y)) None) (moves_test len turns P nc g.0)
+      ∙ ap Some (by who.2)
     where
       who : (End a b c → ⊥) × (move_saving len len c x y a b ≡ pos saved) × Mover a b c x y w u v
       who = mover_of len turns P t.two t.moved
@@ -147,11 +148,11 @@ module _ (n : ℕ) (len : ℕ → ℕ → ℕ) (turns : (p q : ℕ) → len p q 
           let nx : end? a b x ≡ false = never_true (end? a b x) (λ h. not_both P t.two t.three (end_says a b x h) ey) in
           rw (nx, taken y P.y_c e ey, e, k.0, k.1, g.1)
 
-  pub feasible_stands : FeasiblePair n len len open? (edge a b ∷ []) c x y → pair_outcome len open? a b c x y ≡ stands
+  pub feasible_stands : FeasiblePair n len len open? (edge a b ∷ []) c x y → pair_outcome len open? a b c x y ≡ None
   unfolding moves?
   feasible_stands f =
       past_four f.one f.two f.three f.four
-      ∙ ap (λ (m : Bool). cond m (shut (move_of len a b c x y)) stands) (never_true (moves? len a b c x y) none)
+      ∙ ap (λ (m : Bool). cond m (Some (move_of len a b c x y)) None) (never_true (moves? len a b c x y) none)
     where
       none : moves? len a b c x y ≡ true → ⊥
       none h =

@@ -20,14 +20,12 @@ use Rattle.sentences.specs.Sentence.{sentence, sentence_bytes, text_of}
 use Rattle.sentences.specs.asks.Sentence.{reason_of, LengthIs}
 use Rattle.sentences.specs.declared.reason.Reason.{Reason}
 use Rattle.sentences.specs.declared.reason.Reason.TheVariants.{Split}
-use Rattle.reasons.specs.PairReason.{PairOutcome, shut, stands}
+use Rattle.std.specs.Prelude.{Option, Some, None}
 use Rattle.reasons.specs.Telling.{reason_at, case_behind, reasons_from}
 use Rattle.reasons.specs.asks.PairReason.{outcome_of}
 use Rattle.reasons.specs.asks.LineText.{Fitted, FittedWithin, most_text, ToldAt, outcomes_of, split_text, TextAsked, EdgeAsked, EdgeTold}
 use Rattle.reasons.specs.declared.line_text.ToldPair.{ToldPair}
 use Rattle.reasons.specs.declared.line_text.TextPosition.{TextPosition}
-use Rattle.reasons.specs.declared.pair.PairOutcome as declared
-use Rattle.reasons.specs.declared.pair.PairOutcome.TheVariants.{Shut, Stands}
 
 -- a number of a record, past the sheet and in it
 module _ (s : List ℕ) (i f : ℕ) {b : ℕ} (e : b ≡ i - 1) where
@@ -40,21 +38,21 @@ module _ (s : List ℕ) (i f : ℕ) {b : ℕ} (e : b ≡ i - 1) where
   field_there h = h ∙ ap (λ (j : ℕ). get_or s (j * record_size + f) 0) e
 
 -- what is told of a pair, by its outcome
-module _ (s : List ℕ) (i : ℕ) {o : PairOutcome} {p : declared.PairOutcome} (is : outcome_of p ≡ o) where
-  pub told_shut : {r : Reason} → p ≡ Shut r → ToldAt o s i (record { reason = r; case = i })
-  unfolding outcome_of reason_at case_behind
+module _ (s : List ℕ) (i : ℕ) {o : Option why.Reason} {p : Option Reason} (is : outcome_of p ≡ o) where
+  pub told_shut : {r : Reason} → p ≡ Some r → ToldAt o s i (record { reason = r; case = i })
+  unfolding reason_at case_behind
   told_shut {r} h =
-      let e : shut (reason_of r) ≡ o = sym (ap outcome_of h) ∙ is in
-      record { reason_is = ap (λ (q : PairOutcome). reason_at q s i) e; case_is = ap (λ (q : PairOutcome). case_behind q s i) e }
+      let e : Some (reason_of r) ≡ o = sym (ap outcome_of h) ∙ is in
+      record { reason_is = ap (λ (q : Option why.Reason). reason_at q s i) e; case_is = ap (λ (q : Option why.Reason). case_behind q s i) e }
 
-  pub told_stands : {w k : ℕ} → p ≡ Stands → w ≡ field s i 5 → k ≡ field s i 7 → ToldAt o s i (record { reason = Split w; case = k })
-  unfolding outcome_of reason_of reason_at case_behind
+  pub told_stands : {w k : ℕ} → p ≡ None → w ≡ field s i 5 → k ≡ field s i 7 → ToldAt o s i (record { reason = Split w; case = k })
+  unfolding reason_at case_behind
   told_stands h ew ek =
-      let e : stands ≡ o = sym (ap outcome_of h) ∙ is in
+      let e : ◌≡◌ {A = Option why.Reason} None o = sym (ap outcome_of h) ∙ is in
       record {
         reason_is =
-            ap why.split ew ∙ ap (λ (q : PairOutcome). reason_at q s i) e;
-        case_is = ek ∙ ap (λ (q : PairOutcome). case_behind q s i) e;
+            ap why.split ew ∙ ap (λ (q : Option why.Reason). reason_at q s i) e;
+        case_is = ek ∙ ap (λ (q : Option why.Reason). case_behind q s i) e;
       }
 
 -- texts one behind the other
@@ -81,7 +79,7 @@ module _ {out text : List ℕ} {at size : ℕ} (l : LengthIs text size) where
   sentence_put w = record { fitted = record { next = w.next; kept = w.kept; wrote = λ h. w }; few = omega (arith, l.same, l.few) }
 
 -- an edge of c, and a pair
-module _ (outcome : ℕ → ℕ → PairOutcome) (s : List ℕ) {c x y : ℕ} (i : ℕ) (out : List ℕ) (at : ℕ) where
+module _ (outcome : ℕ → ℕ → Option why.Reason) (s : List ℕ) {c x y : ℕ} (i : ℕ) (out : List ℕ) (at : ℕ) where
   skipped : ((es : List Edge) → reasons_from outcome s c i (edge x y ∷ es) ≡ reasons_from outcome s c i es)
       → EdgeTold outcome s c i x y out at (record { at = at; case = i }) out
   skipped e = record { piece = []; put = record { fitted = fitted_none out at; few = omega arith }; rest = λ es. ap (text_of c) (e es) }
@@ -110,7 +108,7 @@ module _ (outcome : ℕ → ℕ → PairOutcome) (s : List ℕ) {c x y : ℕ} (i
   }
 
 -- the edge at place k is at hand: what is told so far, and what is left to be told
-pub record Putting (n : ℕ) (outcome : ℕ → ℕ → PairOutcome) (s : List ℕ) (c first : ℕ) (text₀ text : List ℕ) (x y case at k : ℕ)
+pub record Putting (n : ℕ) (outcome : ℕ → ℕ → Option why.Reason) (s : List ℕ) (c first : ℕ) (text₀ text : List ℕ) (x y case at k : ℕ)
     : Type 0 where
   pub inside : k ≤ edge_count n
   pub cursor : Cursor n k x y
@@ -130,7 +128,7 @@ module _ {n : ℕ} {table marks : List ℕ} {a b c : ℕ} (p : TextAsked n table
     rest = refl;
   }
 
-  abbrev told : ℕ → ℕ → PairOutcome
+  abbrev told : ℕ → ℕ → Option why.Reason
   told = outcomes_of n table marks a b c
 
   module _ {first : ℕ} {text₀ text : List ℕ} {x y case at k : ℕ} (w : Putting n told s c first text₀ text x y case at k) where

@@ -26,7 +26,8 @@ use Rattle.argument.specs.Layout.{Laid, Holds}
 use Rattle.argument.specs.Line.{CompleteLine}
 use Rattle.sheets.specs.Rules.{rules_of}
 use Rattle.sentences.specs.Reason as why
-use Rattle.reasons.specs.PairReason.{PairOutcome, shut, stands, pair_outcome}
+use Rattle.std.specs.Prelude.{Option, Some, None}
+use Rattle.reasons.specs.PairReason.{pair_outcome}
 use Rattle.reasons.specs.Telling.{reason_at, case_behind, reasons_from, line_reasons}
 use Rattle.reasons.specs.Tells.{FirstPair, CaseIn, Tells, pairs_of, pairs_at, beside?, TellsLine}
 use Rattle.reasons.proofs.Outcome.{outcome_tells, outcome_stands}
@@ -91,7 +92,7 @@ split_read s i e =
 
 -- an edge of c is passed over, and any other told of
 
-module _ (outcome : ℕ → ℕ → PairOutcome) (s : List ℕ) (c : ℕ) where
+module _ (outcome : ℕ → ℕ → Option why.Reason) (s : List ℕ) (c : ℕ) where
   passed_over : (i x y : ℕ) (es : List Edge) → beside? c x y ≡ false
       → reasons_from outcome s c i (edge x y ∷ es) ≡ reasons_from outcome s c i es
   unfolding reasons_from beside?
@@ -121,14 +122,14 @@ module _ (outcome : ℕ → ℕ → PairOutcome) (s : List ℕ) (c : ℕ) where
 
 -- the pairs that stand
 
-is_stands : PairOutcome → Bool
-is_stands (shut r) = false
-is_stands stands = true
+is_stands : Option why.Reason → Bool
+is_stands (Some r) = false
+is_stands None = true
 
-is-stands : (o : PairOutcome) → is_stands o ≡ true → o ≡ stands
+is-stands : (o : Option why.Reason) → is_stands o ≡ true → o ≡ None
 unfolding is_stands
-is-stands (shut r) h = absurd (false≢true h)
-is-stands stands h = refl
+is-stands (Some r) h = absurd (false≢true h)
+is-stands None h = refl
 
 cons_pair : {x y x' y' : ℕ} {es fs : List Edge} → edge x y ∷ es ≡ edge x' y' ∷ fs → (x ≡ x') × (y ≡ y') × (es ≡ fs)
 cons_pair e = (cc, cc, cc)
@@ -147,7 +148,7 @@ unfolding beside?
 apart_beside c x y nx ny = rw (ne_eqb x c nx, ne_eqb y c ny)
 
 module _ (n : ℕ) (table marks s : List ℕ) (many : 3 < n) {a b c : ℕ} {cs : Cases} (ab : a ≡ b → ⊥) (argument : CompleteArgument (rules_of n table marks) a b c cs) where
-  outcome : ℕ → ℕ → PairOutcome
+  outcome : ℕ → ℕ → Option why.Reason
   outcome = pair_outcome (length_of n table) (open_in n marks) a b c
 
   standing? : ℕ → ℕ → Bool
@@ -210,23 +211,23 @@ module _ (n : ℕ) (table marks s : List ℕ) (many : 3 < n) {a b c : ℕ} {cs :
 
   here_shut : (x y : ℕ) (es : List Edge) → IsEdgeUp n x y → beside? c x y ≡ true → (rest : Cases) (high i after : ℕ)
       → Left rest high i after (edge x y ∷ es)
-      → (r : why.Reason) → outcome x y ≡ shut r → Here x y i after es
+      → (r : why.Reason) → outcome x y ≡ Some r → Here x y i after es
   unfolding outcome standing? is_stands reason_at case_behind
   here_shut x y es e h rest high i after l r o = (
-    subst (λ (p : PairOutcome). Due x y (reason_at p s i)) (sym o)
+    subst (λ (p : Option why.Reason). Due x y (reason_at p s i)) (sym o)
         (outcome_tells n (length_of n table) (length_symmetric n table) (open_in n marks) (open_symmetric n marks) (first_pair e h) cs r o),
     rest,
     high,
     record {
-      laid = subst (λ (p : PairOutcome). Laid s high (case_behind p s i) rest after) (sym o) l.laid;
-      named = l.named ∙ keep_no standing? x y es (ap (λ (p : PairOutcome). beside? c x y && is_stands p) o ∙ and_no (beside? c x y));
+      laid = subst (λ (p : Option why.Reason). Laid s high (case_behind p s i) rest after) (sym o) l.laid;
+      named = l.named ∙ keep_no standing? x y es (ap (λ (p : Option why.Reason). beside? c x y && is_stands p) o ∙ and_no (beside? c x y));
       part = l.part;
     },
   )
 
   here_stands : (x y : ℕ) (es : List Edge) → IsEdgeUp n x y → beside? c x y ≡ true → (rest : Cases) (high i after : ℕ)
       → Left rest high i after (edge x y ∷ es)
-      → outcome x y ≡ stands → Here x y i after es
+      → outcome x y ≡ None → Here x y i after es
   unfolding outcome standing? is_stands reason_at case_behind names Laid Holds Tells
   here_stands x y es e h none high i after l o = absurd (not_cons (l.named ∙ keep_yes standing? x y es (and_both _ _ h (ap is_stands o))))
   here_stands x y es e h (pair x' y' t rest) high i after l o =
@@ -235,7 +236,7 @@ module _ (n : ℕ) (table marks s : List ℕ) (many : 3 < n) {a b c : ℕ} {cs :
       let d = first_split_splits n table marks many ab argument x' y' t own in
       let held = subst (λ (q : Closing). Holds s i l.laid.0 q l.laid.2) d.2 l.laid.5 in
       let reads = split_read s i (l.laid.4 ∙ ap (λ (g : CaseClosing). case x' y' g l.laid.1) held.1) in (
-        subst (λ (p : PairOutcome). Due x y (reason_at p s i)) (sym o)
+        subst (λ (p : Option why.Reason). Due x y (reason_at p s i)) (sym o)
             (record {
               feasible =
                   outcome_stands n (length_of n table) (length_symmetric n table) (open_in n marks) (open_symmetric n marks)
@@ -250,7 +251,7 @@ module _ (n : ℕ) (table marks s : List ℕ) (many : 3 < n) {a b c : ℕ} {cs :
         l.laid.2,
         record {
           laid =
-              subst (λ (p : PairOutcome). Laid s l.laid.2 (case_behind p s i) rest after) (sym o)
+              subst (λ (p : Option why.Reason). Laid s l.laid.2 (case_behind p s i) rest after) (sym o)
               (subst (λ (z : ℕ). Laid s l.laid.2 z rest after) (sym reads.1) l.laid.6);
           named = k.2;
           part = λ p q u m. l.part p q u (inr m);
@@ -268,9 +269,9 @@ module _ (n : ℕ) (table marks s : List ℕ) (many : 3 < n) {a b c : ℕ} {cs :
           (λ k. ih g.1 g.2 (case_behind (outcome x y) s i) after g.3 t k)
           (Memᴰ.cases_cons (subst (Memᴰ t) (told_of_lem outcome s c i x y es h) m))
 
-      at : AllDue es → beside? c x y ≡ true → (o : PairOutcome) → outcome x y ≡ o → Due t.x t.y t.reason
-      at ih h (shut r) o = told ih h (here_shut x y es (up x y (Memᴰ.head refl)) h rest high i after l r o)
-      at ih h stands o = told ih h (here_stands x y es (up x y (Memᴰ.head refl)) h rest high i after l o)
+      at : AllDue es → beside? c x y ≡ true → (o : Option why.Reason) → outcome x y ≡ o → Due t.x t.y t.reason
+      at ih h (Some r) o = told ih h (here_shut x y es (up x y (Memᴰ.head refl)) h rest high i after l r o)
+      at ih h None o = told ih h (here_stands x y es (up x y (Memᴰ.head refl)) h rest high i after l o)
 
       by : (b : Bool) → beside? c x y ≡ b → AllDue es → Due t.x t.y t.reason
       by true h ih = at ih h (outcome x y) refl

@@ -14,7 +14,8 @@ use Rattle.sets.specs.EdgeSet.{AtMostTwo, NoShortCycle}
 use Rattle.rules.specs.Pair.{exchange_saving, move_saving, FeasiblePair}
 use Rattle.argument.specs.Argument.{Cases}
 use Rattle.sentences.specs.Reason.{Reason, third, move}
-use Rattle.reasons.specs.PairReason.{PairOutcome, shut, stands, gain, end?, third?, struck_at, loop_of, exchange_of, moves?, move_of}
+use Rattle.std.specs.Prelude.{Option, Some, None}
+use Rattle.reasons.specs.PairReason.{gain, end?, third?, struck_at, loop_of, exchange_of, moves?, move_of}
 use Rattle.reasons.specs.PairReason.{pair_outcome}
 use Rattle.reasons.specs.Tells.{FirstPair, One, ToldStruck, ToldThird, ToldExchange, MovedSaves, ToldMove, Tells}
 use Rattle.reasons.proofs.Single.{grown, End, has_joins, no_cycle}
@@ -137,12 +138,12 @@ module _ (n : ℕ) (len : ℕ → ℕ → ℕ) (turns : (p q : ℕ) → len p q 
 
   -- what is computed is due
 
-  abbrev Due : Cases → PairOutcome → Type 0
-  Due cs (shut r) = Tells n len open? (edge a b ∷ []) c cs x y r
-  Due cs stands = FeasiblePair n len len open? (edge a b ∷ []) c x y
+  abbrev Due : Cases → Option Reason → Type 0
+  Due cs (Some r) = Tells n len open? (edge a b ∷ []) c cs x y r
+  Due cs None = FeasiblePair n len len open? (edge a b ∷ []) c x y
 
   outcome_due : (cs : Cases) → Due cs (pair_outcome len open? a b c x y)
-  unfolding pair_outcome struck_at loop_of exchange_of Tells
+  unfolding pair_outcome exchange_of Tells
   outcome_due cs =
       go (open? c x) (open? c y) (third? a b c x y) (end? a b x) (end? a b y) (gains? (exchange_saving len len c x a b)) (gains? (exchange_saving len len c y a b))
       (moves? len a b c x y) refl refl refl refl refl refl refl refl
@@ -156,7 +157,7 @@ module _ (n : ℕ) (len : ℕ → ℕ → ℕ) (turns : (p q : ℕ) → len p q 
       rest : (o : One open? c x y) (t : third? a b c x y ≡ false) (nb : End a b x → End a b y → ⊥) (f g m : Bool)
           → gains? (exchange_saving len len c x a b) ≡ f
           → gains? (exchange_saving len len c y a b) ≡ g → moves? len a b c x y ≡ m
-          → Due cs (cond f (shut (exchange_of len a b c x)) (cond g (shut (exchange_of len a b c y)) (cond m (shut (move_of len a b c x y)) stands)))
+          → Due cs (cond f (Some (exchange_of len a b c x)) (cond g (Some (exchange_of len a b c y)) (cond m (Some (move_of len a b c x y)) None)))
       rest o t nb true g m ef eg em = exchange_x o (two_of t) (three_of t nb) ef
       rest o t nb false true m ef eg em = exchange_y o (two_of t) (three_of t nb) ef eg
       rest o t nb false false true ef eg em = move_due o (two_of t) (three_of t nb) ef eg em cs
@@ -175,8 +176,8 @@ module _ (n : ℕ) (len : ℕ → ℕ → ℕ) (turns : (p q : ℕ) → len p q 
 
       go : (i j t s s' f g m : Bool) → open? c x ≡ i → open? c y ≡ j → third? a b c x y ≡ t → end? a b x ≡ s → end? a b y ≡ s'
           → gains? (exchange_saving len len c x a b) ≡ f → gains? (exchange_saving len len c y a b) ≡ g → moves? len a b c x y ≡ m
-          → Due cs (cond (not i) (shut (struck_at c x)) (cond (not j) (shut (struck_at c y)) (cond t (shut (third c)) (cond (s && s') (shut (loop_of a b c))
-          (cond f (shut (exchange_of len a b c x)) (cond g (shut (exchange_of len a b c y)) (cond m (shut (move_of len a b c x y)) stands)))))))
+          → Due cs (cond (not i) (Some (struck_at c x)) (cond (not j) (Some (struck_at c y)) (cond t (Some (third c)) (cond (s && s') (Some (loop_of a b c))
+          (cond f (Some (exchange_of len a b c x)) (cond g (Some (exchange_of len a b c y)) (cond m (Some (move_of len a b c x y)) None)))))))
       go false j t s s' f g m ei ej et es es' ef eg em = struck_x ei
       go true false t s s' f g m ei ej et es es' ef eg em = struck_y ei ej
       go true true true s s' f g m ei ej et es es' ef eg em = third_due (ei, ej) et
@@ -193,8 +194,8 @@ module _ (n : ℕ) (len : ℕ → ℕ → ℕ) (turns : (p q : ℕ) → len p q 
   -- cycle, shorter than n. 4: K has the one edge ab. 5: c, and an end of ab in the pair, have two edges; each can move
   -- to one edge only, and saves the same there, since both moves take out cx, cy and ab and put in the same three
   -- edges; where c is an end of ab there is no edge to move to. So the lowest of these points is told.
-  pub outcome_tells : (cs : Cases) (r : Reason) → pair_outcome len open? a b c x y ≡ shut r → Tells n len open? (edge a b ∷ []) c cs x y r
+  pub outcome_tells : (cs : Cases) (r : Reason) → pair_outcome len open? a b c x y ≡ Some r → Tells n len open? (edge a b ∷ []) c cs x y r
   outcome_tells cs r e = subst (Due cs) e (outcome_due cs)
 
-  pub outcome_stands : pair_outcome len open? a b c x y ≡ stands → FeasiblePair n len len open? (edge a b ∷ []) c x y
+  pub outcome_stands : pair_outcome len open? a b c x y ≡ None → FeasiblePair n len len open? (edge a b ∷ []) c x y
   outcome_stands e = subst (Due Cases.none) e (outcome_due Cases.none)

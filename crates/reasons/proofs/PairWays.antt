@@ -4,10 +4,10 @@ use mathlib.Core.Path.{◌≡◌, refl, sym, ◌∙◌, ap}
 use mathlib.Core.Bool.{Bool, true, false, cond, ◌&&◌}
 use mathlib.Core.List.{List}
 use native.Mathlib.Omega.{arith}
-use lib.Dec.{T, eqb, ltb}
+use lib.Dec.{T, ltb}
 use lib.IntN.{ℤ, pos, negsuc, nat_abs}
 use lib.Signed.{mag, non_neg, lt_z}
-use borrow.Author.Tests.{eq-eqb, ne_eqb, ltb-true}
+use borrow.Author.Tests.{ltb-true}
 use mir.Syntax.{w32, w64}
 use mir.Val.{Fits, to_z, of_z}
 use Rattle.lengths.specs.Saving.{saving, gains?}
@@ -16,22 +16,11 @@ use Rattle.lengths.specs.Table.{length_of}
 use Rattle.lengths.proofs.SignedSavings.{kept}
 use Rattle.lengths.proofs.Tables.{length_small}
 use Rattle.rules.specs.Pair.{exchange_saving, move_saving}
-use Rattle.sentences.specs.Reason.{move}
-use Rattle.reasons.specs.PairReason.{PairOutcome, shut, gain, end?, struck_at, third?, loop_of, exchange_of, moves?, move_of}
+use Rattle.sentences.specs.Reason.{Reason, third, move}
+use Rattle.std.specs.Prelude.{Option, Some, None}
+use Rattle.reasons.specs.PairReason.{gain, end?, struck_at, third?, loop_of, exchange_of, moves?, move_of}
 use Rattle.reasons.specs.PairReason.{pair_outcome}
-use Rattle.reasons.specs.asks.PairReason.{outcome_of, exchanged, moved, move_outcome, saving_outcome, ExchangeAsked, SavingAsked}
-use Rattle.reasons.specs.declared.pair.PairOutcome.TheVariants.{Shut, Stands}
-use Rattle.sentences.specs.asks.Sentence.{reason_of}
-use Rattle.sentences.specs.declared.reason.Reason.TheVariants.{Third}
-
-module _ (a b : ℕ) {p : ℕ} where
-  pub end_first : p ≡ a → true ≡ end? a b p
-  unfolding end?
-  end_first h = rw (end?, eq-eqb p a h)
-
-  pub end_second : (p ≡ a → ⊥) → eqb p b ≡ end? a b p
-  unfolding end?
-  end_second h = rw (end?, ne_eqb p a h)
+use Rattle.reasons.specs.asks.PairReason.{gained, exchanged, moved, move_outcome, saving_outcome, ExchangeAsked, SavingAsked}
 
 -- a saving above 0 is its own gain
 pub gain_cast : (z : ℤ) → gains? z ≡ true → mag z < 2 ^ 32 → T (non_neg z) × Fits w32 (nat_abs z)
@@ -44,36 +33,41 @@ unfolding gains? gain
 gain_abs (pos k) g = refl
 gain_abs (negsuc k) g = absurd (let z : ◌≡◌ {A = ℕ} 0 1 = cc in omega arith)
 
-pub gain_none : (z : ℤ) → gains? z ≡ false → 0 ≡ gain z
-unfolding gains? gain
-gain_none (pos zero) g = refl
-gain_none (pos (suc k)) g = absurd (let z : ◌≡◌ {A = ℕ} 0 1 = cc in omega arith)
-gain_none (negsuc k) g = refl
-
 -- the same by the code's test
 module _ (z : ℤ) (fit : mag z < 2 ^ 63) where
   pub cast_fits : lt_z (pos 0) (to_z w64 (of_z w64 z)) ≡ true → mag z < 2 ^ 32
       → T (non_neg (to_z w64 (of_z w64 z))) × Fits w32 (nat_abs (to_z w64 (of_z w64 z)))
   cast_fits t h = gain_cast (to_z w64 (of_z w64 z)) (sym (gains_above _) ∙ t) (rw (kept fit) h)
 
-  pub cast_gain : lt_z (pos 0) (to_z w64 (of_z w64 z)) ≡ true → nat_abs (to_z w64 (of_z w64 z)) ≡ gain z
-  cast_gain t = gain_abs (to_z w64 (of_z w64 z)) (sym (gains_above _) ∙ t) ∙ ap gain (kept fit)
+  pub cast_gained : lt_z (pos 0) (to_z w64 (of_z w64 z)) ≡ true → Some (nat_abs (to_z w64 (of_z w64 z))) ≡ gained z
+  unfolding gained
+  cast_gained t =
+      let g : gains? z ≡ true = ap gains? (sym (kept fit)) ∙ sym (gains_above _) ∙ t in
+      let e : nat_abs (to_z w64 (of_z w64 z)) ≡ gain z = gain_abs (to_z w64 (of_z w64 z)) (sym (gains_above _) ∙ t) ∙ ap gain (kept fit) in
+      rw (gained, g) (ap Some e)
 
-  pub no_gain : lt_z (pos 0) (to_z w64 (of_z w64 z)) ≡ false → 0 ≡ gain z
-  no_gain t = gain_none (to_z w64 (of_z w64 z)) (sym (gains_above _) ∙ t) ∙ ap gain (kept fit)
+  pub not_gained : lt_z (pos 0) (to_z w64 (of_z w64 z)) ≡ false → None ≡ gained z
+  unfolding gained
+  not_gained t =
+      let g : gains? z ≡ false = ap gains? (sym (kept fit)) ∙ sym (gains_above _) ∙ t in
+      rw (gained, g) refl
 
--- a gain is above 0 exactly where the saving is
-pub gain_some : (z : ℤ) {k : ℕ} → k ≡ gain z → 0 < k → gains? z ≡ true
-unfolding gains? gain
-gain_some (pos zero) e h = absurd (omega arith)
-gain_some (pos (suc k)) e h = refl
-gain_some (negsuc k) e h = absurd (omega arith)
+-- there is a gain exactly where the saving is above 0
+pub gained_some : (z : ℤ) {k : ℕ} → gained z ≡ Some k → (gains? z ≡ true) × (gain z ≡ k)
+unfolding gained
+gained_some z {k} h = by (gains? z) refl h
+  where
+    by : (t : Bool) → gains? z ≡ t → cond t (Some (gain z)) None ≡ Some k → (gains? z ≡ true) × (gain z ≡ k)
+    by true e g = (e, cc)
+    by false e g = absurd cc
 
-pub gain_zero : (z : ℤ) {k : ℕ} → k ≡ gain z → k ≤ 0 → gains? z ≡ false
-unfolding gains? gain
-gain_zero (pos zero) e h = refl
-gain_zero (pos (suc k)) e h = absurd (omega arith)
-gain_zero (negsuc k) e h = refl
+pub gained_none : (z : ℤ) → gained z ≡ None → gains? z ≡ false
+unfolding gained
+gained_none z h = by (gains? z) refl h
+  where
+    by : (t : Bool) → gains? z ≡ t → cond t (Some (gain z)) None ≡ None → gains? z ≡ false
+    by true e g = absurd cc
+    by false e g = e
 
 -- a saving is no larger than either sum
 pub saving_mag : (old new k : ℕ) → old < k → new ≤ k → mag (saving old new) < k
@@ -106,80 +100,87 @@ move_small {n} {table} {a} {b} {c} {x} {y} p =
 pub held_small : {r z : ℤ} → mag r < 2 ^ 63 → r ≡ z → mag z < 2 ^ 32 → mag (to_z w64 (of_z w64 r)) < 2 ^ 32
 held_small h e m = rw (kept h, e) m
 
-pub held_gain : {r z : ℤ} → mag r < 2 ^ 63 → r ≡ z → gain (to_z w64 (of_z w64 r)) ≡ gain z
-held_gain h e = ap gain (kept h ∙ e)
+pub held_gained : {r z : ℤ} → mag r < 2 ^ 63 → r ≡ z → gained (to_z w64 (of_z w64 r)) ≡ gained z
+held_gained h e = ap gained (kept h ∙ e)
 
 -- the ways out of `move_of`
-module _ (a b c x y saved : ℕ) {o : PairOutcome} where
-  pub move_low : (end? a b x && ltb x c) ≡ true → o ≡ shut (move x (min c y) (max c y) saved) → o ≡ shut (moved a b c x y saved)
+module _ (a b c x y saved : ℕ) {q : Reason} where
+  pub move_low : (end? a b x && ltb x c) ≡ true → q ≡ move x (min c y) (max c y) saved → q ≡ moved a b c x y saved
   unfolding moved
   move_low h e = e ∙ rw (moved, h)
 
   module _ (h : (end? a b x && ltb x c) ≡ false) where
-    pub move_high : (end? a b y && ltb y c) ≡ true → o ≡ shut (move y (min c x) (max c x) saved) → o ≡ shut (moved a b c x y saved)
+    pub move_high : (end? a b y && ltb y c) ≡ true → q ≡ move y (min c x) (max c x) saved → q ≡ moved a b c x y saved
     unfolding moved
     move_high g e = e ∙ rw (moved, h, g)
 
-    pub move_point : (end? a b y && ltb y c) ≡ false → o ≡ shut (move c (min a b) (max a b) saved) → o ≡ shut (moved a b c x y saved)
+    pub move_point : (end? a b y && ltb y c) ≡ false → q ≡ move c (min a b) (max a b) saved → q ≡ moved a b c x y saved
     unfolding moved
     move_point g e = e ∙ rw (moved, h, g)
 
 -- of `move_outcome`
 module _ (len : ℕ → ℕ → ℕ) (a b c x y : ℕ) where
-  pub move_end : end? a b c ≡ true → outcome_of Stands ≡ move_outcome len a b c x y
-  unfolding outcome_of move_outcome moves?
+  pub move_end : end? a b c ≡ true → None ≡ move_outcome len a b c x y
+  unfolding move_outcome moves?
   move_end h = rw (move_outcome, moves?, h)
 
-  module _ (h : end? a b c ≡ false) {saved : ℕ} (s : saved ≡ gain (move_saving len len c x y a b)) where
-    pub move_none : saved ≡ 0 → outcome_of Stands ≡ move_outcome len a b c x y
-    unfolding outcome_of move_outcome moves?
-    move_none e = rw (move_outcome, moves?, h, gain_zero (move_saving len len c x y a b) s (omega arith))
+  module _ (h : end? a b c ≡ false) where
+    pub move_none : gained (move_saving len len c x y a b) ≡ None → None ≡ move_outcome len a b c x y
+    unfolding move_outcome moves?
+    move_none e = rw (move_outcome, moves?, h, gained_none (move_saving len len c x y a b) e)
 
-    pub move_some : {o : PairOutcome} → (saved ≡ 0 → ⊥) → o ≡ shut (moved a b c x y saved) → o ≡ move_outcome len a b c x y
+    pub move_some : {saved : ℕ} {q : Reason} → gained (move_saving len len c x y a b) ≡ Some saved → q ≡ moved a b c x y saved
+        → Some q ≡ move_outcome len a b c x y
     unfolding move_outcome moves? move_of moved
-    move_some g e =
-        e ∙ ap (λ (k : ℕ). shut (moved a b c x y k)) s
-        ∙ rw (move_outcome, moves?, h, gain_some (move_saving len len c x y a b) s (omega arith))
+    move_some {saved} e g =
+        let k = gained_some (move_saving len len c x y a b) e in
+        ap Some (g ∙ ap (moved a b c x y) (sym k.1)) ∙ rw (move_outcome, moves?, h, k.0)
 
 -- of `saving_outcome`
-module _ (len : ℕ → ℕ → ℕ) (a b c x y : ℕ) {o : PairOutcome} {by-x : ℕ} (s : by-x ≡ gain (exchange_saving len len c x a b)) where
-  pub exchange_first : 0 < by-x → o ≡ shut (exchanged a b c x by-x) → o ≡ saving_outcome len a b c x y
+module _ (len : ℕ → ℕ → ℕ) (a b c x y : ℕ) where
+  pub exchange_first : {saved : ℕ} {q : Reason} → gained (exchange_saving len len c x a b) ≡ Some saved → q ≡ exchanged a b c x saved
+      → Some q ≡ saving_outcome len a b c x y
   unfolding saving_outcome exchange_of
-  exchange_first h e = e ∙ ap (λ (k : ℕ). shut (exchanged a b c x k)) s ∙ rw (saving_outcome, gain_some (exchange_saving len len c x a b) s h)
+  exchange_first e g =
+      let k = gained_some (exchange_saving len len c x a b) e in
+      ap Some (g ∙ ap (exchanged a b c x) (sym k.1)) ∙ rw (saving_outcome, k.0)
 
-  module _ (h : by-x ≤ 0) {by-y : ℕ} (t : by-y ≡ gain (exchange_saving len len c y a b)) where
-    pub exchange_second : 0 < by-y → o ≡ shut (exchanged a b c y by-y) → o ≡ saving_outcome len a b c x y
+  module _ (h : gained (exchange_saving len len c x a b) ≡ None) where
+    pub exchange_second : {saved : ℕ} {q : Reason} → gained (exchange_saving len len c y a b) ≡ Some saved → q ≡ exchanged a b c y saved
+        → Some q ≡ saving_outcome len a b c x y
     unfolding saving_outcome exchange_of
-    exchange_second g e =
-        e ∙ ap (λ (k : ℕ). shut (exchanged a b c y k)) t
-        ∙ rw (saving_outcome, gain_zero (exchange_saving len len c x a b) s h, gain_some (exchange_saving len len c y a b) t g)
+    exchange_second e g =
+        let k = gained_some (exchange_saving len len c y a b) e in
+        ap Some (g ∙ ap (exchanged a b c y) (sym k.1)) ∙ rw (saving_outcome, gained_none (exchange_saving len len c x a b) h, k.0)
 
-    pub exchange_none : by-y ≤ 0 → o ≡ move_outcome len a b c x y → o ≡ saving_outcome len a b c x y
+    pub exchange_none : {o : Option Reason} → gained (exchange_saving len len c y a b) ≡ None → o ≡ move_outcome len a b c x y
+        → o ≡ saving_outcome len a b c x y
     unfolding saving_outcome
-    exchange_none g e =
-        e ∙ rw (saving_outcome, gain_zero (exchange_saving len len c x a b) s h, gain_zero (exchange_saving len len c y a b) t g)
+    exchange_none e g =
+        g ∙ rw (saving_outcome, gained_none (exchange_saving len len c x a b) h, gained_none (exchange_saving len len c y a b) e)
 
 -- of `pair_outcome`
 module _ (len : ℕ → ℕ → ℕ) (open? : ℕ → ℕ → Bool) (a b c x y : ℕ) where
-  pub struck_first : {o : PairOutcome} → open? c x ≡ false → o ≡ shut (struck_at c x) → o ≡ pair_outcome len open? a b c x y
+  pub struck_first : {q : Reason} → open? c x ≡ false → q ≡ struck_at c x → Some q ≡ pair_outcome len open? a b c x y
   unfolding pair_outcome
-  struck_first h e = e ∙ rw (pair_outcome, h)
+  struck_first h e = ap Some e ∙ rw (pair_outcome, h)
 
   module _ (g : open? c x ≡ true) where
-    pub struck_second : {o : PairOutcome} → open? c y ≡ false → o ≡ shut (struck_at c y) → o ≡ pair_outcome len open? a b c x y
+    pub struck_second : {q : Reason} → open? c y ≡ false → q ≡ struck_at c y → Some q ≡ pair_outcome len open? a b c x y
     unfolding pair_outcome
-    struck_second h e = e ∙ rw (pair_outcome, g, h)
+    struck_second h e = ap Some e ∙ rw (pair_outcome, g, h)
 
-    module _ (q : open? c y ≡ true) where
-      pub third_told : third? a b c x y ≡ true → outcome_of (Shut (Third c)) ≡ pair_outcome len open? a b c x y
-      unfolding outcome_of reason_of pair_outcome
-      third_told h = rw (pair_outcome, g, q, h)
+    module _ (k : open? c y ≡ true) where
+      pub third_told : third? a b c x y ≡ true → Some (third c) ≡ pair_outcome len open? a b c x y
+      unfolding pair_outcome
+      third_told h = rw (pair_outcome, g, k, h)
 
-      module _ (d : third? a b c x y ≡ false) {o : PairOutcome} where
-        pub loop_told : (end? a b x && end? a b y) ≡ true → o ≡ shut (loop_of a b c) → o ≡ pair_outcome len open? a b c x y
+      module _ (d : third? a b c x y ≡ false) where
+        pub loop_told : {q : Reason} → (end? a b x && end? a b y) ≡ true → q ≡ loop_of a b c → Some q ≡ pair_outcome len open? a b c x y
         unfolding pair_outcome
-        loop_told h e = e ∙ rw (pair_outcome, g, q, d, h)
+        loop_told h e = ap Some e ∙ rw (pair_outcome, g, k, d, h)
 
-        pub savings_told : (end? a b x && end? a b y) ≡ false → o ≡ saving_outcome len a b c x y → o ≡ pair_outcome len open? a b c x y
+        pub savings_told : {o : Option Reason} → (end? a b x && end? a b y) ≡ false → o ≡ saving_outcome len a b c x y
+            → o ≡ pair_outcome len open? a b c x y
         unfolding pair_outcome saving_outcome move_outcome
-        savings_told h e = e ∙ rw (pair_outcome, g, q, d, h)
+        savings_told h e = e ∙ rw (pair_outcome, g, k, d, h)

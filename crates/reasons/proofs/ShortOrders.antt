@@ -26,7 +26,6 @@ use Rattle.reasons.proofs.Conditions.{degree_two}
 
 module _ (vs ws : List ℕ) (same : (x : ℕ) → count x vs ≡ count x ws) where
   as_long : length vs ≡ length ws
-  unfolding same_points?
   as_long = eqb-true (length vs) (length ws) (and_left (eqb (length vs) (length ws)) (all_named? ws vs) (same_complete vs ws same))
 
   still_in : (x : ℕ) → In x ws → In x vs

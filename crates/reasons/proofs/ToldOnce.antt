@@ -12,7 +12,8 @@ use Rattle.marks.specs.Mark.{open_mark, open_at, open_up_to, open_in}
 use Rattle.argument.specs.Argument.{Cases, split, CompleteArgument}
 use Rattle.sheets.specs.Rules.{rules_of}
 use Rattle.sentences.specs.Reason as why
-use Rattle.reasons.specs.PairReason.{shut, stands, pair_outcome}
+use Rattle.std.specs.Prelude.{Some, None}
+use Rattle.reasons.specs.PairReason.{pair_outcome}
 use Rattle.reasons.specs.Tells.{FirstPair, CaseIn, Tells}
 use Rattle.reasons.proofs.Computed.{told_struck, told_third, told_loop, told_exchange, told_move, feasible_stands}
 use Rattle.reasons.proofs.FirstSplit.{one_case, cases_rise, no_three_opt_told, no_order_told}
@@ -21,10 +22,10 @@ pub open_symmetric : (n : ℕ) (marks : List ℕ) (p q : ℕ) → open_in n mark
 unfolding open_up_to
 open_symmetric n marks p q = ap (open_at open_mark marks) (place_symmetric n p q)
 
-pub shut_inj : {r q : why.Reason} → shut r ≡ shut q → r ≡ q
+pub shut_inj : {r q : why.Reason} → Some r ≡ Some q → r ≡ q
 shut_inj e = cc
 
-pub shut_stands : {r : why.Reason} → shut r ≡ stands → ⊥
+pub shut_stands : {r : why.Reason} → Some r ≡ None → ⊥
 shut_stands e = let z : ◌≡◌ {A = ℕ} 0 1 = cc in omega arith
 
 split_inj : {w v : ℕ} {cs ds : Cases} → split w cs ≡ split v ds → w ≡ v
@@ -33,8 +34,8 @@ split_inj e = cc
 module _ (n : ℕ) (table marks : List ℕ) {a b c x y : ℕ} {cs : Cases} (P : FirstPair n a b c x y) (argument : CompleteArgument (rules_of n table marks) a b c cs) where
   -- a reason that is due is the one computed, or the further split of the pair's case
   abbrev As : why.Reason → Type 0
-  As r = (pair_outcome (length_of n table) (open_in n marks) a b c x y ≡ shut r)
-      ⊎ ((pair_outcome (length_of n table) (open_in n marks) a b c x y ≡ stands) × (w : ℕ) × (further : Cases) × (r ≡ why.split w) × CaseIn cs x y (split w further))
+  As r = (pair_outcome (length_of n table) (open_in n marks) a b c x y ≡ Some r)
+      ⊎ ((pair_outcome (length_of n table) (open_in n marks) a b c x y ≡ None) × (w : ℕ) × (further : Cases) × (r ≡ why.split w) × CaseIn cs x y (split w further))
 
   told_as : (r : why.Reason) → Tells n (length_of n table) (open_in n marks) (edge a b ∷ []) c cs x y r → As r
   unfolding Tells

@@ -3,15 +3,10 @@
 -- table, and K of one edge: cx stands before cy in edge order, since x < y; a third edge can only be at c; a loop is a,
 -- b and c; an exchange is of cx or cy with ab; a moved point is c or an end of ab in the pair, which then saves the
 -- same.
-use Rattle.std.specs.Prelude.{ℕ, min, max, Bool, not, cond, ◌&&◌, ◌||◌, eqb, ltb, ℤ, pos, negsuc}
+use Rattle.std.specs.Prelude.{ℕ, min, max, Bool, not, cond, ◌&&◌, ◌||◌, eqb, ltb, ℤ, pos, negsuc, Option, Some, None}
 use Rattle.lengths.specs.Saving.{gains?}
 use Rattle.rules.specs.Pair.{exchange_saving, move_saving}
 use Rattle.sentences.specs.Reason.{Reason, struck, third, loop, exchange, move}
-
--- what becomes of a pair: a reason shuts it out, or it stands
-pub data PairOutcome : Type 0 where
-  shut : Reason → PairOutcome
-  stands : PairOutcome
 
 -- a saving above 0, as a plain number
 unfoldable pub gain : ℤ → ℕ
@@ -19,19 +14,19 @@ gain (pos k) = k
 gain (negsuc k) = 0
 
 -- p is an end of ab
-unfoldable pub end? : (a b p : ℕ) → Bool
+abbrev pub end? : (a b p : ℕ) → Bool
 end? a b p = eqb p a || eqb p b
 
 -- the edge of c and z, lower point first
-unfoldable pub struck_at : (c z : ℕ) → Reason
+abbrev pub struck_at : (c z : ℕ) → Reason
 struck_at c z = struck (min c z) (max c z)
 
 -- c is an end of ab, and gets cx and cy besides
-unfoldable pub third? : (a b c x y : ℕ) → Bool
+abbrev pub third? : (a b c x y : ℕ) → Bool
 third? a b c x y = end? a b c && not (end? a b x || end? a b y)
 
 -- the loop of ab and c, its points rising
-unfoldable pub loop_of : (a b c : ℕ) → Reason
+abbrev pub loop_of : (a b c : ℕ) → Reason
 loop_of a b c = loop (min c (min a b)) (max (min a b) (min c (max a b))) (max c (max a b))
 
 -- the exchange of cz, the pair's edge, and ab
@@ -50,13 +45,13 @@ move_of len a b c x y =
     (cond (end? a b y && ltb y c) (move y (min c x) (max c x) (gain (move_saving len len c x y a b)))
     (move c (min a b) (max a b) (gain (move_saving len len c x y a b))))
 
--- 01's tests in their order
-unfoldable pub pair_outcome : (len : ℕ → ℕ → ℕ) (open? : ℕ → ℕ → Bool) (a b c x y : ℕ) → PairOutcome
+-- 01's tests in their order: what becomes of a pair is the reason that shuts it out, or it stands, for which there is none
+unfoldable pub pair_outcome : (len : ℕ → ℕ → ℕ) (open? : ℕ → ℕ → Bool) (a b c x y : ℕ) → Option Reason
 pair_outcome len open? a b c x y =
-    cond (not (open? c x)) (shut (struck_at c x))
-    (cond (not (open? c y)) (shut (struck_at c y))
-    (cond (third? a b c x y) (shut (third c))
-    (cond (end? a b x && end? a b y) (shut (loop_of a b c))
-    (cond (gains? (exchange_saving len len c x a b)) (shut (exchange_of len a b c x))
-    (cond (gains? (exchange_saving len len c y a b)) (shut (exchange_of len a b c y))
-    (cond (moves? len a b c x y) (shut (move_of len a b c x y)) stands))))))
+    cond (not (open? c x)) (Some (struck_at c x))
+    (cond (not (open? c y)) (Some (struck_at c y))
+    (cond (third? a b c x y) (Some (third c))
+    (cond (end? a b x && end? a b y) (Some (loop_of a b c))
+    (cond (gains? (exchange_saving len len c x a b)) (Some (exchange_of len a b c x))
+    (cond (gains? (exchange_saving len len c y a b)) (Some (exchange_of len a b c y))
+    (cond (moves? len a b c x y) (Some (move_of len a b c x y)) None))))))

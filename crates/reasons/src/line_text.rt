@@ -9,11 +9,11 @@ ghost use Rattle.sentences.specs.asks.Sentence.{reason_of};
 ghost use Rattle.reasons.specs.asks.PairReason.{PairAsked};
 ghost use Rattle.reasons.specs.asks.LineText.{FittedWithin, most_text, ToldAt, outcomes_of, split_text, TextAsked, EdgeAsked, EdgeTold};
 
-use crate::pair::{PairOutcome, pair_outcome};
-use endian::bytes::{count16, number16};
+use crate::pair::pair_outcome;
+use endian::bytes::{Number, count_of};
 use lengths::edge;
-use lengths::edge::following;
-use sentences::reason::Reason;
+use lengths::edge::{NextEdge, following};
+use sentences::reason::{Pair, Reason};
 use sentences::sentence::{put_sentence, sentence_length};
 use sheets::sheet::Sheet;
 
@@ -44,22 +44,20 @@ pub struct TextPosition {
 fn records_before(i: u16) -> usize
     ensures { result ≡ i - 1 }
 {
-    if i == 0 {
-        return 0;
-    }
-    i as usize - 1
+    i.saturating_sub(1) as usize
 }
 
-// Number f of record i, 0 where the sheet has no such record.
+// Number f of record i, 0 where the sheet has no such record: the definition `field` asks that, and `Sheet::record` reads
+// only what is there.
 pub fn field(sheet: &[u8], i: u16, f: usize) -> u16
     requires { f < record_size }
     ensures { result ≡ field (whole16 sheet.now) i f }
 {
     let at = records_before(i) * Sheet::RECORD_SIZE + f;
-    if count16(sheet) <= at {
+    if count_of::<u16>(sheet) <= at {
         return 0;
     }
-    number16(sheet, at)
+    u16::number(sheet, at)
 }
 
 // What is told of the pair x, y, where record i is the case of the next standing pair.
@@ -80,30 +78,27 @@ fn tell_pair(
         (whole16 sheet.now) i result }
 {
     match pair_outcome(n, table, marks, a, b, c, x, y) {
-        PairOutcome::Shut(reason) => ToldPair {
+        Some(reason) => ToldPair {
             reason: reason,
             case: i,
         },
-        PairOutcome::Stands => {
-            let reason = Reason::Split(field(sheet, i, POINT));
-            ToldPair {
-                reason: reason,
-                case: field(sheet, i, NEXT),
-            }
-        }
+        None => ToldPair {
+            reason: Reason::Split(field(sheet, i, POINT)),
+            case: field(sheet, i, NEXT),
+        },
     }
 }
 
 // Writes the sentence of a reason where there is room for it; the next place in any case.
-fn put_fitting(c: u16, x: u16, y: u16, reason: Reason, text: &mut [u8], at: usize) -> usize
+fn put_fitting(pair: Pair, reason: Reason, text: &mut [u8], at: usize) -> usize
     requires { at < 2 ^ 40 }
-    ensures { FittedWithin sentence_bytes text.old at (sentence c x y (reason_of reason)) result text.new }
+    ensures { FittedWithin sentence_bytes text.old at (sentence pair.c pair.x pair.y (reason_of reason)) result text.new }
 {
-    let end = at + sentence_length(c, x, y, reason);
+    let end = at + sentence_length(pair, reason);
     if text.len() < end {
         return end;
     }
-    put_sentence(c, x, y, reason, text, at)
+    put_sentence(pair, reason, text, at)
 }
 
 // Tells the edge xy: an edge of c is no pair.
@@ -125,16 +120,12 @@ fn tell_edge(
     ensures { EdgeTold (outcomes_of n (whole32 table.now) (marks_of n marks.now) a b c) (whole16 sheet.now)
         c i x y text.old at result text.new }
 {
-    if x == c {
-        return TextPosition { at: at, case: i };
-    }
-    if y == c {
+    if x == c || y == c {
         return TextPosition { at: at, case: i };
     }
     let told = tell_pair(n, table, marks, sheet, a, b, c, x, y, i);
-    let reason = told.reason;
     TextPosition {
-        at: put_fitting(c, x, y, reason, text, at),
+        at: put_fitting(Pair { c, x, y }, told.reason, text, at),
         case: told.case,
     }
 }
@@ -158,22 +149,24 @@ pub fn put_text(
         result text.new }
 {
     let points = n as usize;
-    let edges = edge::count(n);
-    let mut x: usize = 1;
-    let mut y: usize = 2;
-    let mut case = first;
-    let mut at: usize = 0;
-    let mut k: usize = 0;
-    while k < edges {
-        let spot = tell_edge(
-            n, table, marks, sheet, a, b, c, x as u16, y as u16, case, text, at,
+    let mut edge = NextEdge { low: 1, high: 2 };
+    let mut spot = TextPosition { at: 0, case: first };
+    for _ in 0..edge::count(n) {
+        spot = tell_edge(
+            n,
+            table,
+            marks,
+            sheet,
+            a,
+            b,
+            c,
+            edge.low as u16,
+            edge.high as u16,
+            spot.case,
+            text,
+            spot.at,
         );
-        at = spot.at;
-        case = spot.case;
-        let next = following(points, x, y);
-        x = next.low;
-        y = next.high;
-        k += 1;
+        edge = following(points, edge.low, edge.high);
     }
-    at
+    spot.at
 }

@@ -9,30 +9,25 @@ use mathlib.Core.List.{List}
 use native.Mathlib.Omega.{arith}
 use lib.ListN.{length, get_or}
 use Rattle.endian.specs.Bytes.{little_endian}
-use Rattle.receipts.specs.Receipt.{release, stopped?, flag_of, Fits}
+use Rattle.receipts.specs.Receipt.{release, stopped?, Fits}
 use Rattle.receipts.specs.View.{examiner_view, hidden, shown, candidate_view, view_bytes}
 use Rattle.receipts.specs.declared.receipt.Receipt.{Receipt}
 
 -- releasing changes nothing else, and twice is once
 module _ (s : Receipt) where
   pub release_refusal : (release s).refusal ≡ s.refusal
-  unfolding release
   release_refusal = refl
 
   pub release_rec : (release s).rec ≡ s.rec
-  unfolding release
   release_rec = refl
 
   pub release_lines : (release s).lines ≡ s.lines
-  unfolding release
   release_lines = refl
 
   pub release_released : (release s).released ≡ true
-  unfolding release
   release_released = refl
 
   pub release_twice : release (release s) ≡ release s
-  unfolding release
   release_twice = refl
 
   pub view_length : length (examiner_view s) ≡ view_bytes
@@ -41,7 +36,6 @@ module _ (s : Receipt) where
 
   -- RELEASED: the candidate sees the examiner's bytes
   pub released_alike : s.released ≡ true → candidate_view s ≡ examiner_view s
-  unfolding shown
   released_alike h = rw (shown, h)
 
 -- two bytes are those of one number of 16 bits only
@@ -69,7 +63,7 @@ module _ (s t : Receipt) (e : examiner_view s ≡ examiner_view t) where
   same_refusal = byte_same 0
 
   same_released : s.released ≡ t.released
-  unfolding examiner_view flag_of
+  unfolding examiner_view
   same_released = bool_known 1 (omega arith) s.released t.released (byte_same 1)
 
   same_rec : s.rec < 65536 → t.rec < 65536 → s.rec ≡ t.rec
@@ -87,7 +81,6 @@ examiner_tells {s} {t} f g e =
 
 -- until release
 until_release : (s : Receipt) → s.released ≡ false → shown s ≡ hidden s
-unfolding shown
 until_release s h = rw (shown, h)
 
 -- UNRELEASED: two slips read the same to the candidate, byte for byte, exactly when they are alike in the lines and in
@@ -95,7 +88,6 @@ until_release s h = rw (shown, h)
 -- they tell both, since 0 is not 255 and two bytes are one number's.
 pub unreleased_alike : {s t : Receipt} → Fits s → Fits t → s.released ≡ false → t.released ≡ false
     → (candidate_view s ≡ candidate_view t) ↔ ((s.lines ≡ t.lines) × (stopped? s ≡ stopped? t))
-unfolding hidden
 unreleased_alike {s} {t} f g p q = (there, back)
   where
     there : candidate_view s ≡ candidate_view t → (s.lines ≡ t.lines) × (stopped? s ≡ stopped? t)

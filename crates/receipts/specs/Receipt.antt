@@ -11,19 +11,19 @@ new_receipt (accepted u) lines = record { refusal = 0; rec = 0; lines = lines; r
 new_receipt (refused number at) lines = record { refusal = number; rec = at; lines = lines; released = false }
 
 -- the slip of what a marked sheet answers
-unfoldable pub receipt_of : Result (List ℕ) → Receipt
+abbrev pub receipt_of : Result (List ℕ) → Receipt
 receipt_of r = new_receipt r.verdict r.lines
 
 -- "releasing changes nothing else"
-unfoldable pub release : Receipt → Receipt
+abbrev pub release : Receipt → Receipt
 release s = record { refusal = s.refusal; rec = s.rec; lines = s.lines; released = true }
 
 -- the sheet stopped: there is a refusal
-unfoldable pub stopped? : Receipt → Bool
+abbrev pub stopped? : Receipt → Bool
 stopped? s = not (eqb s.refusal 0)
 
 -- released, as a number: 0 or 1
-unfoldable pub flag_of : Bool → ℕ
+abbrev pub flag_of : Bool → ℕ
 flag_of b = cond b 1 0
 
 -- the values have 8 and 16 bits, as in the code they always have

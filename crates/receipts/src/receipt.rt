@@ -3,13 +3,13 @@ ghost use Rattle.std.specs.Prelude.{[], ◌≡◌};
 ghost use Rattle.sheets.specs.Verdict.{result_of};
 ghost use Rattle.receipts.specs.Receipt.{receipt_of, release};
 
-use lengths::refusal;
+use lengths::refusal::NO_RECORD;
 use sheets::verdict::Verdict;
 
 // A receipt is what 02 calls a slip.
 // The refusal number or 0, the record (0 where no record is at fault), the lines accepted, and whether the slip is
-// released.
-#[derive(Drop)]
+// released. The refusal is a number, and no enum: C hands in any byte (`receipt_in`).
+#[derive(Clone, Copy)]
 pub struct Receipt {
     pub refusal: u8,
     pub rec: u16,
@@ -22,20 +22,16 @@ pub fn new_receipt(verdict: Verdict) -> Receipt
     ensures { result ≡ receipt_of (result_of verdict []) }
 {
     match verdict {
-        Verdict::Accepted { lines } => Receipt {
+        Ok(lines) => Receipt {
             refusal: Receipt::NO_REFUSAL,
-            rec: refusal::NO_RECORD,
-            lines: lines,
+            rec: NO_RECORD,
+            lines,
             released: false,
         },
-        Verdict::Refused {
-            refusal,
-            record,
-            lines,
-        } => Receipt {
-            refusal: refusal,
-            rec: record,
-            lines: lines,
+        Err(stopped) => Receipt {
+            refusal: stopped.refused.refusal.number(),
+            rec: stopped.refused.at,
+            lines: stopped.lines,
             released: false,
         },
     }
@@ -46,10 +42,8 @@ pub fn release(receipt: Receipt) -> Receipt
     ensures { result ≡ release receipt }
 {
     Receipt {
-        refusal: receipt.refusal,
-        rec: receipt.rec,
-        lines: receipt.lines,
         released: true,
+        ..receipt
     }
 }
 

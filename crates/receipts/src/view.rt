@@ -6,8 +6,7 @@ ghost use Rattle.receipts.specs.View.{examiner_view, shown, candidate_view, View
 
 use crate::receipt::Receipt;
 use endian::bytes::encode16;
-use lengths::outcome::{Outcome, refused};
-use lengths::refusal;
+use lengths::refusal::{NO_RECORD, Refusal, Refused};
 
 // The number of 16 bits whose bytes are the refusal number and whether the slip is released, 0 or 1.
 fn first_two(refusal: u8, released: bool) -> u16
@@ -20,11 +19,11 @@ fn first_two(refusal: u8, released: bool) -> u16
 }
 
 // What the examiner sees: the refusal number, whether the slip is released, the record and the lines.
-pub fn examiner_view(receipt: Receipt, bytes: &mut [u8]) -> Outcome
+pub fn examiner_view(receipt: Receipt, bytes: &mut [u8]) -> Result<(), Refused>
     ensures { ViewedAs (examiner_view receipt) bytes.old result bytes.new }
 {
     if bytes.len() < Receipt::BYTES {
-        return refused(refusal::BUFFER);
+        return Err(Refused::from(Refusal::Buffer));
     }
     let numbers = [
         first_two(receipt.refusal, receipt.released),
@@ -32,7 +31,7 @@ pub fn examiner_view(receipt: Receipt, bytes: &mut [u8]) -> Outcome
         receipt.lines,
     ];
     encode16(&numbers, bytes);
-    Outcome::Done
+    Ok(())
 }
 
 // The slip that the candidate is shown: until release, only whether the sheet stopped, and the lines.
@@ -48,14 +47,14 @@ fn shown(receipt: Receipt) -> Receipt
     }
     Receipt {
         refusal: stopped,
-        rec: refusal::NO_RECORD,
+        rec: NO_RECORD,
         lines: receipt.lines,
         released: false,
     }
 }
 
 // What the candidate sees: the examiner's bytes of the slip that the candidate is shown.
-pub fn candidate_view(receipt: Receipt, bytes: &mut [u8]) -> Outcome
+pub fn candidate_view(receipt: Receipt, bytes: &mut [u8]) -> Result<(), Refused>
     ensures { ViewedAs (candidate_view receipt) bytes.old result bytes.new }
 {
     examiner_view(shown(receipt), bytes)

@@ -1,6 +1,6 @@
 -- What the functions of `report` ask of each other, and the whole text from a header's. Assumes nothing.
 use Prim.Native.Nat.{ℕ, ◌+◌, ◌*◌, ◌/◌, ◌≤◌}
-use mathlib.Core.Path.{◌≡◌, sym, ◌∙◌, ap, ap₂}
+use mathlib.Core.Path.{◌≡◌, refl, sym, ◌∙◌, ap, ap₂}
 use mathlib.Core.List.{List, ◌++◌}
 use native.Mathlib.Omega.{arith}
 use lib.ListN.{length, take, length-take, take-append-drop}
@@ -10,12 +10,14 @@ use Rattle.lengths.proofs.Instances.{in-range}
 use Rattle.lengths.specs.Instance.{most_edges}
 use Rattle.marks.specs.Packed.{packed_bytes, packed_size}
 use Rattle.endian.proofs.Reading.{whole_count32}
-use Rattle.sheets.specs.Verdict.{result_of}
-use Rattle.sheets.specs.declared.verdict.Verdict.{Verdict}
-use Rattle.sheets.specs.declared.verdict.Verdict.TheVariants.{Accepted, Refused}
+use Rattle.std.specs.Prelude.{Result, Ok, Err}
+use Rattle.lengths.specs.Refusal.{refusal_number}
+use Rattle.lengths.specs.declared.refusal.Refusal.{Refusal}
+use Rattle.sheets.specs.Verdict.{Verdict, result_of}
+use Rattle.sheets.specs.declared.verdict.Stopped.{Stopped}
 use Rattle.text.specs.Words.{Wrote}
 use Rattle.report.specs.Lines.{all_lines}
-use Rattle.report.specs.asks.Lines.{LinesAsked}
+use Rattle.report.specs.asks.Lines.{told, LinesAsked}
 use Rattle.report.specs.Header.{header_of}
 use Rattle.report.specs.Report.{marked_text, text_for, output_of, Reported}
 use Rattle.report.specs.asks.Report.{MarkingAsked, InstanceAsked, Places}
@@ -23,15 +25,10 @@ use Rattle.report.specs.declared.header.Header.{Header}
 use Rattle.lengths.proofs.Edges.{edges_few}
 
 -- the lines of a verdict
-pub wrote_accepted : (n : ℕ) (marks : List ℕ) {v : Verdict} {lines : ℕ} {out left : List ℕ} {r : ℕ} → v ≡ Accepted lines
-    → Wrote out 0 (all_lines n 0 0 marks) r left → Wrote out 0 (marked_text n (result_of v marks)) r left
+pub verdict_text : (n : ℕ) (v : Verdict) (marks : List ℕ) → all_lines n (told v).0 (told v).1 marks ≡ marked_text n (result_of v marks)
 unfolding marked_text
-wrote_accepted n marks e w = rw e w
-
-pub wrote_refusal : (n : ℕ) (marks : List ℕ) {v : Verdict} {number rec lines : ℕ} {out left : List ℕ} {r : ℕ} → v ≡ Refused number rec lines
-    → Wrote out 0 (all_lines n number rec marks) r left → Wrote out 0 (marked_text n (result_of v marks)) r left
-unfolding marked_text
-wrote_refusal n marks e w = rw e w
+verdict_text n (Ok lines) marks = refl
+verdict_text n (Err stopped) marks = refl
 
 -- what the lines ask of an instance whose records were marked
 pub lines_asked : {n : ℕ} {set marks out : List ℕ} → MarkingAsked n set out → length marks ≡ edge_count n → LinesAsked n marks out
@@ -74,10 +71,10 @@ places {n} {e} {k} table marks p h g b c = record {
 }
 
 -- the whole text
-pub reported : (file : List ℕ) {h : Header} {out left : List ℕ} {r : ℕ} → header_of file ≡ h → Wrote out 0 (text_for h file) r left → Reported file out r left
+pub reported : (file : List ℕ) {h : Result Header Refusal} {out left : List ℕ} {r : ℕ} → header_of file ≡ h → Wrote out 0 (text_for h file) r left → Reported file out r left
 unfolding output_of
 reported file {h} {out} {left} {r} e w =
-    let is : text_for h file ≡ output_of file = sym (ap (λ (g : Header). text_for g file) e) in
+    let is : text_for h file ≡ output_of file = sym (ap (λ (g : Result Header Refusal). text_for g file) e) in
     let size : r ≡ length (output_of file) = w.next ∙ omega (arith, ap length is) in
     record {
       whole = sym (take-append-drop r left) ∙ ap₂ ◌++◌ (w.front ∙ is) w.rest;

@@ -1,12 +1,13 @@
 -- The program's input (01, "Layers and program"): rule and n, 2n coordinates, then records to the end; and the
 -- tests of the file.
-use Rattle.std.specs.Prelude.{ℕ, ◌+◌, ◌*◌, List, leb, length, take, drop, get_or}
+use Rattle.std.specs.Prelude.{ℕ, ◌+◌, ◌*◌, List, Result, Ok, Err, leb, length, take, drop, get_or}
 use Rattle.lengths.specs.Instance.{in_range, most_points}
 use Rattle.lists.specs.Test.{unless}
 use Rattle.sheets.specs.Sheet.{most_numbers}
 use Rattle.endian.specs.Bytes.{whole16, whole32}
+use Rattle.lengths.specs.declared.refusal.Refusal.{Refusal}
+use Rattle.lengths.specs.declared.refusal.Refusal.TheVariants as why
 use Rattle.report.specs.declared.header.Header.{Header}
-use Rattle.report.specs.declared.header.Header.TheVariants.{Read, Refused}
 
 -- "rule and n (32 bits each), 2n coordinates (32 bits each, first all of point 1), then records to the end; at
 -- most 65,448 bytes"
@@ -37,12 +38,16 @@ coordinates_in n file = whole32 (take (point_bytes * n) (drop header_bytes file)
 unfoldable pub records_in : ℕ → List ℕ → List ℕ
 records_in n file = whole16 (drop (header_bytes + point_bytes * n) file)
 
+-- the number of the rule, and of points
+abbrev pub header : (rule points : ℕ) → Header
+header rule points = record { rule = rule; points = points }
+
 -- "A file under 8 bytes gets 7. Once n has passed test 1, a file that ends inside the coordinates or is longer than
 -- 65,448 bytes gets 7"
-unfoldable pub header_of : List ℕ → Header
+unfoldable pub header_of : List ℕ → Result Header Refusal
 header_of file =
-    unless (leb header_bytes (length file)) (Refused 7)
-    (unless (in_range (points_in file)) (Refused 1)
-    (unless (leb (header_bytes + point_bytes * points_in file) (length file)) (Refused 7)
-    (unless (leb (length file) most_bytes) (Refused 7)
-    (Read (rule_in file) (points_in file)))))
+    unless (leb header_bytes (length file)) (Err why.Sheet)
+    (unless (in_range (points_in file)) (Err why.Points)
+    (unless (leb (header_bytes + point_bytes * points_in file) (length file)) (Err why.Sheet)
+    (unless (leb (length file) most_bytes) (Err why.Sheet)
+    (Ok (header (rule_in file) (points_in file))))))

@@ -3,16 +3,16 @@ ghost use Rattle.std.specs.Prelude.{◌≡◌};
 ghost use Rattle.report.specs.Header.{header_of, number_in};
 ghost use Rattle.report.specs.asks.Header.{NumberAsked};
 
-use endian::bytes::number32;
-use lengths::instance::{Admission, Instance};
-use lengths::refusal;
+use endian::bytes::Number;
+use lengths::instance::Instance;
+use lengths::refusal::Refusal;
 use sheets::sheet::Sheet;
 
-// What the file's tests answer: the rule's number and the number of points, or the number of the refusal.
-#[derive(Drop)]
-pub enum Header {
-    Read { rule: u32, points: u16 },
-    Refused(u8),
+// What the header of a file that passed its tests says: the number of the rule, and of points.
+#[derive(Clone, Copy)]
+pub struct Header {
+    pub rule: u32,
+    pub points: u16,
 }
 
 // The rule, number 0, or n, number 1.
@@ -20,7 +20,7 @@ fn number_in(file: &[u8], i: usize) -> u32
     requires { NumberAsked file.now i }
     ensures { result ≡ number_in file.now i }
 {
-    number32(&file[..Header::BYTES], i)
+    u32::number(&file[..Header::BYTES], i)
 }
 
 impl Header {
@@ -36,25 +36,20 @@ impl Header {
         + 2 * Sheet::MOST_NUMBERS;
 
     // The tests of the file: whole header, n, whole coordinates, not too long.
-    pub fn read(file: &[u8]) -> Header
+    pub fn read(file: &[u8]) -> Result<Header, Refusal>
         ensures { result ≡ header_of file.now }
     {
         if file.len() < Header::BYTES {
-            return Header::Refused(refusal::SHEET);
+            return Err(Refusal::Sheet);
         }
-        let Admission::Admitted(instance) = Instance::admit(number_in(file, 1)) else {
-            return Header::Refused(refusal::POINTS);
-        };
-        let points = instance.points;
-        if file.len() < Header::BYTES + Header::POINT_BYTES * (points as usize) {
-            return Header::Refused(refusal::SHEET);
+        let points = Instance::admit(number_in(file, 1))?.points;
+        let body = Header::BYTES + Header::POINT_BYTES * (points as usize);
+        if file.len() < body || Header::MOST_BYTES < file.len() {
+            return Err(Refusal::Sheet);
         }
-        if Header::MOST_BYTES < file.len() {
-            return Header::Refused(refusal::SHEET);
-        }
-        Header::Read {
+        Ok(Header {
             rule: number_in(file, 0),
             points: points,
-        }
+        })
     }
 }

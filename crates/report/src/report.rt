@@ -1,26 +1,22 @@
 // The whole text for an input: the file's tests, measuring, marking, and the lines.
-ghost use Rattle.sheets.specs.Verdict.{result_of};
 ghost use Rattle.endian.specs.Bytes.{whole16, whole32};
 ghost use Rattle.marks.specs.Fresh.{fresh_marks};
 ghost use Rattle.marks.specs.Packed.{marks_of};
 ghost use Rattle.marking.specs.Mark.{mark_sheet};
 ghost use Rattle.text.specs.Words.{Wrote};
 ghost use Rattle.report.specs.Header.{coordinates_in, records_in};
-ghost use Rattle.report.specs.asks.Lines.{LinesAsked};
 ghost use Rattle.report.specs.Report.{marked_text, measured_text, Reported};
 ghost use Rattle.report.specs.asks.Report.{MarkingAsked, InstanceAsked, Places};
 
 use crate::header::Header;
 use crate::lines::{put_all, put_refusal};
+use lengths::edge;
 use lengths::instance::Instance;
 use lengths::measure::measure;
-use lengths::outcome::Outcome;
-use lengths::{edge, refusal};
 use marking::mark::mark_sheet;
 use marks::fresh::fresh_marks;
 use marks::packed;
 use marks::packed::PER_BYTE;
-use sheets::verdict::Verdict;
 
 // Room for every text: MOST_EDGES lines of at most 15 bytes, and two more.
 pub const TEXT: usize = 262_144;
@@ -28,31 +24,17 @@ pub const TEXT: usize = 262_144;
 // The bytes of the packed set of most points.
 const MOST_SET: usize = (Instance::MOST_EDGES + 3) / PER_BYTE;
 
-// All lines for a verdict: its number and record, or 0 and 0.
-fn put_marked(n: u16, verdict: Verdict, marks: &[u8], out: &mut [u8]) -> usize
-    requires { LinesAsked n (marks_of n marks.now) out.old }
-    ensures { Wrote out.old 0 (marked_text n (result_of verdict (marks_of n marks.now))) result out.new }
-{
-    match verdict {
-        Verdict::Accepted { lines: _ } => put_all(n, 0, refusal::NO_RECORD, marks, out),
-        Verdict::Refused {
-            refusal,
-            record,
-            lines: _,
-        } => put_all(n, refusal, record, marks, out),
-    }
-}
-
-// The text of the records: marks them from fresh marks on, and writes all lines.
+// The text of the records: marks them from fresh marks on, which a set of the right size is never refused, and writes
+// all lines.
 fn mark_records(n: u16, table: &[u8], records: &[u8], marks: &mut [u8], out: &mut [u8]) -> usize
     requires { MarkingAsked n marks.old out.old }
     ensures { Wrote out.old 0
         (marked_text n (mark_sheet n (whole32 table.now) (fresh_marks n) (whole16 records.now)))
         result out.new }
 {
-    fresh_marks(n as u32, marks);
+    fresh_marks(n as u32, marks).unwrap();
     let verdict = mark_sheet(n as u32, table, marks, records);
-    put_marked(n, verdict, marks, out)
+    put_all(n, verdict, marks, out)
 }
 
 // The text of an instance whose header was read: measures it, and goes on with its records.
@@ -71,8 +53,8 @@ fn measure_file(
 {
     let body = Header::BYTES + Header::POINT_BYTES * (n as usize);
     match measure(n as u32, rule, &file[Header::BYTES..body], table) {
-        Outcome::Refused { refusal, record: _ } => put_refusal(refusal, out),
-        Outcome::Done => mark_records(n, table, &file[body..], marks, out),
+        Ok(()) => mark_records(n, table, &file[body..], marks, out),
+        Err(refused) => put_refusal(refused.refusal, out),
     }
 }
 
@@ -94,7 +76,7 @@ pub fn report(file: &[u8], out: &mut [u8; TEXT]) -> usize
     ensures { Reported file.now out.old result out.new }
 {
     match Header::read(file) {
-        Header::Refused(number) => put_refusal(number, out),
-        Header::Read { rule, points } => report_instance(rule, points, file, out),
+        Ok(header) => report_instance(header.rule, header.points, file, out),
+        Err(refusal) => put_refusal(refusal, out),
     }
 }

@@ -1,11 +1,5 @@
 pub mod DeskAnswers
-pub mod ListAnswers
-pub mod MarkAnswers
-pub mod OutcomeAnswers
-pub mod PageNumbers
 pub mod ReadAnswers
-pub mod SavedNumbers
 pub mod ReceiptAnswers
 pub mod ReceiptNumbers
-pub mod TellNumbers
-pub mod TourAnswers
+pub mod RefusalNumbers

@@ -17,12 +17,10 @@ use Rattle.receipts.proofs.Views.{receipt_same, release_released, released_alike
 use Rattle.revosti.specs.Receipt.{released_bit, above_receipt, receipt_in, receipt_number, release_in_c}
 
 pub receipt_fits : (k : ℕ) → Fits (receipt_in k)
-unfolding receipt_in
 receipt_fits k = record { refusal_fits = omega arith; rec_fits = omega arith; lines_fit = omega arith }
 
 -- reading a slip's number gives the slip, whatever bits are above it
 pub receipt_read : (s : Receipt) (j : ℕ) → Fits s → receipt_in (receipt_number s + above_receipt * j) ≡ s
-unfolding receipt_in receipt_number flag_of
 receipt_read s j f = by s.released refl
   where
     by : (b : Bool) → s.released ≡ b → receipt_in (receipt_number s + above_receipt * j) ≡ s
@@ -34,7 +32,6 @@ receipt_read s j f = by s.released refl
         receipt_same (omega (arith, none, f)) (omega (arith, none, f)) (omega (arith, none, f)) (ne_eqb ((receipt_number s + above_receipt * j) / released_bit % 2) 1 (λ h. omega (arith, none, f, h)) ∙ sym e)
 
 release_fits : {s : Receipt} → Fits s → Fits (release s)
-unfolding release
 release_fits f = record { refusal_fits = f.refusal_fits; rec_fits = f.rec_fits; lines_fit = f.lines_fit }
 
 -- a number, by the bits of the four values and those above
@@ -42,27 +39,22 @@ parts : (k : ℕ) → k ≡ k % 256 + 256 * (k / 256 % 65536) + 16777216 * (k / 
 parts k = omega (arith, div-div-eq-div-mul k 256 65536, div-div-eq-div-mul k 16777216 65536, div-div-eq-div-mul k released_bit 2)
 
 bit_flag : (x : ℕ) → x < 2 → flag_of (eqb x 1) ≡ x
-unfolding flag_of
 bit_flag zero h = refl
 bit_flag (suc zero) h = refl
 bit_flag (suc (suc x)) h = absurd (omega arith)
 
 -- releasing a number releases the slip in it
 pub release_read : (k : ℕ) → receipt_in (release_in_c k) ≡ release (receipt_in k)
-unfolding release_in_c
 release_read k = receipt_read (release (receipt_in k)) (k / above_receipt) (release_fits (receipt_fits k))
 
 -- it sets bit 40, and every other bit stays
 pub release_sets : (k : ℕ) → k / released_bit % 2 ≡ 0 → release_in_c k ≡ k + released_bit
-unfolding release_in_c receipt_number release receipt_in flag_of
 release_sets k h = omega (arith, parts k)
 
 pub release_stays : (k : ℕ) → k / released_bit % 2 ≡ 1 → release_in_c k ≡ k
-unfolding release_in_c receipt_number release receipt_in flag_of
 release_stays k h = omega (arith, parts k)
 
 pub release_twice_in_c : (k : ℕ) → release_in_c (release_in_c k) ≡ release_in_c k
-unfolding receipt_in
 release_twice_in_c k = release_stays (release_in_c k) (eqb-true (release_in_c k / released_bit % 2) 1 (ap (λ (s : Receipt). s.released) (release_read k) ∙ release_released (receipt_in k)))
 
 -- RELEASED: both see the same bytes
@@ -76,7 +68,6 @@ unreleased_alike_in_c j k p q = unreleased_alike (receipt_fits j) (receipt_fits 
 
 -- THE EXAMINER'S BYTES tell every slip from every other: numbers that differ below bit 41
 pub examiner_tells_in_c : (j k : ℕ) → examiner_view (receipt_in j) ≡ examiner_view (receipt_in k) → j % above_receipt ≡ k % above_receipt
-unfolding receipt_number receipt_in
 examiner_tells_in_c j k e = low_bits j ∙ ap receipt_number (examiner_tells (receipt_fits j) (receipt_fits k) e) ∙ sym (low_bits k)
   where
     low_bits : (i : ℕ) → i % above_receipt ≡ receipt_number (receipt_in i)

@@ -6,8 +6,8 @@ use Rattle.endian.specs.Bytes.{whole16, whole32}
 use Rattle.marking.specs.MarkBetween.{mark_between_packed}
 use Rattle.marking.specs.ListBetween.{listed_between}
 use Rattle.marking.specs.Listing.{list_left_of, places_of}
-use Rattle.revosti.specs.Listing.{listed_number}
 use Rattle.revosti.specs.Mark.{result_number}
+use Rattle.revosti.specs.Outcome.{counted_number}
 
 -- what marking answers and leaves over bytes
 abbrev pub mark_between_in_c : ℕ → (low high set s : List ℕ) → Result (List ℕ)
@@ -21,5 +21,5 @@ pub record MarkedBetweenInC (n : ℕ) (low high set s : List ℕ) (r : ℕ) (lef
 -- what `revosti_list_between` ensures of the lengths that the tables' bytes are and of the marks that the packed set
 -- holds: its answer, and the list's bytes that it leaves
 pub record ListedBetweenInC (n : ℕ) (low high marks : List ℕ) (a b c : ℕ) (list : List ℕ) (r : ℕ) (left : List ℕ) : Type 0 where
-  pub answered : r ≡ listed_number (listed_between n low high marks a b c (places_of list))
+  pub answered : r ≡ counted_number (listed_between n low high marks a b c (places_of list))
   pub list_left : left ≡ list_left_of (listed_between n low high marks a b c (places_of list)) n low high marks a b c list

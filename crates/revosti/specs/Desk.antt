@@ -1,36 +1,27 @@
 -- Eight desks for C (02, Paper 14): the answer as one 64-bit number, and the state and the packed set that are left.
-use Rattle.std.specs.Prelude.{ℕ, ◌+◌, ◌*◌, ◌≡◌, List, []}
+use Rattle.std.specs.Prelude.{ℕ, ◌+◌, ◌*◌, ◌≡◌, List, Option, Some, None, Result, Ok, Err}
 use Rattle.endian.specs.Bytes.{whole16, whole32}
 use Rattle.marks.specs.Packed.{marks_of}
-use Rattle.sheets.specs.Verdict.{result_of}
+use Rattle.lengths.specs.Refusal.{refusal_number}
+use Rattle.lengths.specs.declared.refusal.Refusal.{Refusal}
 use Rattle.desks.specs.HandIn.{open_answer, open_left, hand_in_answer, hand_in_left}
 use Rattle.desks.specs.State.{next_answer}
-use Rattle.desks.specs.Turn.{Turn, turn}
-use Rattle.desks.specs.declared.handing.Handed.{Handed}
-use Rattle.desks.specs.declared.handing.Handed.TheVariants as handed
-use Rattle.desks.specs.declared.state.Next.{Next}
-use Rattle.desks.specs.declared.state.Next.TheVariants as next
-use Rattle.desks.specs.declared.state.NextAnswer.{NextAnswer}
-use Rattle.desks.specs.declared.state.NextAnswer.TheVariants as answer
-use Rattle.desks.specs.declared.turn.Served.{Served}
-use Rattle.desks.specs.declared.turn.Served.TheVariants as served
-use Rattle.desks.specs.declared.turn.Turned.{Turned}
-use Rattle.desks.specs.declared.turn.Turned.TheVariants as turned
-use Rattle.revosti.specs.Mark.{result_number}
+use Rattle.desks.specs.Turn.{DeskSheet, waits, ended, DeskServed, Turn, turn}
+use Rattle.revosti.specs.Mark.{verdict_number}
 
 -- the refusal number, or 0
-unfoldable pub handed_number : Handed → ℕ
-handed_number handed.Done = 0
-handed_number (handed.Refused number) = number
+abbrev pub handed_number : Result Unit Refusal → ℕ
+handed_number (Ok done) = 0
+handed_number (Err r) = refusal_number r
 
 -- 65,536 times the desk that the next turn serves, 0 where no desk has a line left; or the refusal number alone
-unfoldable pub desk_number : Next → ℕ
-desk_number (next.Desk d) = 65536 * d
-desk_number next.NoLine = 0
+abbrev pub desk_number : Option ℕ → ℕ
+desk_number (Some d) = 65536 * d
+desk_number None = 0
 
-unfoldable pub next_number : NextAnswer → ℕ
-next_number (answer.Told d) = desk_number d
-next_number (answer.Refused number) = number
+abbrev pub next_number : Result (Option ℕ) Refusal → ℕ
+next_number (Ok d) = desk_number d
+next_number (Err r) = refusal_number r
 
 -- bit 48, from which on a turn's answer has the desk, and bit 56, set where it has a line left
 abbrev pub desk_bit : ℕ
@@ -40,15 +31,15 @@ abbrev pub line_left_bit : ℕ
 line_left_bit = 256 * desk_bit
 
 -- the answer of marking so far: while a line is left, refusal and record are 0
-unfoldable pub served_number : Served → ℕ
-served_number (served.Waits index owner lines) = 16777216 * lines + line_left_bit
-served_number (served.Ended v) = result_number (result_of v [])
+abbrev pub served_number : DeskSheet → ℕ
+served_number (waits index owner lines) = 16777216 * lines + line_left_bit
+served_number (ended lines v) = verdict_number v + 16777216 * lines
 
 -- "A turn returns the desk, whether it has a line left, and its verdict so far; with nothing left, only zeros"
-unfoldable pub turned_number : Turned → ℕ
-turned_number (turned.Refused number) = number
-turned_number turned.NoLine = 0
-turned_number (turned.Desk d r) = served_number r + desk_bit * d
+abbrev pub turned_number : Result (Option DeskServed) Refusal → ℕ
+turned_number (Err r) = refusal_number r
+turned_number (Ok None) = 0
+turned_number (Ok (Some t)) = served_number t.sheet + desk_bit * t.desk
 
 -- what `revosti_open_desks` ensures
 pub record OpenedInC (state : List ℕ) (r : ℕ) (left : List ℕ) : Type 0 where

@@ -11,7 +11,7 @@ verdict_number (accepted u) = 0
 verdict_number (refused number rec) = number + 256 * rec
 
 -- plus 16,777,216 times the lines accepted
-unfoldable pub result_number : Result (List ℕ) → ℕ
+abbrev pub result_number : Result (List ℕ) → ℕ
 result_number r = verdict_number r.verdict + 16777216 * r.lines
 
 -- what marking and asking answer and leave over bytes, where an accepted line writes the mark `mark`

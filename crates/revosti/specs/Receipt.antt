@@ -15,14 +15,14 @@ above_receipt = 2199023255552
 
 -- the refusal number in bits 0 to 7, the record in 8 to 23, the lines in 24 to 39, as in marking's answer, and released
 -- in bit 40; bits 41 to 63 are ignored
-unfoldable pub receipt_in : ℕ → Receipt
+abbrev pub receipt_in : ℕ → Receipt
 receipt_in k = record { refusal = k % 256; rec = k / 256 % 65536; lines = k / 16777216 % 65536; released = eqb (k / released_bit % 2) 1 }
 
-unfoldable pub receipt_number : Receipt → ℕ
+abbrev pub receipt_number : Receipt → ℕ
 receipt_number s = s.refusal + 256 * s.rec + 16777216 * s.lines + released_bit * flag_of s.released
 
 -- the number of the slip released, and the bits above it as they were
-unfoldable pub release_in_c : ℕ → ℕ
+abbrev pub release_in_c : ℕ → ℕ
 release_in_c k = receipt_number (release (receipt_in k)) + above_receipt * (k / above_receipt)
 
 -- what `revosti_examiner_view` and `revosti_candidate_view` ensure of a view: the answer, and the bytes that are left

@@ -1,9 +1,9 @@
 -- "How much is saved" for C: one signed 64-bit number.
-use Rattle.std.specs.Prelude.{ℤ, pos, ◌*ℤ◌}
-use Rattle.savings.specs.declared.saved.Saved.{Saved}
-use Rattle.savings.specs.declared.saved.Saved.TheVariants.{Saving, Refused}
+use Rattle.std.specs.Prelude.{Result, Ok, Err, ℤ, pos, ◌*ℤ◌}
+use Rattle.lengths.specs.Refusal.{refusal_number}
+use Rattle.lengths.specs.declared.refusal.Refused.{Refused}
 
 -- the refusal number alone, or 65,536 times the saving
-unfoldable pub saved_number : Saved → ℤ
-saved_number (Refused number rec) = pos number
-saved_number (Saving s) = pos 65536 *ℤ s
+abbrev pub saved_number : Result ℤ Refused → ℤ
+saved_number (Err r) = pos (refusal_number r.refusal)
+saved_number (Ok s) = pos 65536 *ℤ s

@@ -1,13 +1,12 @@
 -- "Tell a line" for C: the answer as one 64-bit number, and the text that is left.
 use Rattle.std.specs.Prelude.{ℕ, ◌+◌, ◌*◌, ◌≡◌, List, length}
-use Rattle.reasons.specs.Telling.{line_text, tell_answer, tell_left}
-use Rattle.reasons.specs.declared.telling.Telling.{Telling}
-use Rattle.reasons.specs.declared.telling.Telling.TheVariants as telling
+use Rattle.argument.specs.Verdict.{accepted, refused}
+use Rattle.reasons.specs.Telling.{Telling, line_text, tell_answer, tell_left}
 
 -- the refusal number plus 256 times its record, or 65,536 times the text's length
-unfoldable pub telling_number : Telling → ℕ
-telling_number (telling.Refused number rec) = number + 256 * rec
-telling_number (telling.Bytes size) = 65536 * size
+abbrev pub telling_number : Telling → ℕ
+telling_number (refused number rec) = number + 256 * rec
+telling_number (accepted size) = 65536 * size
 
 -- what `revosti_tell_line` ensures of the lengths that the table's bytes are, of the marks that the packed set holds
 -- and of the sheet's numbers: its answer, and the text that it leaves

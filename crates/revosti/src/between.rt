@@ -4,8 +4,8 @@ ghost use Rattle.endian.specs.Bytes.{whole32};
 ghost use Rattle.marks.specs.Packed.{marks_of};
 ghost use Rattle.revosti.specs.Between.{MarkedBetweenInC, ListedBetweenInC};
 
-use crate::listing::listed_number;
 use crate::mark::marked_number;
+use crate::outcome::counted_number;
 use marking::list_between::list_between;
 use marking::mark_between::mark_between;
 
@@ -31,5 +31,5 @@ pub fn revosti_list_between(
     ensures { ListedBetweenInC n (whole32 low.now) (whole32 high.now)
         (marks_of n marks.now) a b c list.old result list.new }
 {
-    listed_number(list_between(n, low, high, marks, a, b, c, list))
+    counted_number(list_between(n, low, high, marks, a, b, c, list))
 }

@@ -1,12 +1,14 @@
 // Eight desks for C: the answer as one 64-bit number.
 ghost use Rattle.std.specs.Prelude.{◌≡◌};
-ghost use Rattle.revosti.specs.Desk.{handed_number, desk_number, next_number, turned_number, OpenedInC, HandedInC, NextInC, TurnedInC};
+ghost use Rattle.desks.specs.Turn.{desk_sheet, desk_turned};
+ghost use Rattle.revosti.specs.Desk.{handed_number, next_number, turned_number, OpenedInC, HandedInC, NextInC, TurnedInC};
 ghost use Rattle.revosti.specs.asks.Desk.{ServedNumber, FewDesks};
 
 use crate::mark::marked_number;
-use desks::handing::{Handed, hand_in, open_desks};
-use desks::state::{Next, NextAnswer, next_desk};
+use desks::handing::{hand_in, open_desks};
+use desks::state::next_desk;
 use desks::turn::{Served, Turned, turn};
+use lengths::refusal::Refusal;
 
 // Bit 48, from which on an answer has the desk, and bit 56, set where it has a line left.
 const DESK: u64 = 281_474_976_710_656;
@@ -14,59 +16,45 @@ const DESK: u64 = 281_474_976_710_656;
 const LINE_LEFT: u64 = 256 * DESK;
 
 // The refusal number, or 0.
-fn handed_number(handed: Handed) -> u64
+fn handed_number(handed: Result<(), Refusal>) -> u64
     ensures { result ≡ handed_number handed }
 {
     match handed {
-        Handed::Done => 0,
-        Handed::Refused(number) => number as u64,
+        Ok(()) => 0,
+        Err(refusal) => u64::from(refusal.number()),
     }
 }
 
-// 65,536 times the desk, or 0 where none has a line left.
-fn desk_number(next: Next) -> u64
-    ensures { result ≡ desk_number next }
-{
-    match next {
-        Next::Desk(desk) => 65_536 * (desk as u64),
-        Next::NoLine => 0,
-    }
-}
-
-// The refusal number alone, or the number of the desk.
-fn next_number(answer: NextAnswer) -> u64
+// The refusal number alone, or 65,536 times the desk, 0 where none has a line left.
+fn next_number(answer: Result<Option<u16>, Refusal>) -> u64
     ensures { result ≡ next_number answer }
 {
     match answer {
-        NextAnswer::Told(next) => desk_number(next),
-        NextAnswer::Refused(number) => number as u64,
+        Ok(desk) => desk.map_or(0, |number| 65_536 * u64::from(number)),
+        Err(refusal) => u64::from(refusal.number()),
     }
 }
 
 // The number of a marked sheet's verdict; or 16,777,216 times the lines so far, with bit 56 set.
 fn served_number(served: Served) -> u64
-    ensures { ServedNumber served result }
+    ensures { ServedNumber (desk_sheet served) result }
 {
     match served {
-        Served::Waits {
-            index: _,
-            owner: _,
-            lines,
-        } => 16_777_216 * (lines as u64) + LINE_LEFT,
+        Served::Waits { lines, .. } => 16_777_216 * u64::from(lines) + LINE_LEFT,
         Served::Ended(verdict) => marked_number(verdict),
     }
 }
 
 // The refusal number alone; 0 where no desk has a line left; or the number of what came of the served desk, and the
 // desk.
-fn turned_number(turned: Turned) -> u64
-    requires { FewDesks turned }
-    ensures { result ≡ turned_number turned }
+fn turned_number(turned: Result<Option<Turned>, Refusal>) -> u64
+    requires { FewDesks (desk_turned turned) }
+    ensures { result ≡ turned_number (desk_turned turned) }
 {
     match turned {
-        Turned::Refused(number) => number as u64,
-        Turned::NoLine => 0,
-        Turned::Desk { desk, served } => served_number(served) + DESK * (desk as u64),
+        Ok(Some(turn)) => served_number(turn.served) + DESK * u64::from(turn.desk),
+        Ok(None) => 0,
+        Err(refusal) => u64::from(refusal.number()),
     }
 }
 

@@ -1,20 +1,10 @@
 // "List pairs" for C: the answer as one 64-bit number.
-ghost use Rattle.std.specs.Prelude.{◌≡◌};
 ghost use Rattle.endian.specs.Bytes.{whole32};
 ghost use Rattle.marks.specs.Packed.{marks_of};
-ghost use Rattle.revosti.specs.Listing.{listed_number, ListedInC};
+ghost use Rattle.revosti.specs.Listing.{ListedInC};
 
-use marking::listing::{Listed, list_pairs};
-
-// The refusal number, or 65,536 times the number of pairs.
-pub fn listed_number(listed: Listed) -> u64
-    ensures { result ≡ listed_number listed }
-{
-    match listed {
-        Listed::Pairs(count) => 65_536 * (count as u64),
-        Listed::Refused { refusal, record: _ } => refusal as u64,
-    }
-}
+use crate::outcome::counted_number;
+use marking::listing::list_pairs;
 
 // Lists the feasible pairs of K = {ab} at the split point c, 16 bits a point. The list's places are its whole entries.
 pub fn revosti_list_pairs(
@@ -29,5 +19,5 @@ pub fn revosti_list_pairs(
     ensures { ListedInC n (whole32 table.now) (marks_of n marks.now) a b c
         list.old result list.new }
 {
-    listed_number(list_pairs(n, table, marks, a, b, c, list))
+    counted_number(list_pairs(n, table, marks, a, b, c, list))
 }

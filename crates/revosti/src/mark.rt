@@ -4,7 +4,7 @@ ghost use Rattle.marks.specs.Mark.{struck_mark, pending_mark};
 ghost use Rattle.revosti.specs.Mark.{MarkedInC};
 ghost use Rattle.revosti.specs.asks.Mark.{MarkNumber};
 
-use lengths::refusal;
+use lengths::refusal::NO_RECORD;
 use marking::mark::{ask_sheet, mark_sheet};
 use sheets::verdict::Verdict;
 
@@ -12,7 +12,7 @@ use sheets::verdict::Verdict;
 pub fn number_of(refusal: u8, rec: u16, lines: u16) -> u64
     ensures { result ≡ refusal + 256 * rec + 16777216 * lines }
 {
-    refusal as u64 + 256 * (rec as u64) + 16_777_216 * (lines as u64)
+    u64::from(refusal) + 256 * u64::from(rec) + 16_777_216 * u64::from(lines)
 }
 
 // The number of a verdict on a sheet.
@@ -20,12 +20,12 @@ pub fn marked_number(verdict: Verdict) -> u64
     ensures { MarkNumber verdict result }
 {
     match verdict {
-        Verdict::Accepted { lines } => number_of(0, refusal::NO_RECORD, lines),
-        Verdict::Refused {
-            refusal,
-            record,
-            lines,
-        } => number_of(refusal, record, lines),
+        Ok(lines) => number_of(0, NO_RECORD, lines),
+        Err(stopped) => number_of(
+            stopped.refused.refusal.number(),
+            stopped.refused.at,
+            stopped.lines,
+        ),
     }
 }
 

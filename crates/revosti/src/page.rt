@@ -2,28 +2,19 @@
 ghost use Rattle.std.specs.Prelude.{◌≡◌};
 ghost use Rattle.endian.specs.Bytes.{whole32};
 ghost use Rattle.marks.specs.Packed.{marks_of};
-ghost use Rattle.revosti.specs.Page.{written_number, page_read_number, WrittenInC, PageReadInC};
+ghost use Rattle.revosti.specs.Page.{page_read_number, WrittenInC, PageReadInC};
 
-use pages::reading::{PageRead, read_page};
-use pages::writing::{Written, write_page};
-
-// The refusal number alone, or 65,536 times the text's length.
-fn written_number(written: Written) -> u64
-    ensures { result ≡ written_number written }
-{
-    match written {
-        Written::Bytes(length) => 65_536 * (length as u64),
-        Written::Refused { refusal, record: _ } => refusal as u64,
-    }
-}
+use crate::outcome::counted_number;
+use pages::reading::{PageRefused, read_page};
+use pages::writing::write_page;
 
 // The refusal number or 0, plus 256 times the line, which only 27 has.
-fn page_read_number(read: PageRead) -> u64
+fn page_read_number(read: Result<(), PageRefused>) -> u64
     ensures { result ≡ page_read_number read }
 {
     match read {
-        PageRead::Done => 0,
-        PageRead::Refused { refusal, line } => refusal as u64 + 256 * (line as u64),
+        Ok(()) => 0,
+        Err(refused) => u64::from(refused.refusal.number()) + 256 * u64::from(refused.line),
     }
 }
 
@@ -32,7 +23,7 @@ pub fn revosti_write_page(n: u32, table: &[u8], marks: &[u8], page: u32, text: &
     ensures { WrittenInC n (whole32 table.now) (marks_of n marks.now) page
         text.old result text.new }
 {
-    written_number(write_page(n, table, marks, page, text))
+    counted_number(write_page(n, table, marks, page, text))
 }
 
 // Reads a page of the wall list into the table and the marks.

@@ -2,15 +2,17 @@
 ghost use Rattle.std.specs.Prelude.{◌≡◌};
 ghost use Rattle.revosti.specs.Reading.{read_number, points_in_c, ReadInC};
 
-use tsplib::reading::{Read, read_tsplib, tsplib_points};
+use tsplib::reading::{TextRefused, read_tsplib, tsplib_points};
 
 // The refusal number, with 256 times its line modulo 2^64, which is 0 but for 19; or 65,536 times the number of points.
-fn read_number(read: Read) -> u64
+fn read_number(read: Result<u32, TextRefused>) -> u64
     ensures { result ≡ read_number read }
 {
     match read {
-        Read::Points(n) => 65_536 * (n as u64),
-        Read::Refused { refusal, line } => refusal as u64 + 256 * (line % 72_057_594_037_927_936),
+        Ok(n) => 65_536 * u64::from(n),
+        Err(refused) => {
+            u64::from(refused.refusal.number()) + 256 * (refused.line % 72_057_594_037_927_936)
+        }
     }
 }
 

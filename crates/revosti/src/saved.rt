@@ -1,26 +1,20 @@
 // "How much is saved" for C: the answer as one signed 64-bit number.
-ghost use Rattle.std.specs.Prelude.{pos, ◌≡◌};
+ghost use Rattle.std.specs.Prelude.{◌≡◌};
 ghost use Rattle.endian.specs.Bytes.{whole32};
 ghost use Rattle.savings.specs.Saved.{exchange_saved, move_saved, three_opt_saved, Holdable};
 ghost use Rattle.revosti.specs.Saved.{saved_number};
 
-use savings::saved::{Saved, saved_by_exchange, saved_by_move, saved_by_three_opt};
-
-// A refusal number as a signed one.
-fn refused_number(refusal: u8) -> i64
-    ensures { result ≡ pos refusal }
-{
-    refusal as i64
-}
+use lengths::refusal::Refused;
+use savings::saved::{saved_by_exchange, saved_by_move, saved_by_three_opt};
 
 // The refusal number alone, or 65,536 times the saving.
-fn saved_number(saved: Saved) -> i64
+fn saved_number(saved: Result<i64, Refused>) -> i64
     requires { Holdable saved }
     ensures { result ≡ saved_number saved }
 {
     match saved {
-        Saved::Refused { refusal, record: _ } => refused_number(refusal),
-        Saved::Saving(saving) => 65_536 * saving,
+        Ok(saving) => 65_536 * saving,
+        Err(refused) => i64::from(refused.refusal.number()),
     }
 }
 

@@ -2,17 +2,19 @@
 ghost use Rattle.std.specs.Prelude.{◌≡◌};
 ghost use Rattle.endian.specs.Bytes.{whole16, whole32};
 ghost use Rattle.marks.specs.Packed.{marks_of};
+ghost use Rattle.reasons.specs.Telling.{telling_of};
 ghost use Rattle.revosti.specs.Tell.{telling_number, ToldInC};
 
-use reasons::telling::{Telling, tell_line};
+use lengths::refusal::Refused;
+use reasons::telling::tell_line;
 
 // The refusal number plus 256 times its record, or 65,536 times the text's length.
-fn telling_number(telling: Telling) -> u64
-    ensures { result ≡ telling_number telling }
+fn telling_number(telling: Result<u32, Refused>) -> u64
+    ensures { result ≡ telling_number (telling_of telling) }
 {
     match telling {
-        Telling::Bytes(length) => 65_536 * (length as u64),
-        Telling::Refused { refusal, record } => refusal as u64 + 256 * (record as u64),
+        Ok(length) => 65_536 * u64::from(length),
+        Err(refused) => u64::from(refused.refusal.number()) + 256 * u64::from(refused.at),
     }
 }
 

@@ -3,21 +3,17 @@ ghost use Rattle.std.specs.Prelude.{◌≡◌};
 ghost use Rattle.tour_check.specs.Tour.{Countable};
 ghost use Rattle.revosti.specs.Tour.{checked_number, tour_in_c};
 
-use tour_check::tour::{Checked, check_tour};
+use lengths::refusal::Refused;
+use tour_check::tour::{CheckedTour, check_tour};
 
 // The refusal number alone, or 65,536 times the length, plus 256 if all edges are open.
-fn checked_number(checked: Checked) -> u64
+fn checked_number(checked: Result<CheckedTour, Refused>) -> u64
     requires { Countable checked }
     ensures { result ≡ checked_number checked }
 {
     match checked {
-        Checked::Refused { refusal, record: _ } => refusal as u64,
-        Checked::Tour { length, open } => {
-            if open {
-                return 65_536 * length + 256;
-            }
-            65_536 * length
-        }
+        Ok(told) => 65_536 * told.length + if told.open { 256 } else { 0 },
+        Err(refused) => u64::from(refused.refusal.number()),
     }
 }
 

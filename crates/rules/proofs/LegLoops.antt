@@ -1,17 +1,17 @@
 -- The loops over an array of legs: the legs where K is empty, and an edge taken into all legs. Assumes nothing.
 use Prim.Native.Nat.{ℕ, ◌+◌, ◌-◌, ◌/◌, ◌%◌, ◌^◌, ◌≤◌, ◌<◌}
-use mathlib.Core.Path.{◌≡◌, refl, sym, ◌∙◌, ap, ap₂, subst}
+use mathlib.Core.Path.{◌≡◌, refl, sym, ◌∙◌, ap, subst}
 use mathlib.Core.Bool.{Bool, true, false, cond}
 use mathlib.Core.List.{List, []}
 use native.Mathlib.Omega.{arith}
 use native.Mathlib.Decide.{dec_lt, ℕ_discrete}
-use lib.ListN.{length, get_or, set, replicate, length-set, length-replicate, get_or-replicate, get_or-eq_default}
+use lib.ListN.{get_or, set, replicate, length-set, length-replicate, get_or-replicate, get_or-eq_default}
 use lib.Seq.{get_or-set_same, get_or-set_other}
 use Rattle.lengths.specs.Edge.{Point, edge_count, tri, place, place_up}
-use Rattle.lengths.specs.asks.Edge.{IsEdgeUp, Placed}
+use Rattle.lengths.specs.asks.Edge.{IsEdgeUp}
 use Rattle.lengths.proofs.Edges.{tri_row, place_up-sum, place_up_below, edge_count_tri, edges_fit, place_up_lem, place_down, place_along}
 use Rattle.lengths.specs.Instance.{most_length, most_points, point_places}
-use Rattle.rules.specs.asks.Legs.{leg_of, narrowed_by, LegList, row_of, OpenAsked, OpenFrom, OpenBelow, OpenAbove, four_legs, ToByte, OpenLegs, NarrowAsked, Narrowed, far}
+use Rattle.rules.specs.asks.Legs.{leg_of, narrowed_by, LegList, row_of, OpenAsked, OpenFrom, OpenBelow, OpenAbove, four_legs, NarrowAsked, Narrowed, far}
 use Rattle.marks.specs.Mark.{opens, open_at, open_up_to}
 use Rattle.marks.specs.Packed.{quarter, marks_of}
 use Rattle.marks.proofs.PackedMarks.{byte_open}
@@ -82,9 +82,6 @@ open_start e a = record {
 pub open_middle : {most n : ℕ} {marks rows : List ℕ} {c at : ℕ} {legs : List ℕ} → OpenAsked n marks rows c at → OpenBelow most n marks rows c at legs c → OpenFrom most n marks rows c at legs (c + 1)
 open_middle a s = record { asked = a; below = open_self a s }
 
-pub open_end : {most n : ℕ} {marks rows : List ℕ} {c at : ℕ} {legs : List ℕ} → OpenBelow most n marks rows c at legs (n + 1) → OpenLegs most n marks rows c at legs
-open_end s = record { list = s.list; each = λ x p. s.done x p.low (omega (arith, p.high)) }
-
 -- one more leg, of a point that is not c, by the mark that stands at the place of its edge to c
 open_on : {most n : ℕ} {marks rows : List ℕ} {c at : ℕ} {legs : List ℕ} {x spot m : ℕ} {b : Bool} → OpenAsked n marks rows c at → OpenBelow most n marks rows c at legs x → Point n x → (x ≡ c → ⊥)
     → spot ≡ place n c x → b ≡ open_at most marks spot → m ≡ cond b (get_or rows (at + x) 0) far → OpenBelow most n marks rows c at (set legs x m) (x + 1)
@@ -112,11 +109,6 @@ pub record OpeningBelow (most n : ℕ) (marks rows : List ℕ) (c at : ℕ) (leg
   pub here : next + tri (n + 1 - x) ≡ tri n + (c - x)
   pub left : step + x ≡ n
 
-pub below_start : {most n : ℕ} {marks rows : List ℕ} {c at : ℕ} {legs : List ℕ} → OpenFrom most n marks rows c at legs 1 → OpeningBelow most n marks rows c at legs (c - 1) (n - 1) 1
-below_start {n = n} f =
-    let e : n + 1 - 1 ≡ n = omega arith in
-    record { asked = f.asked; below = f.below; low = omega arith; high = f.asked.centre.low; here = omega (arith, ap tri e); left = omega (arith, f.asked.centre) }
-
 module _ {most n : ℕ} {marks rows : List ℕ} {c at : ℕ} {legs : List ℕ} {next step x : ℕ} (s : OpeningBelow most n marks rows c at legs next step x) (h : x < c) where
   below_edge : IsEdgeUp n x c
   below_edge = record { low = s.low; up = h; high = s.asked.centre.high }
@@ -127,8 +119,8 @@ module _ {most n : ℕ} {marks rows : List ℕ} {c at : ℕ} {legs : List ℕ} {
   pub below_some : 1 ≤ next
   below_some = omega (arith, below_place)
 
-  pub below_inside : next - 1 < length marks
-  below_inside = omega (arith, below_place, place_up_below below_edge, s.asked.marked, edge_count_tri n)
+  pub below_inside : next - 1 < edge_count n
+  below_inside = omega (arith, below_place, place_up_below below_edge, edge_count_tri n)
 
   pub below_small : next < 2 ^ 32
   below_small = omega (arith, below_place, place_up_below below_edge, edges_fit {n = n} (omega (arith, s.asked.few)))
@@ -151,17 +143,6 @@ pub below_end : {most n : ℕ} {marks rows : List ℕ} {c at : ℕ} {legs : List
 below_end {most} {n} {marks} {rows} {c} {at} {legs} {next} {step} {x} s h = let e : x ≡ c = omega (arith, s.high) in rw e at s.below
 
 -- the points above c
-pub above_none : {most n : ℕ} {marks rows : List ℕ} {c at : ℕ} {legs : List ℕ} → OpenFrom most n marks rows c at legs (c + 1) → n ≤ c → OpenBelow most n marks rows c at legs (n + 1)
-above_none {most} {n} {marks} {rows} {c} {at} {legs} f h =
-    let e : c + 1 ≡ n + 1 = omega (arith, f.asked.centre) in
-    subst (λ (x : ℕ). OpenBelow most n marks rows c at legs x) e f.below
-
-pub above_start : {most n : ℕ} {marks rows : List ℕ} {c at : ℕ} {legs : List ℕ} {first : ℕ} → OpenFrom most n marks rows c at legs (c + 1) → c < n → Placed n c (c + 1) first
-    → OpenAbove most n marks rows c at legs first 0
-above_start {most} {n} {marks} {rows} {c} {at} {legs} f h p =
-    let e : c + 1 ≡ c + 1 + 0 = omega arith in
-    record { asked = f.asked; below = subst (λ (x : ℕ). OpenBelow most n marks rows c at legs x) e f.below; placed = p; some = h; high = omega arith }
-
 module _ {most n : ℕ} {marks rows : List ℕ} {c at : ℕ} {legs : List ℕ} {first i : ℕ} (s : OpenAbove most n marks rows c at legs first i) (h : i < n - c) where
   above_here : IsEdgeUp n c (c + 1 + i)
   above_here = record { low = s.asked.centre.low; up = omega arith; high = omega arith }
@@ -169,8 +150,8 @@ module _ {most n : ℕ} {marks rows : List ℕ} {c at : ℕ} {legs : List ℕ} {
   above_place : first + i ≡ place_up n c (c + 1 + i)
   above_place = place_along i s.placed
 
-  pub above_inside : first + i < length marks
-  above_inside = omega (arith, above_place, place_up_below above_here, s.asked.marked, edge_count_tri n)
+  pub above_inside : first + i < edge_count n
+  above_inside = omega (arith, above_place, place_up_below above_here, edge_count_tri n)
 
   pub above_on : {b : Bool} {m : ℕ} → b ≡ open_at most marks (first + i) → m ≡ cond b (get_or rows (at + (c + 1 + i)) 0) far
       → OpenAbove most n marks rows c at (set legs (c + 1 + i) m) first (i + 1)
@@ -198,16 +179,10 @@ module _ {most n : ℕ} {marks rows : List ℕ} {c at : ℕ} {legs : List ℕ} {
 pub singly_end : {most n : ℕ} {marks rows : List ℕ} {c at : ℕ} {legs : List ℕ} {first i : ℕ} (to : ℕ) → OpenAbove most n marks rows c at legs first i → i ≡ to → OpenAbove most n marks rows c at legs first to
 singly_end {most} {n} {marks} {rows} {c} {at} {legs} {first} to o e = subst (λ (z : ℕ). OpenAbove most n marks rows c at legs first z) e o
 
--- four legs that are stored
-pub four_set : (legs : List ℕ) (w x y z : ℕ) {a b c d e f g h : ℕ} → a ≡ e → b ≡ f → c ≡ g → d ≡ h → set (set (set (set legs w a) x b) y c) z d ≡ set (set (set (set legs w e) x f) y g) z h
-four_set legs w x y z {a} {b} {c} {d} {e} {f} {g} {h} p q r s =
-    ap₂ (λ (i j : ℕ). set (set (set (set legs w i) x j) y c) z d) p q ∙ ap₂ (λ (i j : ℕ). set (set (set (set legs w e) x f) y i) z j) r s
-
 -- four legs at a time: a byte holds the marks of their edges
 pub above_four : (byte : ℕ) {most n : ℕ} {marks rows : List ℕ} {c at : ℕ} {legs : List ℕ} {first i : ℕ} → OpenAbove most n marks rows c at legs first i → i + 4 ≤ n - c
     → ((j : ℕ) → j < 4 → opens most (quarter byte j) ≡ open_at most marks (first + i + j))
     → OpenAbove most n marks rows c at (four_legs most byte rows (at + (c + 1 + i)) legs (c + 1 + i)) first (i + 4)
-unfolding four_legs
 above_four byte {most} {n} {marks} {rows} {c} {at} {legs} {first} {i} o h held =
     let x : ℕ = c + 1 + i in
     let p : ℕ = first + i in
@@ -230,15 +205,6 @@ bytes_on s {most} {n} {rows} {c} {at} {legs} {left} {first} {i} to o h begins is
     let held : (j : ℕ) → j < 4 → opens most (quarter (get_or s ((first + i) / 4) 0) j) ≡ open_at most (marks_of n s) (first + i + j) = λ j l. byte_open n s most (first + i) j o.asked.marked begins l (omega (arith, four_inside o h)) in
     singly_end to (subst (λ (z : List ℕ). OpenAbove most n (marks_of n s) rows c at z first (i + 4)) (sym is) (above_four (get_or s ((first + i) / 4) 0) o h held)) e
 
--- the parts of the points above c: some to the first byte, whole bytes, and what is left
-pub bytes_begin : {first left head bytes : ℕ} → ToByte first left head → bytes ≡ (left - head) / 4 → 0 < bytes → (first + head) % 4 ≡ 0
-bytes_begin t e h = t.begins (omega arith)
-
-pub above_end : {most n : ℕ} {marks rows : List ℕ} {c at : ℕ} {legs : List ℕ} {first i : ℕ} → OpenAbove most n marks rows c at legs first i → n - c ≤ i → OpenBelow most n marks rows c at legs (n + 1)
-above_end {most} {n} {marks} {rows} {c} {at} {legs} {first} {i} s h =
-    let e : c + 1 + i ≡ n + 1 = omega (arith, s.high) in
-    subst (λ (x : ℕ). OpenBelow most n marks rows c at legs x) e s.below
-
 -- narrowing: the legs below x have taken in pq, the others are as they were
 
 pub record Narrowing (n : ℕ) (rows legs₀ : List ℕ) (ps qs pq cp cq : ℕ) (legs : List ℕ) (x : ℕ) : Type 0 where
@@ -249,13 +215,10 @@ pub record Narrowing (n : ℕ) (rows legs₀ : List ℕ) (ps qs pq cp cq : ℕ) 
       → get_or legs i 0 ≡ narrowed_by (get_or legs₀ i 0) (get_or legs₀ i 0 + pq) (cp + get_or rows (qs + i) 0) (cq + get_or rows (ps + i) 0)
   pub rest : (i : ℕ) → x ≤ i → get_or legs i 0 ≡ get_or legs₀ i 0
 
-pub narrowing_start : {n : ℕ} {rows legs : List ℕ} {ps qs pq cp cq : ℕ} → NarrowAsked n rows legs ps qs pq cp cq → Narrowing n rows legs ps qs pq cp cq legs 1
-narrowing_start a = record { low = omega arith; within = omega arith; list = a.list; done = λ i g k. absurd (omega arith); rest = λ i h. refl }
-
 module _ {n : ℕ} {rows legs₀ : List ℕ} {ps qs pq cp cq : ℕ} {legs : List ℕ} {x : ℕ} (a : NarrowAsked n rows legs₀ ps qs pq cp cq)
-    (s : Narrowing n rows legs₀ ps qs pq cp cq legs x) (h : x ≤ n) where
+    (s : Narrowing n rows legs₀ ps qs pq cp cq legs x) (h : x < n + 1) where
   here : Point n x
-  here = record { low = s.low; high = h }
+  here = record { low = s.low; high = omega arith }
 
   pub narrowing_both : get_or legs x 0 + pq ≤ 14000000
   narrowing_both = omega (arith, s.list.at_most_far x, a.sums.first)
@@ -285,6 +248,6 @@ module _ {n : ℕ} {rows legs₀ : List ℕ} {ps qs pq cp cq : ℕ} {legs : List
         rest = λ i g. get_or-set_other legs x i m 0 (λ r. omega arith) ∙ s.rest i (omega arith);
       }
 
-pub narrowing_end : {n : ℕ} {rows legs₀ : List ℕ} {ps qs pq cp cq : ℕ} {legs : List ℕ} {x : ℕ} → Narrowing n rows legs₀ ps qs pq cp cq legs x → n < x
+pub narrowing_end : {n : ℕ} {rows legs₀ : List ℕ} {ps qs pq cp cq : ℕ} {legs : List ℕ} {x : ℕ} → Narrowing n rows legs₀ ps qs pq cp cq legs x → n + 1 ≤ x
     → Narrowed n rows legs₀ ps qs pq cp cq legs
 narrowing_end s h = record { list = s.list; each = λ i p. s.done i p.low (omega (arith, p.high)) }

@@ -1,6 +1,6 @@
 -- Legs and bound: how each takes in one more edge of K, and that one comparison of them decides conditions 1, 4 and 5.
 -- Assumes nothing.
-use Prim.Native.Nat.{ℕ, ◌+◌, ◌-◌, ◌≤◌, ◌<◌, min, max}
+use Prim.Native.Nat.{ℕ, ◌+◌, ◌-◌, ◌≤◌, min, max}
 use mathlib.Core.Path.{◌≡◌, refl, sym, ◌∙◌, ap}
 use mathlib.Core.Bool.{Bool, true, false, cond, not, ◌&&◌, ◌||◌}
 use mathlib.Core.List.{List, [], ◌∷◌}
@@ -63,20 +63,7 @@ leg_of_narrowed out put open? K c x p q =
     far
 
 module _ (m both one other : ℕ) where
-  pub narrowed_first : both ≤ one → m ≡ narrowed_by m both one other
-  unfolding narrowed_by
-  narrowed_first h = rw (narrowed_by, le-leb both (max one other) (omega arith))
-
-  pub narrowed_second : both ≤ other → m ≡ narrowed_by m both one other
-  unfolding narrowed_by
-  narrowed_second h = rw (narrowed_by, le-leb both (max one other) (omega arith))
-
-  pub narrowed_neither : one < both → other < both → far ≡ narrowed_by m both one other
-  unfolding narrowed_by
-  narrowed_neither h g = rw (narrowed_by, lt-leb both (max one other) (omega arith))
-
   pub narrowed_at_most_far : m ≤ far → narrowed_by m both one other ≤ far
-  unfolding narrowed_by
   narrowed_at_most_far h = go (leb both (max one other))
     where
       go : (t : Bool) → cond t m far ≤ far
@@ -85,32 +72,13 @@ module _ (m both one other : ℕ) where
 
 pub narrowed-by : (out put : ℕ → ℕ → ℕ) (c p q x m : ℕ) {pq cp cq qx px : ℕ} → pq ≡ out p q → cp ≡ put c p → cq ≡ put c q → qx ≡ put x q → px ≡ put x p
     → narrowed_by m (m + pq) (cp + qx) (cq + px) ≡ narrowed out put c p q x m
-unfolding narrowed narrowed_by
+unfolding narrowed
 narrowed-by out put c p q x m e1 e2 e3 e4 e5 = rw (e1, e2, e3, e4, e5)
 
 -- the bound
 
-module _ (c u v uv cu cv b : ℕ) where
-  pub tightened_first : u ≡ c → b ≡ tightened_by c u v uv cu cv b
-  unfolding tightened_by
-  tightened_first h = rw (tightened_by, eq-eqb u c h)
-
-  pub tightened_second : (u ≡ c → ⊥) → v ≡ c → b ≡ tightened_by c u v uv cu cv b
-  unfolding tightened_by
-  tightened_second g h = rw (tightened_by, ne_eqb u c g, eq-eqb v c h)
-
-  tightened_free : (u ≡ c → ⊥) → (v ≡ c → ⊥) → tightened_by c u v uv cu cv b ≡ min (cu + cv + most_length - uv) b
-  unfolding tightened_by
-  tightened_free g h = rw (tightened_by, ne_eqb u c g, ne_eqb v c h)
-
-  pub tightened_room : (u ≡ c → ⊥) → (v ≡ c → ⊥) → cu + cv + most_length - uv < b → cu + cv + most_length - uv ≡ tightened_by c u v uv cu cv b
-  tightened_room g h k = sym (tightened_free g h ∙ omega arith)
-
-  pub tightened_over : (u ≡ c → ⊥) → (v ≡ c → ⊥) → b ≤ cu + cv + most_length - uv → b ≡ tightened_by c u v uv cu cv b
-  tightened_over g h k = sym (tightened_free g h ∙ omega arith)
-
 pub tightened-by : (out put : ℕ → ℕ → ℕ) (c u v b : ℕ) {uv cu cv : ℕ} → uv ≡ out u v → cu ≡ put u c → cv ≡ put v c → tightened_by c u v uv cu cv b ≡ tightened out put c u v b
-unfolding tightened tightened_by
+unfolding tightened
 tightened-by out put c u v b e1 e2 e3 = rw (e1, e2, e3)
 
 module _ (out put : ℕ → ℕ → ℕ) (c u v b : ℕ) where

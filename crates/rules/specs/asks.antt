@@ -1,3 +1,4 @@
 pub mod Bound
 pub mod Legs
 pub mod Pairs
+pub mod SplitLegs

@@ -12,15 +12,8 @@ pub fn tighten(c: u16, u: u16, v: u16, uv: u32, cu: u32, cv: u32, bound: u32) ->
     requires { Short uv cu cv }
     ensures { result ≡ tightened_by c u v uv cu cv bound }
 {
-    if u == c {
+    if u == c || v == c {
         return bound;
     }
-    if v == c {
-        return bound;
-    }
-    let room = cu + cv + Instance::MOST_LENGTH - uv;
-    if room < bound {
-        return room;
-    }
-    bound
+    (cu + cv + Instance::MOST_LENGTH - uv).min(bound)
 }

@@ -1,7 +1,7 @@
 -- Test 11: an edge that passes joins two points. Assumes nothing.
 use Prim.Native.Nat.{ℕ}
-use mathlib.Core.Path.{◌≡◌, refl}
-use mathlib.Core.Bool.{Bool, true, false, ◌&&◌}
+use mathlib.Core.Path.{◌≡◌}
+use mathlib.Core.Bool.{true}
 use mathlib.Core.List.{List, [], ◌∷◌}
 use lib.ListN.{length}
 use Rattle.lists.proofs.Bools.{and_left, and_right}
@@ -16,7 +16,6 @@ use Rattle.savings.specs.Edges.{is_edge}
 
 module _ {n : ℕ} {table : List ℕ} (whole : length table ≡ edge_count n) where
   pub edge_spans : (a b : ℕ) → is_edge n a b ≡ true → Spans n table a b
-  unfolding is_edge
   edge_spans a b h = record {
     first = is-point n a (and_left (is_point n a) _ h);
     second = is-point n b (and_left (is_point n b) _ (and_right (is_point n a) _ h));
@@ -51,13 +50,3 @@ module _ {n : ℕ} {table : List ℕ} (whole : length table ≡ edge_count n) wh
         ends_r = record { first = b.0.second; second = d.0.second; whole = whole };
         ends_s = record { first = e.0.second; second = c.0.second; whole = whole };
       }
-
--- two edges, and others behind them
-pub two_and_more : (n a b c d : ℕ) (es : List Edge) → every (is_edge n) (edge a b ∷ edge c d ∷ es) ≡ every (is_edge n) (edge a b ∷ edge c d ∷ []) && every (is_edge n) es
-unfolding every
-two_and_more n a b c d es = by (is_edge n a b) (is_edge n c d)
-  where
-    by : (s t : Bool) → s && (t && every (is_edge n) es) ≡ (s && (t && true)) && every (is_edge n) es
-    by true true = refl
-    by true false = refl
-    by false t = refl

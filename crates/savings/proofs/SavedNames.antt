@@ -18,11 +18,12 @@ use Rattle.rules.specs.PairTest.{every}
 use Rattle.rules.proofs.SavingNames.{exchange_first, exchange_second, exchange_edges, move_from, move_to}
 use Rattle.closings.proofs.SavingNames.{three_opt_edge, three_opt_ends_r, three_opt_ends_s, three_opt_centres}
 use Rattle.admission.specs.Tests.{tested_table}
-use Rattle.admission.specs.declared.tested.Tested.{Tested}
-use Rattle.admission.specs.declared.tested.Tested.TheVariants as tests
 use Rattle.savings.specs.Edges.{is_edge}
 use Rattle.savings.specs.Saved.{saved_tested, exchange_saved, move_saved, three_opt_saved}
-use Rattle.savings.specs.declared.saved.Saved.TheVariants.{Saving, Refused}
+use Rattle.std.specs.Prelude.{Result, Ok, Err}
+use Rattle.lengths.specs.Refusal.{refuse}
+use Rattle.lengths.specs.declared.refusal.Refusal.{Refusal}
+use Rattle.lengths.specs.declared.refusal.Refusal.TheVariants.{Point}
 
 -- tests in another order
 and_swap : (a b c : Bool) → a && (b && c) ≡ b && (a && c)
@@ -40,7 +41,6 @@ and_four a b c d =
 
 -- an edge in either order of its points
 edge_turned : (n a b : ℕ) → is_edge n a b ≡ is_edge n b a
-unfolding is_edge
 edge_turned n a b =
     and_swap (is_point n a) (is_point n b) (not (eqb a b))
     ∙ ap (λ (t : Bool). is_point n b && (is_point n a && not t)) (by (eqb b a) refl)
@@ -50,10 +50,10 @@ edge_turned n a b =
     by false e = ne_eqb a b (λ f. eqb-false b a e (sym f))
 
 -- the same edges tested, the same saving told
-saved_same : (t : Tested) (es fs : List Edge) {y z : ℤ} → ((n : ℕ) → every (is_edge n) es ≡ every (is_edge n) fs) → y ≡ z
+saved_same : (t : Result ℕ Refusal) (es fs : List Edge) {y z : ℤ} → ((n : ℕ) → every (is_edge n) es ≡ every (is_edge n) fs) → y ≡ z
     → saved_tested t es y ≡ saved_tested t fs z
-saved_same (tests.Refused k) es fs h e = refl
-saved_same (tests.Points n) es fs h e = ap₂ (λ (b : Bool) (s : ℤ). unless b (Refused 11 0) (Saving s)) (h n) e
+saved_same (Err k) es fs h e = refl
+saved_same (Ok n) es fs h e = ap₂ (λ (b : Bool) (s : ℤ). unless b (refuse Point) (Ok s)) (h n) e
 
 module _ (n : ℕ) (table : List ℕ) where
   module _ (p q x y : ℕ) where

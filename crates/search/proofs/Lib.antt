@@ -1,3 +1,4 @@
+pub mod FirstIn
 pub mod KeptRows
 pub mod OneComparison
 pub mod PairSearch

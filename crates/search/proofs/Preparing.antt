@@ -11,6 +11,7 @@ use lib.Dec.{eqb, leb}
 use lib.ListN.{get_or}
 use borrow.Author.Tests.{eq-eqb, le-leb}
 use Rattle.lists.proofs.Bools.{cond_same, and_both, and_yes}
+use Rattle.lengths.specs.declared.two_tables.Rows.{Rows as TwoRows}
 use Rattle.lengths.specs.Edge.{Edge, edge, Point}
 use Rattle.lengths.specs.Table.{length_of, Lengths, Intervals}
 use Rattle.lengths.specs.asks.Rows.{RowAt, Rows, RowFilled}
@@ -233,35 +234,35 @@ leg_both out put open? K c x = go (end_stays? out put K c x) (degree_two_stays? 
 pub rows_lent : {n : ℕ} {table rows : List ℕ} → Lengths n table → Rows n table rows → RowsLent n rows
 rows_lent l r = record { row = λ v p. row_lent l (r.row v p) }
 
-module _ {n : ℕ} {out put outrows putrows marks : List ℕ} {k : EdgeSet} {c : ℕ} (a : SplitAsked n out put outrows putrows marks k c) {legs : List ℕ} {bound : ℕ}
-    (t : AllTaken n out put marks k c legs bound) where
-  out_lent : RowsLent n outrows
+module _ (rows : TwoRows) {out put marks : List ℕ} {k : EdgeSet} {c : ℕ} (a : SplitAsked rows.n out put rows.out.now rows.put.now marks k c) {legs : List ℕ} {bound : ℕ}
+    (t : AllTaken rows.n out put marks k c legs bound) where
+  out_lent : RowsLent rows.n rows.out.now
   out_lent = rows_lent a.legs.intervals.out_lengths a.in_out
 
-  put_lent : RowsLent n putrows
+  put_lent : RowsLent rows.n rows.put.now
   put_lent = rows_lent a.legs.intervals.put_lengths a.in_put
 
-  pub points_asks : PointsAsked n outrows putrows k c legs
+  pub points_asks : PointsAsked rows k c legs
   points_asks = record {
     lent = record { few = a.legs.intervals.out_lengths.few; centre = a.legs.centre; out_rows = out_lent; put_rows = put_lent; list = t.bounded.list };
     held = a.held;
   }
 
-  module _ {mid : List ℕ} (m : PointsTold n outrows putrows k c legs mid) where
-    pub ends_asks : EndsAsked n outrows putrows k c mid
+  module _ {mid : List ℕ} (m : PointsTold rows k c legs mid) where
+    pub ends_asks : EndsAsked rows k c mid
     ends_asks = record { lent = record { few = a.legs.intervals.out_lengths.few; out_rows = out_lent; put_rows = put_lent }; held = a.held; centre = a.legs.centre; list = m.list }
 
-    pub points_split : {left : List ℕ} → EndsTold n outrows putrows k c mid left → SplitOf open_mark n out put marks k c left bound
+    pub points_split : {left : List ℕ} → EndsTold rows k c mid left → SplitOf open_mark rows.n out put marks k c left bound
     unfolding leg_of
     points_split s = record {
       bounded = record { list = s.list; tight = t.bounded.tight };
       prepared = record {
         each = λ x p.
             s.each out put a.in_out a.in_put
-            (λ (z : ℕ). degree_two_stays? (length_of n out) (length_of n put) (edge_list k) c z && leg? (length_of n out) (length_of n put) (open_in n marks) (edge_list k) c z)
-            (m.each out put a.in_out a.in_put (leg? (length_of n out) (length_of n put) (open_in n marks) (edge_list k) c) t.taken.each)
+            (λ (z : ℕ). degree_two_stays? (length_of rows.n out) (length_of rows.n put) (edge_list k) c z && leg? (length_of rows.n out) (length_of rows.n put) (open_in rows.n marks) (edge_list k) c z)
+            (m.each out put a.in_out a.in_put (leg? (length_of rows.n out) (length_of rows.n put) (open_in rows.n marks) (edge_list k) c) t.taken.each)
             x p
-            ∙ ap (λ (b : Bool). cond b (length_of n out c x) far) (leg_both (length_of n out) (length_of n put) (open_in n marks) (edge_list k) c x);
+            ∙ ap (λ (b : Bool). cond b (length_of rows.n out c x) far) (leg_both (length_of rows.n out) (length_of rows.n put) (open_in rows.n marks) (edge_list k) c x);
         least = t.taken.least;
       };
     }

@@ -217,3 +217,21 @@ rank_first {n} {legs} {candidates} {rank} l w (suc k) h e = go (candidate? legs 
     go true f ih = ap (λ (i : ℕ). get_or rank i 0) (first_from_yes (candidate? legs) w k f)
     go false f ih =
         ap (λ (i : ℕ). get_or rank i 0) (first_from_no (candidate? legs) w k f) ∙ ih ∙ ap (λ (i : ℕ). get_or rank i 0) (sym (add-one w)) ∙ l.same w h (omega arith) f
+
+-- a rank is at most that of a higher point
+pub rank_rises : {n : ℕ} {legs candidates rank : List ℕ} → CandidatesOf n legs candidates rank → (w v : ℕ) → 1 ≤ w → w ≤ v → v ≤ n + 1
+    → get_or rank w 0 ≤ get_or rank v 0
+rank_rises {n} {legs} {candidates} {rank} l w v h g k = rw e at (climb (v - w) (omega arith))
+  where
+    e : w + (v - w) ≡ v
+    e = omega arith
+
+    step : (t : Bool) (i : ℕ) → 1 ≤ i → i ≤ n → candidate? legs i ≡ t → get_or rank i 0 ≤ get_or rank (i + 1) 0
+    step true i low high f = omega (arith, l.next i low high f)
+    step false i low high f = omega (arith, l.same i low high f)
+
+    climb : (m : ℕ) → w + m ≤ n + 1 → get_or rank w 0 ≤ get_or rank (w + m) 0
+    climb zero b = let f : w + 0 ≡ w = omega arith in rw f (omega arith)
+    climb (suc m) b =
+        let f : w + suc m ≡ w + m + 1 = omega arith in
+        omega (arith, climb m (omega arith), step (candidate? legs (w + m)) (w + m) (omega arith) (omega arith) refl, ap (λ (i : ℕ). get_or rank i 0) f)

@@ -14,7 +14,7 @@ use Rattle.lengths.specs.Edge.{Edge, edge, Point, edges}
 use Rattle.lengths.specs.asks.Edge.{IsEdgeUp}
 use Rattle.lengths.specs.Table.{length_of, Lengths}
 use Rattle.sets.specs.Joined.{joins?}
-use Rattle.sets.specs.Neighbours.{with_point, seen, neighbours_of, either?, within?, beyond}
+use Rattle.sets.specs.Neighbours.{neighbours_of, either?, within?, beyond}
 use Rattle.search.specs.asks.Pairs.{passes?}
 use Rattle.rules.specs.PairTest.{feasible?}
 use Rattle.rules.specs.Pairs.{keep, feasible_pairs}
@@ -36,24 +36,23 @@ reaches_at_once (suc f) K from at y h e = rw (eq-eqb at y e)
 
 module _ (a b c : ℕ) (apart : a ≡ b → ⊥) (c-a : c ≡ a → ⊥) (c-b : c ≡ b → ⊥) where
   at_centre : (x y : ℕ) → within? (neighbours_of (edge a b ∷ []) c) x y ≡ true
-  unfolding neighbours_of seen within?
+  unfolding neighbours_of within?
   at_centre x y = rw (ne_eqb a c (λ e. c-a (sym e)), ne_eqb b c (λ e. c-b (sym e)))
 
   beyond_first : (x : ℕ) → a ≡ x → beyond (neighbours_of (edge a b ∷ []) x) c ≡ On b
-  unfolding neighbours_of seen with_point beyond
+  unfolding neighbours_of
   beyond_first x e = rw (eq-eqb a x e, ne_eqb b c (λ e. c-b (sym e)))
 
   beyond_second : (x : ℕ) → b ≡ x → beyond (neighbours_of (edge a b ∷ []) x) c ≡ On a
-  unfolding neighbours_of seen with_point beyond
+  unfolding neighbours_of
   beyond_second x e = rw (ne_eqb a x (λ q. apart (q ∙ sym e)), eq-eqb b x e, ne_eqb a c (λ e. c-a (sym e)))
 
   beyond_other : (x : ℕ) → (a ≡ x → ⊥) → (b ≡ x → ⊥) → beyond (neighbours_of (edge a b ∷ []) x) c ≡ Stop
-  unfolding neighbours_of seen beyond
+  unfolding neighbours_of
   beyond_other x h g = rw (ne_eqb a x h, ne_eqb b x g)
 
   module _ (n : ℕ) (least : 4 ≤ n) (x y : ℕ) (x_y : x ≡ y → ⊥) where
     shuts_pair : shuts? n (edge a b ∷ []) x y (beyond (neighbours_of (edge a b ∷ []) x) c) (beyond (neighbours_of (edge a b ∷ []) y) c) ≡ joins? a b x y
-    unfolding shuts? joins?
     shuts_pair = elim (ℕ_discrete a x) [
       | yes e ↦ elim (ℕ_discrete b y) [
         | yes f ↦ rw (beyond_first x e, beyond_second y f, reaches_at_once (n - 3) (edge a b ∷ []) x b y (omega arith) f, eq-eqb a x e, eq-eqb b y f)
@@ -106,7 +105,7 @@ pub record EndOf (K : List Edge) (c other : ℕ) : Type 0 where
 
 module _ (a b : ℕ) (apart : a ≡ b → ⊥) where
   pub end_first : EndOf (edge a b ∷ []) a b
-  unfolding neighbours_of seen with_point beyond
+  unfolding neighbours_of
   end_first = record {
     apart = λ e. apart (sym e);
     own = rw (eq-eqb a a refl);
@@ -117,7 +116,7 @@ module _ (a b : ℕ) (apart : a ≡ b → ⊥) where
   }
 
   pub end_second : EndOf (edge a b ∷ []) b a
-  unfolding neighbours_of seen with_point beyond
+  unfolding neighbours_of
   end_second = record {
     apart = apart;
     own = rw (ne_eqb a b apart, eq-eqb b b refl);
@@ -129,11 +128,9 @@ module _ (a b : ℕ) (apart : a ≡ b → ⊥) where
 
 module _ {K : List Edge} {c other : ℕ} (end : EndOf K c other) (n x y : ℕ) (x_y : x ≡ y → ⊥) where
   beyond_own : (v : ℕ) → v ≡ c → beyond (neighbours_of K v) c ≡ On other
-  unfolding beyond
   beyond_own v e = ap (λ (u : ℕ). beyond (neighbours_of K u) c) e ∙ rw (end.own, ne_eqb other c end.apart)
 
   shuts_none : shuts? n K x y (beyond (neighbours_of K x) c) (beyond (neighbours_of K y) c) ≡ false
-  unfolding shuts?
   shuts_none = elim (ℕ_discrete x c) [
     | yes e ↦ rw (beyond_own x e, end.none y (λ g. x_y (e ∙ sym g)))
     | no e ↦ elim (ℕ_discrete y c) [ yes f ↦ rw (end.none x e, beyond_own y f) | no f ↦ rw (end.none x e, end.none y f) ]

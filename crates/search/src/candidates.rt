@@ -16,8 +16,9 @@ fn one_if_candidate(leg: u32) -> u16
     (leg != legs::FAR) as u16
 }
 
-// Lists the candidates in `candidates`, rising, and behind them n + 1. rank[w] is the place there of the first
-// that is w or above. Ends: x rises past n.
+// Lists the candidates in `candidates`, rising, and behind them n + 1, which is none: so the next row is read without
+// a test (`next_pair`), and each point has a place there (`first` of `CandidatesOf`). rank[w] is the place of the first
+// that is w or above.
 pub fn list_candidates(
     n: u16,
     legs: &[u32; Instance::PLACES],
@@ -28,13 +29,11 @@ pub fn list_candidates(
     ensures { CandidatesOf n legs.now candidates.new rank.new }
 {
     let mut count: u16 = 0;
-    let mut x: u16 = 1;
-    while x <= n {
+    for x in 1..n + 1 {
         rank[x as usize] = count;
         candidates[count as usize] = x;
         count += one_if_candidate(legs[x as usize]);
-        x += 1;
     }
-    rank[x as usize] = count;
-    candidates[count as usize] = x;
+    rank[n as usize + 1] = count;
+    candidates[count as usize] = n + 1;
 }

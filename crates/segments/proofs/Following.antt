@@ -3,18 +3,19 @@ use Prim.Native.Nat.{ℕ, zero, suc, ◌+◌, ◌-◌, ◌≤◌, ◌<◌}
 use native.Mathlib.Omega.{arith}
 use mathlib.Core.Path.{◌≡◌, refl, sym, ap, ◌∙◌}
 use mathlib.Core.List.{List, [], ◌∷◌, ◌++◌}
-use lib.ListN.{length, take, set, length-set}
+use lib.ListN.{length, length-append}
+use lib.Seq.{take_all}
 use borrow.Author.Tests.{eq-eqb, ne_eqb}
 use Rattle.lengths.specs.Edge.{Edge}
 use Rattle.sets.specs.Neighbours.{neighbours_of, beyond}
-use Rattle.sets.specs.asks.Stored.{known_places, edges_of, edge_list, Stored}
+use Rattle.sets.specs.asks.Stored.{most_known, edges_of, edge_list}
 use Rattle.sets.specs.declared.edge_set.EdgeSet.{EdgeSet}
 use Rattle.sets.specs.declared.neighbours.PathStep.{PathStep}
 use Rattle.sets.specs.declared.neighbours.PathStep.TheVariants.{Stop, On, Fork}
 use Rattle.segments.specs.SegmentTest.{led_to, followed, over}
-use Rattle.segments.specs.asks.Segment.{inner_points, Keeps}
-use Rattle.segments.specs.declared.segment.Segment.{Segment}
-use Rattle.segments.proofs.PointLists.{stored}
+use Rattle.segments.specs.asks.Order.{order_list, NamesNone, NamesThen}
+use Rattle.segments.specs.asks.Segment.{Names}
+use Rattle.segments.specs.declared.order.Order.{Order}
 
 length_edges : (f t : List ℕ) (m : ℕ) → length (edges_of f t m) ≡ m
 unfolding edges_of
@@ -55,46 +56,59 @@ module _ (most i : ℕ) (K : List Edge) (u v from at : ℕ) (passed : List ℕ) 
   unfolding followed
   follow_step h e b s = rw (one_less most i h, ne_eqb at v e, ne_eqb at u b, s)
 
--- what is found over a is what is found from `at` on, with the first i places passed
-pub record Followed (k : EdgeSet) (u a v : ℕ) (points : List ℕ) (from at i : ℕ) : Type 0 where
-  pub size : length points ≡ known_places
-  pub same : followed (k.count - i) (edge_list k) u v from at (take i points) ≡ over (edge_list k) u v a
+-- what is found over a is what is found from `at` on, with the i points of the order passed, and v is not the first
+pub record Followed (k : EdgeSet) (u a v : ℕ) (order : Order) (from at i : ℕ) : Type 0 where
+  pub passed : length (order_list order) ≡ i
+  pub same : followed (k.count - i) (edge_list k) u v from at (order_list order) ≡ over (edge_list k) u v a
+  pub apart : i ≡ 0 → at ≡ v → ⊥
 
--- the same points by another name
-pub keeps_as : {s : Segment} {ws xs : List ℕ} → Keeps ws s → ws ≡ xs → Keeps xs s
-keeps_as h e = record { points = h.points ∙ e; short = h.short }
+-- at the start none is passed
+pub followed_start : (k : EdgeSet) (u a v : ℕ) (order : Order) → NamesNone order → (a ≡ v → ⊥) → Followed k u a v order u a 0
+followed_start k u a v order none apart =
+    record {
+      passed = ap length none.names;
+      same = ap (λ (ps : List ℕ). followed (k.count - 0) (edge_list k) u v u a ps) none.names ∙ over_stored k u v a;
+      apart = λ z. apart;
+    }
 
-module _ {k : EdgeSet} {u a v : ℕ} {points : List ℕ} {from at i : ℕ} (st : Stored k) (w : Followed k u a v points from at i) where
-  pub found_here : i < k.count → at ≡ v → Keeps (over (edge_list k) u v a) (record { points = points; count = i })
-  unfolding inner_points
+-- a list of no points
+none_left : (xs : List ℕ) → xs ≡ [] → length xs ≡ 0
+none_left xs e = ap length e
+
+module _ {k : EdgeSet} {u a v : ℕ} {order : Order} {from at i : ℕ} (w : Followed k u a v order from at i) where
+  pub found_here : i < k.count → at ≡ v → Names (over (edge_list k) u v a) order
   found_here h e =
+      let is : over (edge_list k) u v a ≡ order_list order = sym w.same ∙ follow_here k.count i (edge_list k) u v from at (order_list order) h e in
       record {
-        points = sym (follow_here k.count i (edge_list k) u v from at (take i points) h e) ∙ w.same;
-        short = record { size = w.size; few = omega (arith, st.few) };
+        points = sym is;
+        some = λ z. w.apart (omega (arith, w.passed, none_left (order_list order) (sym is ∙ z))) e;
+        few = omega (arith, ap length is, w.passed, k.few);
       }
 
-  pub found_end : k.count ≤ i → [] ≡ over (edge_list k) u v a
-  found_end h = sym (follow_end k.count i (edge_list k) u v from at (take i points) h) ∙ w.same
+  pub found_end : k.count ≤ i → over (edge_list k) u v a ≡ []
+  found_end h = sym w.same ∙ follow_end k.count i (edge_list k) u v from at (order_list order) h
 
-  pub found_back : i < k.count → (at ≡ v → ⊥) → at ≡ u → [] ≡ over (edge_list k) u v a
-  found_back h e b = sym (follow_back k.count i (edge_list k) u v from at (take i points) h e b) ∙ w.same
+  pub found_back : i < k.count → (at ≡ v → ⊥) → at ≡ u → over (edge_list k) u v a ≡ []
+  found_back h e b = sym w.same ∙ follow_back k.count i (edge_list k) u v from at (order_list order) h e b
 
   module _ (h : i < k.count) (e : at ≡ v → ⊥) (b : at ≡ u → ⊥) where
-    pub found_stop : beyond (neighbours_of (edge_list k) at) from ≡ Stop → [] ≡ over (edge_list k) u v a
-    unfolding led_to
-    found_stop s = sym (follow_step k.count i (edge_list k) u v from at (take i points) h e b s) ∙ w.same
+    step : {m : PathStep} → beyond (neighbours_of (edge_list k) at) from ≡ m
+        → over (edge_list k) u v a ≡ led_to m (λ x. followed (k.count - (i + 1)) (edge_list k) u v at x (order_list order ++ at ∷ []))
+    step s = sym w.same ∙ follow_step k.count i (edge_list k) u v from at (order_list order) h e b s
 
-    pub found_fork : beyond (neighbours_of (edge_list k) at) from ≡ Fork → [] ≡ over (edge_list k) u v a
+    pub found_none : (m : PathStep) → beyond (neighbours_of (edge_list k) at) from ≡ m → ((x : ℕ) → m ≡ On x → ⊥) → over (edge_list k) u v a ≡ []
     unfolding led_to
-    found_fork s = sym (follow_step k.count i (edge_list k) u v from at (take i points) h e b s) ∙ w.same
+    found_none Stop s other = step s
+    found_none (On x) s other = absurd (other x refl)
+    found_none Fork s other = step s
 
-    pub found_on : (x : ℕ) → beyond (neighbours_of (edge_list k) at) from ≡ On x → Followed k u a v (set points i at) at x (i + 1)
+    pub found_on : (x : ℕ) {order' : Order} → beyond (neighbours_of (edge_list k) at) from ≡ On x → NamesThen order at order' → Followed k u a v order' at x (i + 1)
     unfolding led_to
-    found_on x s =
+    found_on x {order'} s t =
+        let longer : length (order_list order ++ at ∷ []) ≡ i + 1 = omega (arith, length-append (order_list order) (at ∷ []), w.passed) in
+        let all : order_list order' ≡ order_list order ++ at ∷ [] = t.names ∙ take_all most_known (order_list order ++ at ∷ []) (omega (arith, longer, k.few)) in
         record {
-          size = length-set points i at ∙ w.size;
-          same =
-              ap (λ (ps : List ℕ). followed (k.count - (i + 1)) (edge_list k) u v at x ps)
-              (stored points i at (omega (arith, w.size, st.few)))
-              ∙ sym (follow_step k.count i (edge_list k) u v from at (take i points) h e b s) ∙ w.same;
+          passed = ap length all ∙ longer;
+          same = ap (λ (ps : List ℕ). followed (k.count - (i + 1)) (edge_list k) u v at x ps) all ∙ sym (step s);
+          apart = λ z. absurd (omega arith);
         }

@@ -18,7 +18,6 @@ use Rattle.tours.proofs.Count.{count_cons}
 use Rattle.segments.specs.SegmentTest.{named?, all_named?, same_points?}
 
 named_count : (x : ℕ) (vs : List ℕ) → named? x vs ≡ true → 1 ≤ count x vs
-unfolding named?
 named_count x [] h = absurd (false≢true h)
 named_count x (v ∷ vs) h =
     ⊎_elim (λ e. omega (arith, count_cons x v vs, same_true v x (eqb-true v x e)))
@@ -26,20 +25,18 @@ named_count x (v ∷ vs) h =
     (or_true (eqb v x) (named? x vs) h)
 
 count_named : (x : ℕ) (vs : List ℕ) → 1 ≤ count x vs → named? x vs ≡ true
-unfolding named? count
+unfolding count
 count_named x [] h = absurd (omega arith)
 count_named x (v ∷ vs) h =
     by_cases (ℕ_discrete v x) (λ e. true_or (eqb v x) (named? x vs) (inl (eq-eqb v x e)))
     (λ ne. true_or (eqb v x) (named? x vs) (inr (count_named x vs (omega (arith, count_cons x v vs, same_false v x ne)))))
 
 all_count : (ws vs : List ℕ) → all_named? ws vs ≡ true → (x : ℕ) → In x ws → 1 ≤ count x vs
-unfolding all_named?
 all_count [] vs h x x4 = elim x4 [ ]
 all_count (w ∷ ws) vs h x (inl e) = rw (← e) (named_count w vs (and_true (named? w vs) (all_named? ws vs) h).0)
 all_count (w ∷ ws) vs h x (inr k) = all_count ws vs (and_true (named? w vs) (all_named? ws vs) h).1 x k
 
 count_all : (ws vs : List ℕ) → ((x : ℕ) → In x ws → 1 ≤ count x vs) → all_named? ws vs ≡ true
-unfolding all_named?
 count_all [] vs h = refl
 count_all (w ∷ ws) vs h =
     and_both (named? w vs) (all_named? ws vs) (count_named w vs (h w (inl refl))) (count_all ws vs (λ x k. h x (inr k)))
@@ -96,13 +93,11 @@ counts_length (v ∷ vs) ws h =
     omega (arith, r.shorter)
 
 pub same_sound : (vs ws : List ℕ) → Distinct ws → same_points? vs ws ≡ true → (x : ℕ) → count x vs ≡ count x ws
-unfolding same_points?
 same_sound vs ws d h =
     let t = and_true (eqb (length vs) (length ws)) (all_named? ws vs) h in
     counts_same ws vs d (eqb-true (length vs) (length ws) t.0) (all_count ws vs t.1)
 
 pub same_complete : (vs ws : List ℕ) → ((x : ℕ) → count x vs ≡ count x ws) → same_points? vs ws ≡ true
-unfolding same_points?
 same_complete vs ws h =
     and_both (eqb (length vs) (length ws)) (all_named? ws vs) (eq-eqb (length vs) (length ws) (counts_length vs ws h))
     (count_all ws vs (λ x k. omega (arith, h x, in_count x ws k)))

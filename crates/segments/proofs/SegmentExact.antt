@@ -26,9 +26,10 @@ use Rattle.lists.proofs.Bools.{never_true}
 use Rattle.tours.specs.Tour.{total}
 use Rattle.tours.proofs.Edges.{inside_nil, inside_cons}
 use Rattle.segments.specs.Segment.{Path, Segment, Reorders}
-use Rattle.segments.specs.SegmentTest.{over, only_way, between, segment_of, segment?, same_points?, reordered, refusal_of, reordering}
-use Rattle.segments.specs.declared.reorder.Reordered.{Reordered}
-use Rattle.segments.specs.declared.reorder.Reordered.TheVariants.{Closed, OtherPoints, NotShorter}
+use Rattle.segments.specs.SegmentTest.{over, only_way, between, segment_of, segment?, same_points?, refusal_of, reordering}
+use Rattle.std.specs.Prelude.{Ok, Err}
+use Rattle.lengths.specs.Refusal.{refusal_number}
+use Rattle.lengths.specs.declared.refusal.Refusal.TheVariants.{NoSegment, NotShorter}
 use Rattle.segments.proofs.Paths.{snoc_last, snoc_in, path_few, point_edge}
 use Rattle.segments.proofs.SamePoints.{same_sound, same_complete, count_in}
 use Rattle.segments.proofs.WayExact.{over_first, over_path, path_over}
@@ -167,10 +168,10 @@ module _ {n : ℕ} {K : List Edge} (shape : Shape n K) (u v : ℕ) where
       some = some_true (segment_of K u v) h
 
       uv : u ≡ v → ⊥
-      uv e = some (sym (segment_self K u v e))
+      uv e = some (segment_self K u v e)
 
       ne : Has K u v → ⊥
-      ne k = some (sym (segment_edge K u v uv ((has_exact K u v).1 k)))
+      ne k = some (segment_edge K u v uv ((has_exact K u v).1 k))
 
       by : between K u v (neighbours_of K u) ≡ segment_of K u v
       by = segment_by K u v (neighbours_of K u) uv (far uv ne) refl
@@ -197,7 +198,7 @@ module _ {n : ℕ} {K : List Edge} (shape : Shape n K) (u v : ℕ) where
   -- THEOREM: a new order that computes to 0 closes K
   pub reorder_sound : (out put : ℕ → ℕ → ℕ) (vs : List ℕ) → segment? K u v ≡ true → reordering out put K u v vs ≡ 0
       → Reorders out put K u v vs
-  unfolding reordering reordered refusal_of
+  unfolding refusal_number
   reorder_sound out put vs s h =
       let S = segment_sound s in
       let ws : List ℕ = segment_of K u v in
@@ -209,7 +210,7 @@ module _ {n : ℕ} {K : List Edge} (shape : Shape n K) (u v : ℕ) where
         shorter = ltb-true (total put (path_edges u vs v)) (total out (path_edges u ws v)) t.1;
       }
     where
-      both : (s t : Bool) → refusal_of (cond s (cond t Closed NotShorter) OtherPoints) ≡ 0 → (s ≡ true) × (t ≡ true)
+      both : (s t : Bool) → refusal_of (cond s (cond t (Ok tt) (Err NotShorter)) (Err NoSegment)) ≡ 0 → (s ≡ true) × (t ≡ true)
       both true true e = (refl, refl)
       both true false e = absurd (omega arith)
       both false t e = absurd (omega arith)
@@ -217,7 +218,7 @@ module _ {n : ℕ} {K : List Edge} (shape : Shape n K) (u v : ℕ) where
   -- THEOREM: and one that closes K computes to 0
   pub reorder_complete : (out put : ℕ → ℕ → ℕ) (vs : List ℕ) → Reorders out put K u v vs
       → (segment? K u v ≡ true) × (reordering out put K u v vs ≡ 0)
-  unfolding reordering reordered refusal_of
+  unfolding refusal_number
   reorder_complete out put vs R =
       let e : segment_of K u v ≡ R.ws = segment_complete R.ws R.segment in (
         segment_exact.1 (R.ws, R.segment),
@@ -232,25 +233,25 @@ module _ {n : ℕ} {K : List Edge} (shape : Shape n K) (u v : ℕ) where
     shorter? = ltb (total put (path_edges u vs v)) (total out (path_edges u ws v))
 
     -- the answer by the two tests
-    answer : reordering out put K u v vs ≡ refusal_of (cond same? (cond shorter? Closed NotShorter) OtherPoints)
-    unfolding reordering reordered same? shorter?
+    answer : reordering out put K u v vs ≡ refusal_of (cond same? (cond shorter? (Ok tt) (Err NotShorter)) (Err NoSegment))
+    unfolding same? shorter?
     answer = rw (segment_complete ws S)
 
-    is_23 : (s t : Bool) → refusal_of (cond s (cond t Closed NotShorter) OtherPoints) ≡ 23 → s ≡ false
-    unfolding refusal_of
+    is_23 : (s t : Bool) → refusal_of (cond s (cond t (Ok tt) (Err NotShorter)) (Err NoSegment)) ≡ 23 → s ≡ false
+    unfolding refusal_number
     is_23 true true e = absurd (omega arith)
     is_23 true false e = absurd (omega arith)
     is_23 false t e = refl
 
-    is_24 : (s t : Bool) → refusal_of (cond s (cond t Closed NotShorter) OtherPoints) ≡ 24 → (s ≡ true) × (t ≡ false)
-    unfolding refusal_of
+    is_24 : (s t : Bool) → refusal_of (cond s (cond t (Ok tt) (Err NotShorter)) (Err NoSegment)) ≡ 24 → (s ≡ true) × (t ≡ false)
+    unfolding refusal_number
     is_24 true true e = absurd (omega arith)
     is_24 true false e = (refl, refl)
     is_24 false t e = absurd (omega arith)
 
     -- THEOREM: refusal 23 of a segment: the order does not name its inner points, each once
     pub other_points_exact : (reordering out put K u v vs ≡ 23) ↔ (((x : ℕ) → count x vs ≡ count x ws) → ⊥)
-    unfolding refusal_of same?
+    unfolding refusal_number same?
     other_points_exact = (
       λ h e. true≢false (sym (same_complete vs ws e) ∙ is_23 same? shorter? (sym answer ∙ h)),
       λ ne. answer ∙ rw (never_true same? (λ h. ne (same_sound vs ws (inner_distinct S.path) h))),
@@ -259,7 +260,7 @@ module _ {n : ℕ} {K : List Edge} (shape : Shape n K) (u v : ℕ) where
     -- THEOREM: refusal 24: it does, and is not shorter
     pub not_shorter_exact : (reordering out put K u v vs ≡ 24)
         ↔ (((x : ℕ) → count x vs ≡ count x ws) × (total out (path_edges u ws v) ≤ total put (path_edges u vs v)))
-    unfolding refusal_of same? shorter?
+    unfolding refusal_number same? shorter?
     not_shorter_exact = (
       λ h.
           let t = is_24 same? shorter? (sym answer ∙ h) in (
@@ -274,13 +275,16 @@ module _ {n : ℕ} {K : List Edge} (shape : Shape n K) (u v : ℕ) where
 -- a new order is refused by 23 or 24
 pub reordering_number : (out put : ℕ → ℕ → ℕ) (K : List Edge) (u v : ℕ) (vs : List ℕ) → 1 ≤ reordering out put K u v vs
     → (23 ≤ reordering out put K u v vs) × (reordering out put K u v vs ≤ 24)
-unfolding reordering refusal_of
-reordering_number out put K u v vs = go (reordered out put (segment_of K u v) u v vs)
+unfolding refusal_number
+reordering_number out put K u v vs =
+    go (same_points? vs (segment_of K u v)) (ltb (total put (path_edges u vs v)) (total out (path_edges u (segment_of K u v) v)))
   where
-    go : (r : Reordered) → 1 ≤ refusal_of r → (23 ≤ refusal_of r) × (refusal_of r ≤ 24)
-    go Closed h = absurd (omega arith)
-    go OtherPoints h = (omega arith, omega arith)
-    go NotShorter h = (omega arith, omega arith)
+    go : (s t : Bool) → 1 ≤ refusal_of (cond s (cond t (Ok tt) (Err NotShorter)) (Err NoSegment))
+        → (23 ≤ refusal_of (cond s (cond t (Ok tt) (Err NotShorter)) (Err NoSegment)))
+        × (refusal_of (cond s (cond t (Ok tt) (Err NotShorter)) (Err NoSegment)) ≤ 24)
+    go true true h = absurd (omega arith)
+    go true false h = (omega arith, omega arith)
+    go false t h = (omega arith, omega arith)
 
 -- u, v and the points that a new order names where it closes K have edges in K: what holds of every point with an edge
 -- holds of them

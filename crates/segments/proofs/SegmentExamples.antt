@@ -4,12 +4,13 @@ use mathlib.Core.Path.{◌≡◌, refl}
 use mathlib.Core.List.{List, [], ◌∷◌}
 use Rattle.lengths.specs.Edge.{Edge, edge}
 use Rattle.sets.specs.EdgeSet.{path_edges}
-use Rattle.sets.specs.Joined.{joins?, has?}
-use Rattle.sets.specs.Neighbours.{with_point, seen, neighbours_of, beyond}
+use Rattle.sets.specs.Joined.{has?}
+use Rattle.sets.specs.Neighbours.{neighbours_of}
 use Rattle.tours.specs.Tour.{total}
 use Rattle.segments.specs.SegmentTest.{led_to, followed, over, only_way, between, segment_of}
-use Rattle.segments.specs.SegmentTest.{named?, all_named?, same_points?, reordered}
-use Rattle.segments.specs.declared.reorder.Reordered.TheVariants.{Closed, OtherPoints, NotShorter}
+use Rattle.segments.specs.SegmentTest.{reordered}
+use Rattle.std.specs.Prelude.{Ok, Err}
+use Rattle.lengths.specs.declared.refusal.Refusal.TheVariants.{NoSegment, NotShorter}
 
 -- the path 1-2-3-4-5, its edges in no order, and 7-8 beside it
 abbrev path : List Edge
@@ -30,7 +31,7 @@ record Segments : Type 0 where
   neighbours_in_it : segment_of closed 1 4 ≡ []
 
 segments_computed : Segments
-unfolding segment_of between over followed led_to only_way neighbours_of seen with_point beyond has? joins?
+unfolding segment_of between over followed led_to only_way neighbours_of has?
 segments_computed =
     record {
       whole = refl;
@@ -52,16 +53,16 @@ twice a b = 2 * gap a b
 
 -- new orders of the path 1-3-2-4, of length 5
 record Reorderings : Type 0 where
-  shorter : reordered gap gap (3 ∷ 2 ∷ []) 1 4 (2 ∷ 3 ∷ []) ≡ Closed
-  as_short : reordered gap gap (3 ∷ 2 ∷ []) 1 4 (3 ∷ 2 ∷ []) ≡ NotShorter
-  shorter_as_taken_out : reordered gap twice (3 ∷ 2 ∷ []) 1 4 (2 ∷ 3 ∷ []) ≡ NotShorter
-  missing : reordered gap gap (3 ∷ 2 ∷ []) 1 4 (2 ∷ []) ≡ OtherPoints
-  twice_for_another : reordered gap gap (3 ∷ 2 ∷ []) 1 4 (2 ∷ 2 ∷ []) ≡ OtherPoints
-  twice_besides : reordered gap gap (3 ∷ 2 ∷ []) 1 4 (2 ∷ 3 ∷ 2 ∷ []) ≡ OtherPoints
-  end_named : reordered gap gap (3 ∷ 2 ∷ []) 1 4 (2 ∷ 4 ∷ []) ≡ OtherPoints
+  shorter : reordered gap gap (3 ∷ 2 ∷ []) 1 4 (2 ∷ 3 ∷ []) ≡ Ok tt
+  as_short : reordered gap gap (3 ∷ 2 ∷ []) 1 4 (3 ∷ 2 ∷ []) ≡ Err NotShorter
+  shorter_as_taken_out : reordered gap twice (3 ∷ 2 ∷ []) 1 4 (2 ∷ 3 ∷ []) ≡ Err NotShorter
+  missing : reordered gap gap (3 ∷ 2 ∷ []) 1 4 (2 ∷ []) ≡ Err NoSegment
+  twice_for_another : reordered gap gap (3 ∷ 2 ∷ []) 1 4 (2 ∷ 2 ∷ []) ≡ Err NoSegment
+  twice_besides : reordered gap gap (3 ∷ 2 ∷ []) 1 4 (2 ∷ 3 ∷ 2 ∷ []) ≡ Err NoSegment
+  end_named : reordered gap gap (3 ∷ 2 ∷ []) 1 4 (2 ∷ 4 ∷ []) ≡ Err NoSegment
 
 reorderings_computed : Reorderings
-unfolding reordered same_points? all_named? named? total path_edges
+unfolding total path_edges
 reorderings_computed =
     record {
       shorter = refl;

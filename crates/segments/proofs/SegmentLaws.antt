@@ -1,5 +1,5 @@
--- What callers of `segment_of` and `reorder` go by: a count of 0 is no segment, the points found are points of 1 to n,
--- and what an order keeps comes to what is named. Assumes nothing.
+-- What callers of `segment_of` and `reorder` go by: where there is a segment, its points are points of 1 to n, and what
+-- an order keeps comes to what is named. Assumes nothing.
 use Prim.Native.Nat.{ℕ, zero, suc, ◌<◌}
 use native.Mathlib.Omega.{arith}
 use mathlib.Core.Path.{◌≡◌, refl, ap, ◌∙◌, subst}
@@ -7,8 +7,7 @@ use mathlib.Core.Bool.{Bool, true, false, ◌||◌, cond}
 use mathlib.Core.List.{List, [], ◌∷◌}
 use mathlib.Core.Logic.{◌⊎◌, inl, inr, ⊎_elim}
 use lib.Dec.{eqb}
-use lib.ListN.{length, get_or, take}
-use lib.Seq.{get_or-take, length-take-le}
+use lib.ListN.{length, get_or}
 use Rattle.lengths.specs.Edge.{Edge, Point}
 use Rattle.sets.specs.EdgeSet.{Has}
 use Rattle.sets.specs.Joined.{has?}
@@ -21,13 +20,13 @@ use Rattle.sets.proofs.Laws.Neighbours.{NeighboursAre, neighbours_exact}
 use Rattle.sets.proofs.Laws.Points.{In}
 use Rattle.sets.proofs.Laws.Stored.{held_points}
 use Rattle.segments.specs.SegmentTest.{over, only_way, between, segment_of, some?, segment?, reordered, refusal_of, reordering}
-use Rattle.segments.specs.asks.Reorder.{order_list, kept}
-use Rattle.segments.specs.asks.Segment.{inner_points, Listed, Keeps}
-use Rattle.segments.specs.declared.reorder.Order.{Order}
-use Rattle.segments.specs.declared.segment.Segment.{Segment}
+use Rattle.std.specs.Prelude.{None as NoOrder}
+use Rattle.segments.specs.asks.Order.{order_list, kept, Listed}
+use Rattle.segments.specs.asks.Segment.{Names, Keeps}
+use Rattle.segments.specs.declared.order.Order.{Order}
 use Rattle.segments.proofs.Orders.{reordered_kept}
 use Rattle.segments.proofs.WayExact.{over_points}
-use Rattle.segments.proofs.Ways.{inner_none, inner_some, true_some}
+use Rattle.segments.proofs.Ways.{true_some}
 
 in_way : (x : ℕ) (xs ys : List ℕ) → In x (only_way xs ys) → In x xs ⊎ In x ys
 unfolding only_way
@@ -58,38 +57,28 @@ module _ (K : List Edge) (u v : ℕ) (P : ℕ → Type 0) (near : (a b : ℕ) �
       go true h = absurd h
       go false h = between_near (neighbours_of K u) (neighbours_exact K u) x h
 
-module _ (k : EdgeSet) (u v : ℕ) (s : Segment) (keeps : Keeps (segment_of (edge_list k) u v) s) where
-  -- a count of 0, and any other
-  pub segment_none : s.count ≡ 0 → segment? (edge_list k) u v ≡ false
+module _ (k : EdgeSet) (u v : ℕ) where
+  -- no segment
+  pub segment_none : Keeps (segment_of (edge_list k) u v) NoOrder → segment? (edge_list k) u v ≡ false
   unfolding segment? some?
-  segment_none e = rw (← keeps.points, inner_none s e)
+  segment_none e = rw e
 
-  pub segment_some : (s.count ≡ 0 → ⊥) → segment? (edge_list k) u v ≡ true
-  unfolding segment?
-  segment_some ne = true_some (segment_of (edge_list k) u v) (λ e. inner_some s keeps.short ne (keeps.points ∙ e))
+  module _ (s : Order) (keeps : Names (segment_of (edge_list k) u v) s) where
+    pub segment_some : segment? (edge_list k) u v ≡ true
+    unfolding segment?
+    segment_some = true_some (segment_of (edge_list k) u v) keeps.some
 
-  inner_size : length (take s.count s.points) ≡ s.count
-  inner_size = length-take-le s.count s.points (omega (arith, keeps.short.size, keeps.short.few))
+    -- the inner points are points of 1 to n
+    pub segment_listed : (n : ℕ) → Held n k → Listed n s
+    segment_listed n held i h =
+        segment_near (edge_list k) u v (Point n) (λ a b e. (held_points n k held a b e).1) (get_or (order_list s) i 0)
+        (subst (In (get_or (order_list s) i 0)) keeps.points (in_place (order_list s) i h))
 
-  -- the inner points are points of 1 to n
-  pub segment_listed : (n : ℕ) → Held n k → Listed n s.points s.count
-  unfolding inner_points
-  segment_listed n held =
-      record {
-        fits = record { size = keeps.short.size; few = omega (arith, keeps.short.few) };
-        point = λ i h.
-            subst (Point n) (get_or-take s.count s.points i 0 h)
-            (segment_near (edge_list k) u v (Point n) (λ a b e. (held_points n k held a b e).1) (get_or (take s.count s.points) i 0)
-            (subst (In (get_or (take s.count s.points) i 0)) keeps.points
-            (in_place (take s.count s.points) i (omega (arith, inner_size)))));
-      }
-
-  -- the answer for what an order keeps is the refusal of all that is named
-  pub reordering_kept : (out put : ℕ → ℕ → ℕ) (o : Order) (vs : List ℕ) → order_list o ≡ kept vs
-      → refusal_of (reordered out put (inner_points s) u v (order_list o)) ≡ reordering out put (edge_list k) u v vs
-  unfolding reordering inner_points
-  reordering_kept out put o vs e =
-      ap refusal_of
-      (ap (reordered out put (take s.count s.points) u v) e
-      ∙ reordered_kept out put (take s.count s.points) u v vs (omega (arith, inner_size, keeps.short.few))
-      ∙ ap (λ (ws : List ℕ). reordered out put ws u v vs) keeps.points)
+    -- the answer for what an order keeps is the refusal of all that is named
+    pub reordering_kept : (out put : ℕ → ℕ → ℕ) (o : Order) (vs : List ℕ) → order_list o ≡ kept vs
+        → refusal_of (reordered out put (order_list s) u v (order_list o)) ≡ reordering out put (edge_list k) u v vs
+    reordering_kept out put o vs e =
+        ap refusal_of
+        (ap (reordered out put (order_list s) u v) e
+        ∙ ap (λ (ws : List ℕ). reordered out put ws u v (kept vs)) keeps.points
+        ∙ reordered_kept out put (segment_of (edge_list k) u v) u v vs keeps.few)

@@ -1,5 +1,9 @@
 -- The segment of K from u to v and the test of a new order of it, computed: the twins of `Segment` and `Reorders`.
-use Rattle.std.specs.Prelude.{ℕ, zero, suc, Bool, true, false, ◌&&◌, ◌||◌, cond, List, [], ◌∷◌, ◌++◌, eqb, ltb, length}
+use Rattle.std.specs.List.{list_any, list_all}
+use Rattle.std.specs.Prelude.{ℕ, zero, suc, Bool, true, false, ◌&&◌, ◌||◌, cond, List, [], ◌∷◌, ◌++◌, Result, Ok, Err, eqb, ltb, length}
+use Rattle.lengths.specs.Refusal.{refusal_number}
+use Rattle.lengths.specs.declared.refusal.Refusal.{Refusal}
+use Rattle.lengths.specs.declared.refusal.Refusal.TheVariants.{NoSegment, NotShorter}
 use Rattle.lengths.specs.Edge.{Edge}
 use Rattle.sets.specs.EdgeSet.{path_edges}
 use Rattle.sets.specs.Joined.{has?}
@@ -9,8 +13,6 @@ use Rattle.sets.specs.declared.neighbours.Neighbours.TheVariants.{None, One, Two
 use Rattle.sets.specs.declared.neighbours.PathStep.{PathStep}
 use Rattle.sets.specs.declared.neighbours.PathStep.TheVariants.{Stop, On, Fork}
 use Rattle.tours.specs.Tour.{total}
-use Rattle.segments.specs.declared.reorder.Reordered.{Reordered}
-use Rattle.segments.specs.declared.reorder.Reordered.TheVariants.{Closed, OtherPoints, NotShorter}
 
 -- the points found from the point that a path goes on to, where it goes on to just one
 unfoldable pub led_to : PathStep → (ℕ → List ℕ) → List ℕ
@@ -56,30 +58,27 @@ unfoldable pub segment? : List Edge → (u v : ℕ) → Bool
 segment? K u v = some? (segment_of K u v)
 
 -- x is one of vs
-unfoldable pub named? : ℕ → List ℕ → Bool
-named? x [] = false
-named? x (v ∷ vs) = eqb v x || named? x vs
+abbrev pub named? : ℕ → List ℕ → Bool
+named? x vs = list_any (λ v. eqb v x) vs
 
 -- each of ws is one of vs
-unfoldable pub all_named? : List ℕ → List ℕ → Bool
-all_named? [] vs = true
-all_named? (w ∷ ws) vs = named? w vs && all_named? ws vs
+abbrev pub all_named? : List ℕ → List ℕ → Bool
+all_named? ws vs = list_all (λ w. named? w vs) ws
 
 -- vs names each of ws once and nothing else, for ws with no point twice: it names them all and has as many
-unfoldable pub same_points? : List ℕ → List ℕ → Bool
+abbrev pub same_points? : List ℕ → List ℕ → Bool
 same_points? vs ws = eqb (length vs) (length ws) && all_named? ws vs
 
 -- what the new order vs of the inner points ws from u to v comes to
-unfoldable pub reordered : (out put : ℕ → ℕ → ℕ) (ws : List ℕ) (u v : ℕ) (vs : List ℕ) → Reordered
+abbrev pub reordered : (out put : ℕ → ℕ → ℕ) (ws : List ℕ) (u v : ℕ) (vs : List ℕ) → Result (Unit {0}) Refusal
 reordered out put ws u v vs =
-    cond (same_points? vs ws) (cond (ltb (total put (path_edges u vs v)) (total out (path_edges u ws v))) Closed NotShorter) OtherPoints
+    cond (same_points? vs ws) (cond (ltb (total put (path_edges u vs v)) (total out (path_edges u ws v))) (Ok tt) (Err NotShorter)) (Err NoSegment)
 
 -- its refusal by 02, Paper 10, 0 where it refuses nothing
-unfoldable pub refusal_of : Reordered → ℕ
-refusal_of Closed = 0
-refusal_of OtherPoints = 23
-refusal_of NotShorter = 24
+abbrev pub refusal_of : Result (Unit {0}) Refusal → ℕ
+refusal_of (Ok u) = 0
+refusal_of (Err r) = refusal_number r
 
 -- the refusal of the new order vs of the segment from u to v under K
-unfoldable pub reordering : (out put : ℕ → ℕ → ℕ) (K : List Edge) (u v : ℕ) (vs : List ℕ) → ℕ
+abbrev pub reordering : (out put : ℕ → ℕ → ℕ) (K : List Edge) (u v : ℕ) (vs : List ℕ) → ℕ
 reordering out put K u v vs = refusal_of (reordered out put (segment_of K u v) u v vs)

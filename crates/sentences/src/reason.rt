@@ -1,3 +1,11 @@
+// A pair, the points x and y as the neighbours of the split point c.
+#[derive(Clone, Copy)]
+pub struct Pair {
+    pub c: u16,
+    pub x: u16,
+    pub y: u16,
+}
+
 // Why a pair does not stand at the first split of a line, or how its case is closed (02, Paper 6). A case that stands
 // at a first split is always closed by a further split, so the other closings have no variant here (they have their
 // sentences in `specs/`).

@@ -88,7 +88,6 @@ module _ (n : ℕ) (K : List Edge) (c x y : ℕ) (shape : Shape n K) (apart : Ap
 
     -- the test sees a short cycle
     seen_by : length vs < n → In c vs → (mx my : PathStep) → Onward K x c mx → Onward K y c my → shuts? n K x y mx my ≡ true
-    unfolding shuts?
     seen_by short ci Fork my hx hy = refl
     seen_by short ci Stop Fork hx hy = refl
     seen_by short ci Stop Stop hx hy = absurd (leaves x (neighbour_in c x ci (pair_x K c x y)) apart.x_c hx)
@@ -103,13 +102,11 @@ module _ (n : ℕ) (K : List Edge) (c x y : ℕ) (shape : Shape n K) (apart : Ap
 
   -- a test that is passed leaves x, and y, no two neighbours in K besides c
   room_x : (mx my : PathStep) → Onward K x c mx → shuts? n K x y mx my ≡ false → Forks K x c → ⊥
-  unfolding shuts?
   room_x Fork my h e f = true≢false e
   room_x Stop my h e f = stop_or_fork K x c h f
   room_x (On v) my h e f = lead_or_fork K x c v h f
 
   room_y : (mx my : PathStep) → Onward K y c my → shuts? n K x y mx my ≡ false → Forks K y c → ⊥
-  unfolding shuts?
   room_y Fork my h e f = true≢false e
   room_y Stop Fork h e f = true≢false e
   room_y Stop Stop h e f = stop_or_fork K y c h f
@@ -121,7 +118,6 @@ module _ (n : ℕ) (K : List Edge) (c x y : ℕ) (shape : Shape n K) (apart : Ap
   -- a pair with room that closes no short cycle passes
   unseen : AtMostTwo (with_pair K c x y) → NoShortCycle n (with_pair K c x y) → (mx my : PathStep) → Onward K x c mx → Onward K y c my
       → shuts? n K x y mx my ≡ false
-  unfolding shuts?
   unseen two long Fork my hx hy = absurd ((room_of_two K c x y apart two).at_x hx)
   unseen two long Stop Fork hx hy = absurd ((room_of_two K c x y apart two).at_y hy)
   unseen two long Stop Stop hx hy = refl

@@ -1,4 +1,3 @@
-pub mod BeyondNumbers
 pub mod Exact
 pub mod Laws
 pub mod Rising

@@ -1,8 +1,12 @@
 -- 01's K is the known edges: those that a tour is assumed to have.
 -- A list of edges read as a set: neither the order of an edge's two points nor a repeated edge matters.
-use Rattle.std.specs.Prelude.{ℕ, ◌≤◌, ◌≡◌, List, [], ◌∷◌, ◌⊎◌, length}
+use Rattle.std.specs.Prelude.{ℕ, ◌+◌, ◌*◌, ◌≤◌, ◌≡◌, List, [], ◌∷◌, ◌⊎◌, length}
 use Rattle.lists.specs.Count.{count}
 use Rattle.lengths.specs.Edge.{Edge, edge}
+
+-- the most edges that K has: the edge to be struck, and two for each of six splits
+abbrev pub most_known : ℕ
+most_known = 1 + 2 * 6
 
 -- the edge e is ab, in either order
 abbrev pub Joins : Edge → ℕ → ℕ → Type 0

@@ -3,7 +3,7 @@ use Rattle.std.specs.Prelude.{ℕ, Bool, false, ◌&&◌, ◌||◌, List, [], �
 use Rattle.lengths.specs.Edge.{Edge, edge}
 
 -- pq is ab, in either order
-unfoldable pub joins? : ℕ → ℕ → ℕ → ℕ → Bool
+abbrev pub joins? : ℕ → ℕ → ℕ → ℕ → Bool
 joins? p q a b = eqb p a && eqb q b || eqb p b && eqb q a
 
 -- ab is one of the edges

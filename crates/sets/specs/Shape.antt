@@ -14,7 +14,7 @@ pub record Shape (n : ℕ) (K : List Edge) : Type 0 where
   pub plain : (v : ℕ) → Has K v v → ⊥
 
 -- what holds of the point that the path goes on to, where it goes on to just one
-unfoldable pub goes_on : PathStep → (ℕ → Bool) → Bool
+abbrev pub goes_on : PathStep → (ℕ → Bool) → Bool
 goes_on Stop g = false
 goes_on (On v) g = g v
 goes_on Fork g = false
@@ -26,7 +26,7 @@ reaches? (suc f) K from at y = eqb at y || goes_on (beyond (neighbours_of K at) 
 
 -- with what x and y have in K beyond c: x or y gets a third edge, or the path from c over x meets y in time to
 -- close a short cycle
-unfoldable pub shuts? : ℕ → List Edge → ℕ → ℕ → PathStep → PathStep → Bool
+abbrev pub shuts? : ℕ → List Edge → ℕ → ℕ → PathStep → PathStep → Bool
 shuts? n K x y Fork my = true
 shuts? n K x y Stop Fork = true
 shuts? n K x y Stop Stop = false

@@ -1,7 +1,7 @@
 // The neighbours of a point in an edge set, as far as they matter: none, one, two, or more.
 ghost use Rattle.std.specs.Prelude.{◌≡◌};
 ghost use Rattle.sets.specs.Neighbours.{with_point, seen, neighbours_of, beyond, ends_of};
-ghost use Rattle.sets.specs.asks.Stored.{edge_list, Stored};
+ghost use Rattle.sets.specs.asks.Stored.{edge_list};
 
 use crate::edge_set::EdgeSet;
 
@@ -15,18 +15,11 @@ pub enum Neighbours {
 }
 
 // The neighbours of a point other than the one that the path came from: none, one, or several.
-#[derive(Drop)]
+#[derive(Clone, Copy, PartialEq, Eq)]
 pub enum PathStep {
     Stop,
     On(u16),
     Fork,
-}
-
-// The two other ends of a centre's edges, or that it has not exactly two.
-#[derive(Drop)]
-pub enum Ends {
-    Two(u16, u16),
-    Other,
 }
 
 impl Neighbours {
@@ -43,10 +36,7 @@ impl Neighbours {
                 Neighbours::Two(a, u)
             }
             Neighbours::Two(a, b) => {
-                if a == u {
-                    return Neighbours::Two(a, b);
-                }
-                if b == u {
+                if a == u || b == u {
                     return Neighbours::Two(a, b);
                 }
                 Neighbours::More
@@ -94,40 +84,30 @@ impl Neighbours {
     }
 }
 
-// The different neighbours of v in k. Ends: i rises to the count of k.
+// The different neighbours of v in k.
 pub fn neighbours_of(k: EdgeSet, v: u16) -> Neighbours
-    requires { Stored k }
     ensures { result ≡ neighbours_of (edge_list k) v }
 {
-    let from = k.from;
-    let to = k.to;
-    let count = k.count;
     let mut found = Neighbours::None;
-    let mut i = 0;
-    while i < count {
-        found = found.seeing(from[i], to[i], v);
-        i += 1;
+    for i in 0..k.count {
+        found = found.seeing(k.from[i], k.to[i], v);
     }
     found
 }
 
 // The neighbours of v in k other than from.
 pub fn onward(k: EdgeSet, v: u16, from: u16) -> PathStep
-    requires { Stored k }
     ensures { result ≡ beyond (neighbours_of (edge_list k) v) from }
 {
     neighbours_of(k, v).beyond(from)
 }
 
 // The other ends of r's edges in k, where there are exactly two.
-pub fn ends_of(k: EdgeSet, r: u16) -> Ends
-    requires { Stored k }
+pub fn ends_of(k: EdgeSet, r: u16) -> Option<(u16, u16)>
     ensures { result ≡ ends_of (edge_list k) r }
 {
     match neighbours_of(k, r) {
-        Neighbours::None => Ends::Other,
-        Neighbours::One(_) => Ends::Other,
-        Neighbours::Two(x, y) => Ends::Two(x, y),
-        Neighbours::More => Ends::Other,
+        Neighbours::Two(x, y) => Some((x, y)),
+        _ => None,
     }
 }

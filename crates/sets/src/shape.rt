@@ -1,25 +1,21 @@
 // Conditions 2 and 3: no point with three edges, no short cycle.
 ghost use Rattle.std.specs.Prelude.{◌≡◌, ◌-◌};
-ghost use Rattle.sets.specs.asks.Beyond.{next_of, ShutsAsked};
 ghost use Rattle.sets.specs.Neighbours.{neighbours_of, beyond};
 ghost use Rattle.sets.specs.Shape.{reaches?, shuts?};
-ghost use Rattle.sets.specs.asks.Stored.{edge_list, Stored};
+ghost use Rattle.sets.specs.asks.Stored.{edge_list};
 
-use crate::beyond;
 use crate::beyond::look_beyond;
 use crate::edge_set::EdgeSet;
 use crate::neighbours::{PathStep, onward};
 
 // Is y met on the path of k that comes from `start` to `first`, in time to close a cycle of fewer than n points?
-// Three points of the cycle are known where the path begins: c, start and first. Ends: `points` rises to n.
+// Three points of the cycle are known where the path begins: c, start and first.
 fn reaches(n: u16, k: EdgeSet, start: u16, first: u16, y: u16) -> bool
-    requires { Stored k }
     ensures { result ≡ reaches? (n - 3) (edge_list k) start first y }
 {
     let mut from = start;
     let mut at = first;
-    let mut points: u16 = 3;
-    while points < n {
+    for _ in 3..n {
         if at == y {
             return true;
         }
@@ -31,26 +27,18 @@ fn reaches(n: u16, k: EdgeSet, start: u16, first: u16, y: u16) -> bool
                 at = v;
             }
         }
-        points += 1;
     }
     false
 }
 
 // Does the pair x, y at a point c give y a third edge, or close a cycle of fewer than n edges?
-// `ahead` is what x has in k beyond c, nothing or one point. There is no cycle where x or y has nothing there.
-pub fn shuts(n: u16, k: EdgeSet, c: u16, x: u16, y: u16, ahead: u16) -> bool
-    requires { ShutsAsked k ahead }
-    ensures { result ≡ shuts? n (edge_list k) x y (next_of ahead) (beyond (neighbours_of (edge_list k) y) c) }
+// `ahead` is what x has in k beyond c. There is no cycle where x or y has nothing there.
+pub fn shuts(n: u16, k: EdgeSet, c: u16, x: u16, y: u16, ahead: PathStep) -> bool
+    ensures { result ≡ shuts? n (edge_list k) x y ahead (beyond (neighbours_of (edge_list k) y) c) }
 {
-    let behind = look_beyond(k, y, c);
-    if behind == beyond::FORK {
-        return true;
+    match (ahead, look_beyond(k, y, c)) {
+        (PathStep::Fork, _) | (_, PathStep::Fork) => true,
+        (PathStep::On(v), PathStep::On(_)) => reaches(n, k, x, v, y),
+        _ => false,
     }
-    if ahead == 0 {
-        return false;
-    }
-    if behind == 0 {
-        return false;
-    }
-    reaches(n, k, x, ahead, y)
 }

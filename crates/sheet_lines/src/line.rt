@@ -1,6 +1,5 @@
 // One line of a sheet: judged against the marks as they are, and then marked; and a sheet as the repetition of one
-// line. What is taken out is measured by the table `out`, what is put in by the table `put`; `outrows` and
-// `putrows` are their rows.
+// line.
 ghost use Rattle.std.specs.Prelude.{◌≡◌};
 ghost use Rattle.endian.specs.Bytes.{whole16, whole32};
 ghost use Rattle.marks.specs.Mark.{open_in};
@@ -13,198 +12,127 @@ ghost use Rattle.sheets.specs.Verdict.{result_of};
 ghost use Rattle.sheets.specs.Rules.{rules_in, marking_in};
 ghost use Rattle.sheets.specs.asks.Sheet.{record_of};
 
-use lengths::refusal;
+use lengths::refusal::{Refusal, Refused};
 use marks::mark;
 use marks::mark::{is_open, set_mark};
 use sets::edge_set::EdgeSet;
+use sheets::board::Board;
 use sheets::sheet::{Closing, Line, Record, Sheet};
-use sheets::verdict::Verdict;
-use sheets::walk::{Walked, chain, points_fit};
+use sheets::verdict::{Stopped, Verdict};
+use sheets::walk::{chain, points_fit};
 
-// What a line that was entered comes to: it strikes its edge, with the next index and the highest record entered,
-// or it is refused.
-#[derive(Drop)]
-pub enum Judged {
-    Strikes {
-        a: u16,
-        b: u16,
-        next: u16,
-        high: u16,
-    },
-    Refused(u8, u16),
-}
-
-// What the lines come to at an index: they are over, the line there struck its edge, or it is refused.
-#[derive(Drop)]
-pub enum Stepped {
-    Over,
-    Struck { next: u16, high: u16 },
-    Refused(u8, u16),
+// What an accepted line comes to: the edge that it strikes, the next index and the highest record entered.
+#[derive(Clone, Copy)]
+pub struct Strike {
+    pub a: u16,
+    pub b: u16,
+    pub next: u16,
+    pub high: u16,
 }
 
 // Judges the line that was read as record i.
-fn judge_line(
-    n: u16,
-    out: &[u8],
-    put: &[u8],
-    outrows: &[u32],
-    putrows: &[u32],
-    marks: &[u8],
-    sheet: &[u8],
-    count: u16,
-    i: u16,
-    line: Line,
-) -> Judged
-    requires { LineAsked n (whole32 out.now) (whole32 put.now) outrows.now putrows.now
-        (marks_of n marks.now) (whole16 sheet.now) count i }
-    ensures { judged_of result ≡ judge_record (rules_in n out.now put.now marks.now)
-        (open_in n (marks_of n marks.now)) (whole16 sheet.now) i (record_of (Record.Line line)) }
+fn judge_line(board: Board, marks: &[u8], i: u16, line: Line) -> Result<Strike, Refused>
+    requires { LineAsked board.tables.n (whole32 board.tables.out.now) (whole32 board.tables.put.now)
+        board.rows.out.now board.rows.put.now (marks_of board.tables.n marks.now)
+        (whole16 board.sheet.now) board.count i }
+    ensures { judged_of result
+        ≡ judge_record (rules_in board.entry.tables.n board.entry.tables.out.now board.entry.tables.put.now marks.now)
+        (open_in board.entry.tables.n (marks_of board.entry.tables.n marks.now)) (whole16 board.entry.sheet.now) i
+        (record_of (Record.Line line)) }
 {
     let closing = Closing::Split {
         point: line.point,
         first: line.first,
     };
-    if !points_fit(n, line.a, line.b, closing) {
-        return Judged::Refused(refusal::POINT, i);
+    if !points_fit(board.tables.n, line.a, line.b, closing) {
+        return Err(Refusal::Point.at(i));
     }
-    if !is_open(n, marks, line.a, line.b, mark::OPEN) {
-        return Judged::Refused(refusal::STRUCK, i);
+    if !is_open(board.tables.n, marks, line.a, line.b, mark::OPEN) {
+        return Err(Refusal::Struck.at(i));
     }
     let k = EdgeSet::single(line.a, line.b);
-    match chain(
-        n,
-        out,
-        put,
-        outrows,
-        putrows,
+    let high = chain(
+        board,
         marks,
-        sheet,
-        count,
         k,
         Sheet::MOST_SPLITS - 1,
         i,
         line.point,
         line.first,
-    ) {
-        Walked::Closed(high) => Judged::Strikes {
-            a: line.a,
-            b: line.b,
-            next: line.next,
-            high: high,
-        },
-        Walked::Refused(number, at) => Judged::Refused(number, at),
-    }
+    )?;
+    Ok(Strike {
+        a: line.a,
+        b: line.b,
+        next: line.next,
+        high,
+    })
 }
 
 // Judges the line that record i should be.
-pub fn judge(
-    n: u16,
-    out: &[u8],
-    put: &[u8],
-    outrows: &[u32],
-    putrows: &[u32],
-    marks: &[u8],
-    sheet: &[u8],
-    count: u16,
-    i: u16,
-) -> Judged
-    requires { LineAsked n (whole32 out.now) (whole32 put.now) outrows.now putrows.now
-        (marks_of n marks.now) (whole16 sheet.now) count i }
-    ensures { judged_of result ≡ judging.judge (rules_in n out.now put.now marks.now)
-        (open_in n (marks_of n marks.now)) (whole16 sheet.now) i }
+#[tactic(auto, unfolding(argument::specs::Line::judge, argument::specs::Line::judge_record, lengths::specs::Refusal::refusal_number))]
+pub fn judge(board: Board, marks: &[u8], i: u16) -> Result<Strike, Refused>
+    requires { LineAsked board.tables.n (whole32 board.tables.out.now) (whole32 board.tables.put.now)
+        board.rows.out.now board.rows.put.now (marks_of board.tables.n marks.now)
+        (whole16 board.sheet.now) board.count i }
+    ensures { judged_of result
+        ≡ judging.judge (rules_in board.entry.tables.n board.entry.tables.out.now board.entry.tables.put.now marks.now)
+        (open_in board.entry.tables.n (marks_of board.entry.tables.n marks.now)) (whole16 board.entry.sheet.now) i }
 {
-    match Sheet::record(sheet, i) {
-        Record::Line(line) => judge_line(
-            n, out, put, outrows, putrows, marks, sheet, count, i, line,
-        ),
-        Record::Case(_) => Judged::Refused(refusal::KIND, i),
-        Record::Visit(_, _) => Judged::Refused(refusal::KIND, i),
-        Record::Other => Judged::Refused(refusal::KIND, i),
-    }
+    let Record::Line(line) = Sheet::record(board.sheet, i) else {
+        return Err(Refusal::Kind.at(i));
+    };
+    judge_line(board, marks, i, line)
 }
 
-// One line from an index, which the record `last` has: judged and, if it is accepted, marked with `mark`.
+// One line from an index, which the record `last` has: judged and, if it is accepted, marked with `mark`. None: the
+// lines are over.
 pub fn mark_line(
-    n: u16,
+    board: Board,
     mark: u8,
-    out: &[u8],
-    put: &[u8],
-    outrows: &[u32],
-    putrows: &[u32],
     marks: &mut [u8],
-    sheet: &[u8],
-    count: u16,
     last: u16,
     index: u16,
     high: u16,
-) -> Stepped
-    requires { MarkingAsked mark n (whole32 out.now) (whole32 put.now) outrows.now putrows.now
-        (marks_of n marks.old) (whole16 sheet.now) count }
-    ensures { SteppedAs mark n (whole32 out.now) (whole32 put.now)
-        (marks_of n marks.old) (whole16 sheet.now) last index high result (marks_of n marks.new) }
+) -> Result<Option<Strike>, Refused>
+    requires { MarkingAsked mark board.tables.n (whole32 board.tables.out.now) (whole32 board.tables.put.now)
+        board.rows.out.now board.rows.put.now (marks_of board.tables.n marks.old)
+        (whole16 board.sheet.now) board.count }
+    ensures { SteppedAs mark board.entry.tables.n (whole32 board.entry.tables.out.now)
+        (whole32 board.entry.tables.put.now) (marks_of board.entry.tables.n marks.old)
+        (whole16 board.entry.sheet.now) last index high result (marks_of board.entry.tables.n marks.new) }
 {
     if index == 0 {
-        return Stepped::Over;
+        return Ok(None);
     }
-    if count < index {
-        return Stepped::Refused(refusal::INDEX_ABOVE, last);
-    }
-    if index <= high {
-        return Stepped::Refused(refusal::INDEX_NOT_ABOVE, last);
-    }
-    match judge(n, out, put, outrows, putrows, marks, sheet, count, index) {
-        Judged::Strikes { a, b, next, high } => {
-            set_mark(n, marks, a, b, mark);
-            Stepped::Struck {
-                next: next,
-                high: high,
-            }
-        }
-        Judged::Refused(number, at) => Stepped::Refused(number, at),
-    }
+    Sheet::test_index(board.count, last, index, high)?;
+    let strike = judge(board, marks, index)?;
+    set_mark(board.tables.n, marks, strike.a, strike.b, mark);
+    Ok(Some(strike))
 }
 
 // The lines of a sheet of so many records, from record 1 on; an accepted line marks its edge with `mark`. Ends: each
-// record entered is above the highest before.
-pub fn mark_lines(
-    n: u16,
-    mark: u8,
-    out: &[u8],
-    put: &[u8],
-    outrows: &[u32],
-    putrows: &[u32],
-    marks: &mut [u8],
-    sheet: &[u8],
-    count: u16,
-) -> Verdict
-    requires { MarkingAsked mark n (whole32 out.now) (whole32 put.now) outrows.now putrows.now
-        (marks_of n marks.old) (whole16 sheet.now) count }
-    ensures { result_of result (marks_of n marks.new) ≡
-        lines.sheet (marking_in mark n out.now put.now) (whole16 sheet.now)
-        (marks_of n marks.old) }
+// record entered is above the highest before. A `match` in place of `?`: the lines so far go into the refusal.
+pub fn mark_lines(board: Board, mark: u8, marks: &mut [u8]) -> Verdict
+    requires { MarkingAsked mark board.tables.n (whole32 board.tables.out.now) (whole32 board.tables.put.now)
+        board.rows.out.now board.rows.put.now (marks_of board.tables.n marks.old)
+        (whole16 board.sheet.now) board.count }
+    ensures { result_of result (marks_of board.entry.tables.n marks.new) ≡
+        lines.sheet (marking_in mark board.entry.tables.n board.entry.tables.out.now board.entry.tables.put.now)
+        (whole16 board.entry.sheet.now) (marks_of board.entry.tables.n marks.old) }
 {
     let mut lines: u16 = 0;
     let mut last: u16 = 0;
     let mut index: u16 = 1;
     let mut high: u16 = 0;
     loop {
-        match mark_line(
-            n, mark, out, put, outrows, putrows, marks, sheet, count, last, index, high,
-        ) {
-            Stepped::Over => return Verdict::Accepted { lines: lines },
-            Stepped::Refused(number, at) => return Verdict::Refused {
-                refusal: number,
-                record: at,
-                lines: lines,
-            },
-            Stepped::Struck {
-                next,
-                high: reached,
-            } => {
+        match mark_line(board, mark, marks, last, index, high) {
+            Ok(None) => return Ok(lines),
+            Err(refused) => return Err(Stopped { refused, lines }),
+            Ok(Some(strike)) => {
                 lines += 1;
                 last = index;
-                index = next;
-                high = reached;
+                index = strike.next;
+                high = strike.high;
             }
         }
     }

@@ -1,4 +1,5 @@
 pub mod Looking
 pub mod Records
-pub mod Walking
+pub mod Refusals
 pub mod Visiting
+pub mod Walking

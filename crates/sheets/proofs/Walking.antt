@@ -7,25 +7,26 @@ use mathlib.Core.Bool.{true}
 use lib.ListN.{length}
 use mathlib.Core.List.{List}
 use native.Mathlib.Omega.{arith}
+use Rattle.std.specs.Prelude.{Option, Some, None, Result, Ok, Err}
 use Rattle.lists.proofs.Bools.{and_true}
+use Rattle.endian.specs.Bytes.{whole32}
 use Rattle.lengths.specs.Edge.{Edge, edge_count}
-use Rattle.lengths.specs.Table.{length_of}
-use Rattle.marks.specs.Mark.{open_mark, open_in}
+use Rattle.lengths.specs.Refusal.{refusal_number}
+use Rattle.lengths.specs.declared.refusal.Refusal.{Refusal}
+use Rattle.lengths.specs.declared.refusal.Refused.{Refused}
+use Rattle.lengths.specs.Table.{length_of, Lengths}
+use Rattle.marks.specs.Mark.{open_in}
 use Rattle.sets.specs.EdgeSet.{with_pair}
 use Rattle.rules.specs.asks.Pairs.{feasible_after}
 use Rattle.sets.specs.Neighbours.{neighbours_of}
-use Rattle.search.specs.asks.Candidates.{CandidatesOf}
-use Rattle.search.specs.asks.Pairs.{Searchable, NextPairOf}
-use Rattle.search.specs.asks.Split.{Bounded, Prepared, SplitAsked, SplitOf}
+use Rattle.search.specs.declared.pairs.Search.{Search}
+use Rattle.search.specs.asks.Pairs.{first_of, NextPairOf}
+use Rattle.search.specs.asks.Split.{Prepared, SplitAsked}
 use Rattle.sets.specs.asks.Stored.{edge_list, Added, most_known}
 use Rattle.closings.specs.ClosingTest.{three_opt_outcome, refusal_of}
 use Rattle.closings.specs.asks.ClosingTest.{ThreeOptAsked}
 use Rattle.sets.specs.declared.edge_set.EdgeSet.{EdgeSet}
 use Rattle.sets.specs.declared.neighbours.Neighbours.{Neighbours}
-use Rattle.search.specs.declared.pairs.NextPair.{NextPair}
-use Rattle.closings.specs.declared.closing.ThreeOptOutcome.{ThreeOptOutcome}
-use Rattle.closings.specs.declared.closing.ThreeOptOutcome.TheVariants.{Closed, NoMoves, NoSaving}
-use Rattle.sets.proofs.BeyondNumbers.{two_apart}
 use Rattle.rules.proofs.PairLists.{feasible_after_start, feasible_after_next}
 use Rattle.segments.specs.SegmentTest.{segment?, reordering}
 use Rattle.argument.specs.Verdict.{Verdict, accepted, refused, refused_by}
@@ -44,11 +45,8 @@ use Rattle.sheets.specs.asks.Walk.{walked_of, looked_of, points_only, spot_of, C
 use Rattle.sheets.specs.declared.sheet.Closing.{Closing}
 use Rattle.sheets.specs.declared.sheet.Closing.TheVariants.{Split, ThreeOpt, Reorder}
 use Rattle.sheets.specs.declared.sheet.Case.{Case}
-use Rattle.sheets.specs.declared.walk.Walked.{Walked}
-use Rattle.sheets.specs.declared.walk.Walked.TheVariants as walked
-use Rattle.sheets.specs.declared.walk.Looked.{Looked}
-use Rattle.sheets.specs.declared.walk.Looked.TheVariants as looking
 use Rattle.sheets.proofs.Looking.{closing-fits, look_heads}
+use Rattle.sheets.proofs.Refusals.{refused_number}
 
 -- where a chain's loop stands: its last pair is x, y, and 1, 1 before the first
 abbrev spot_at : (n : ℕ) (out put marks : List ℕ) (k : EdgeSet) (left c x y last index high : ℕ) → Spot
@@ -63,65 +61,75 @@ spot_at n out put marks k left c x y last index high =
       high = high;
     }
 
+-- the search s is that of k at c, over the two tables under these marks
+pub record Over (n : ℕ) (out put marks : List ℕ) (k : EdgeSet) (c : ℕ) (sn : ℕ) (table legs : List ℕ) (bound sc : ℕ) (centre : Neighbours) (sk : EdgeSet) : Type 0 where
+  pub points : sn ≡ n
+  pub measure : whole32 table ≡ put
+  pub known : sk ≡ k
+  pub point : sc ≡ c
+  pub lengths : Lengths sn out
+  pub prepared : Prepared sn (length_of sn out) (length_of sn (whole32 table)) (open_in n marks) (edge_list sk) sc legs bound
+  pub own : centre ≡ neighbours_of (edge_list sk) sc
+
+-- what it finds is the first of the feasible pairs that are left
+pub over_next : {s : Search} {x y : ℕ} {next : Option (ℕ × ℕ)} → NextPairOf s x y next → {n : ℕ} {out put marks : List ℕ} {k : EdgeSet} {c : ℕ} → Over n out put marks k c s.n s.table.now s.legs.now s.bound s.c s.centre s.k
+    → next ≡ first_of (feasible_after n (length_of n out) (length_of n put) (open_in n marks) (edge_list k) c x y)
+over_next {s} {x} {y} {next} found {n} {out} {put} {marks} {k} {c} o =
+    found.first out (open_in n marks) o.lengths o.prepared o.own
+    ∙ ap (λ (m : ℕ). first_of (feasible_after m (length_of m out) (length_of m (whole32 s.table.now)) (open_in n marks) (edge_list s.k) s.c x y)) o.points
+    ∙ ap (λ (t : List ℕ). first_of (feasible_after n (length_of n out) (length_of n t) (open_in n marks) (edge_list s.k) s.c x y)) o.measure
+    ∙ ap (λ (w : EdgeSet). first_of (feasible_after n (length_of n out) (length_of n put) (open_in n marks) (edge_list w) s.c x y)) o.known
+    ∙ ap (λ (p : ℕ). first_of (feasible_after n (length_of n out) (length_of n put) (open_in n marks) (edge_list k) p x y)) o.point
+
 -- the loop's invariant
-pub record Following (n : ℕ) (out put outrows putrows marks sheet : List ℕ) (count : ℕ) (k : EdgeSet) (left i c first : ℕ) (legs candidates rank : List ℕ) (bound : ℕ) (centre : Neighbours) (x y last index high : ℕ) : Type 0 where
+pub record Following (n : ℕ) (out put outrows putrows marks sheet : List ℕ) (count : ℕ) (k : EdgeSet) (left i c first : ℕ) (sn : ℕ) (table legs : List ℕ) (bound sc : ℕ) (centre : Neighbours) (sk : EdgeSet) (x y last index high : ℕ) : Type 0 where
   pub asked : ChainAsked n out put outrows putrows marks sheet count k left c
-  pub bounded : Bounded legs bound
-  pub listed : CandidatesOf n legs candidates rank
-  pub prepared : Prepared n (length_of n out) (length_of n put) (open_in n marks) (edge_list k) c legs bound
-  pub own : centre ≡ neighbours_of (edge_list k) c
+  pub same : Over n out put marks k c sn table legs bound sc centre sk
   pub low : 1 ≤ x
   pub up : x ≤ y
-  pub top : y ≤ n
+  pub top : y ≤ sn
   pub walks : walk (rules_between n out put marks) sheet (spot_at n out put marks k left c x y last index high) ≡ walk (rules_between n out put marks) sheet (opening (rules_between n out put marks) (suc left) (edge_list k) i c first)
 
 module _ {n : ℕ} {out put outrows putrows marks sheet : List ℕ} {count : ℕ} {k : EdgeSet} {left c : ℕ} (asked : ChainAsked n out put outrows putrows marks sheet count k left c) where
   pub chain_split : SplitAsked n out put outrows putrows marks k c
   chain_split = record { legs = record { intervals = asked.tried.admitted.intervals; marked = asked.tried.admitted.marked; centre = asked.centre }; in_out = asked.tried.in_out; in_put = asked.tried.in_put; held = asked.held }
 
-  pub follow_start : {legs candidates rank : List ℕ} {bound : ℕ} {centre : Neighbours} (i first : ℕ) → SplitOf open_mark n out put marks k c legs bound → centre ≡ neighbours_of (edge_list k) c
-      → CandidatesOf n legs candidates rank → Following n out put outrows putrows marks sheet count k left i c first legs candidates rank bound centre 1 1 i first i
+  pub follow_start : {sn : ℕ} {table legs : List ℕ} {bound sc : ℕ} {centre : Neighbours} {sk : EdgeSet} (i first : ℕ) → Over n out put marks k c sn table legs bound sc centre sk → Following n out put outrows putrows marks sheet count k left i c first sn table legs bound sc centre sk 1 1 i first i
   unfolding opening
-  follow_start i first s own listed =
+  follow_start i first over =
       let e : left ≡ suc left - 1 = omega arith in
       record {
         asked = asked;
-        bounded = s.bounded;
-        listed = listed;
-        prepared = s.prepared;
-        own = own;
+        same = over;
         low = omega arith;
         up = omega arith;
-        top = omega (arith, asked.centre);
+        top = omega (arith, asked.centre, over.points);
         walks = ap₂ (λ (l : ℕ) (ps : List Edge). walk (rules_between n out put marks) sheet record { left = l; known = edge_list k; point = c; pairs = ps; last = i; index = first; high = i }) e (feasible_after_start n (length_of n out) (length_of n put) (open_in n marks) (edge_list k) c);
       }
 
-module _ {n : ℕ} {out put outrows putrows marks sheet : List ℕ} {count : ℕ} {k : EdgeSet} {left i c first : ℕ} {legs candidates rank : List ℕ} {bound : ℕ} {centre : Neighbours} {x y last index high : ℕ} (f : Following n out put outrows putrows marks sheet count k left i c first legs candidates rank bound centre x y last index high) where
+module _ {n : ℕ} {out put outrows putrows marks sheet : List ℕ} {count : ℕ} {k : EdgeSet} {left i c first : ℕ} {sn : ℕ} {table legs : List ℕ} {bound sc : ℕ} {centre : Neighbours} {sk : EdgeSet} {x y last index high : ℕ} (f : Following n out put outrows putrows marks sheet count k left i c first sn table legs bound sc centre sk x y last index high) where
   abbrev rules : Rules
   rules = rules_between n out put marks
 
   abbrev here : Spot
   here = spot_at n out put marks k left c x y last index high
 
-  pub follow_search : Searchable n put legs candidates rank bound centre k x y
-  follow_search = record { beside = record { row = record { lengths = f.asked.tried.admitted.intervals.put_lengths; bounded = f.bounded; listed = f.listed; low = f.low; up = f.up; high = f.top }; apart = two_apart (edge_list k) c centre f.own }; held = f.asked.held }
-
   pub follow_few : k.count + 2 ≤ most_known
   follow_few = omega (arith, f.asked.room)
 
   -- what the code's look answers is what the walk looks at
-  module _ {next : NextPair} (found : NextPairOf n put legs bound c centre k x y next) {r : Looked} (e : looked_of r ≡ look (points_only n) sheet (spot_of next last index high)) where
-    looks : {r' : Looked} → r ≡ r' → look rules sheet here ≡ looked_of r'
+  module _ {next : Option (ℕ × ℕ)} (found : next ≡ first_of (feasible_after n (length_of n out) (length_of n put) (open_in n marks) (edge_list k) c x y)) {r : Result (Option Case) Refused} (e : looked_of r ≡ look (points_only n) sheet (spot_of next last index high)) where
+    looks : {r' : Result (Option Case) Refused} → r ≡ r' → look rules sheet here ≡ looked_of r'
     looks g =
-        look_heads rules sheet left (edge_list k) c _ last index high ∙ ap (λ (p : NextPair). look (points_only n) sheet (spot_of p last index high)) (sym (found.first out (open_in n marks) f.asked.tried.admitted.intervals.out_lengths f.prepared f.own)) ∙ sym e ∙ ap looked_of g
+        look_heads rules sheet left (edge_list k) c _ last index high ∙ ap (λ (p : Option (ℕ × ℕ)). look (points_only n) sheet (spot_of p last index high)) (sym found) ∙ sym e ∙ ap looked_of g
 
-    pub follow_ends : r ≡ looking.ChainEnds → accepted high ≡ walk rules sheet (opening rules (suc left) (edge_list k) i c first)
+    pub follow_ends : r ≡ Ok None → accepted high ≡ walk rules sheet (opening rules (suc left) (edge_list k) i c first)
     follow_ends g = sym (walk_ends rules sheet here (looks g)) ∙ f.walks
 
-    pub follow_stops : {m a : ℕ} → r ≡ looking.Refused m a → refused m a ≡ walk rules sheet (opening rules (suc left) (edge_list k) i c first)
-    follow_stops {m} {a} g = sym (walk_stops rules sheet here m a (looks g)) ∙ f.walks
+    pub follow_stops : {x : Refused} → r ≡ Err x → walked_of (Err x) ≡ walk rules sheet (opening rules (suc left) (edge_list k) i c first)
+    follow_stops g = sym (walk_stops rules sheet here _ _ (looks g)) ∙ f.walks
 
-    module _ {x' : Case} (g : r ≡ looking.Takes x') where
+    module _ {x' : Case} (g : r ≡ Ok (Some x')) where
       taken : Taken rules sheet here x'.a x'.b (closing_of x'.closing) x'.next
       taken = looked rules sheet here (takes x'.a x'.b (closing_of x'.closing) x'.next) (looks g)
 
@@ -136,33 +144,30 @@ module _ {n : ℕ} {out put outrows putrows marks sheet : List ℕ} {count : ℕ
               points = closing-fits _ _ _ _ (means_fits t.fit);
             }
 
-        module _ {v : Walked} (z : walked_of v ≡ close rules sheet (walk rules sheet) left (edge_list k') index (closing_of x'.closing)) where
-          closes : {v' : Walked} → v ≡ v' → close rules sheet (walk rules sheet) left (with_pair (edge_list k) c x'.a x'.b) index (closing_of x'.closing) ≡ walked_of v'
+        module _ {v : Result ℕ Refused} (z : walked_of v ≡ close rules sheet (walk rules sheet) left (edge_list k') index (closing_of x'.closing)) where
+          closes : {v' : Result ℕ Refused} → v ≡ v' → close rules sheet (walk rules sheet) left (with_pair (edge_list k) c x'.a x'.b) index (closing_of x'.closing) ≡ walked_of v'
           closes w = ap (λ (K : List Edge). close rules sheet (walk rules sheet) left K index (closing_of x'.closing)) (sym added.edges) ∙ sym z ∙ ap walked_of w
 
-          pub follow_case_stops : {m a : ℕ} → v ≡ walked.Refused m a → refused m a ≡ walk rules sheet (opening rules (suc left) (edge_list k) i c first)
-          follow_case_stops {m} {a} w = sym (walk_case_stops rules sheet here _ _ _ _ (looks g) m a (closes w)) ∙ f.walks
+          pub follow_case_stops : {x : Refused} → v ≡ Err x → walked_of (Err x) ≡ walk rules sheet (opening rules (suc left) (edge_list k) i c first)
+          follow_case_stops w = sym (walk_case_stops rules sheet here _ _ _ _ (looks g) _ _ (closes w)) ∙ f.walks
 
-          module _ {reached : ℕ} (w : v ≡ walked.Closed reached) where
+          module _ {reached : ℕ} (w : v ≡ Ok reached) where
             -- the records left above the highest entered fall
             pub follow_falls : records sheet - reached < records sheet - high
             unfolding walk
             follow_falls = omega (arith, taken.entered, close_rises rules sheet (walk rules sheet) (walk_rises rules sheet (suc (records sheet))) left _ index (closing_of x'.closing) reached (closes w))
 
-            pub follow_on : Following n out put outrows putrows marks sheet count k left i c first legs candidates rank bound centre x'.a x'.b index x'.next reached
+            pub follow_on : Following n out put outrows putrows marks sheet count k left i c first sn table legs bound sc centre sk x'.a x'.b index x'.next reached
             unfolding behind
             follow_on =
                 let t = taken in
-                let h = feasible_after_next n (length_of n out) (length_of n put) (open_in n marks) (edge_list k) c f.low f.up f.top t.named in
+                let h = feasible_after_next n (length_of n out) (length_of n put) (open_in n marks) (edge_list k) c f.low f.up (omega (arith, f.top, f.same.points)) t.named in
                 record {
                   asked = f.asked;
-                  bounded = f.bounded;
-                  listed = f.listed;
-                  prepared = f.prepared;
-                  own = f.own;
+                  same = f.same;
                   low = h.0.low;
                   up = omega (arith, h.0.up);
-                  top = h.0.high;
+                  top = omega (arith, h.0.high, f.same.points);
                   walks =
                       ap (λ (ps : List Edge). walk rules sheet record { left = left; known = edge_list k; point = c; pairs = ps; last = index; index = x'.next; high = reached }) (sym h.2)
                       ∙ sym (walk_goes_on rules sheet here _ _ _ _ (looks g) reached (closes w))
@@ -210,21 +215,16 @@ module _ {n : ℕ} {out put outrows putrows marks sheet : List ℕ} {count : ℕ
     pub close_three_opt_asked : ThreeOptAsked n out k p q r s × ThreeOptAsked n put k p q r s
     close_three_opt_asked = let l = asked.tried.admitted.intervals in (three_opt_over l.out_lengths.whole, three_opt_over l.put_lengths.whole)
 
-    module _ (i : ℕ) {v : ThreeOptOutcome} (z : v ≡ three_opt_outcome (length_of n out) (length_of n put) (edge_list k) p q r s) where
-      outcome_as : {v' : ThreeOptOutcome} → v ≡ v' → refused_by (refusal_of v') i i ≡ close case_rules sheet (walk case_rules sheet) left (edge_list k) i (closing_of closing)
-      outcome_as g = ap (λ (x : ThreeOptOutcome). refused_by (refusal_of x) i i) (sym g ∙ z) ∙ sym (close_three_opts case_rules sheet left (edge_list k) i p q r s) ∙ closed_as i e
+    module _ (i : ℕ) {v : Result (Unit {0}) Refusal} (z : v ≡ three_opt_outcome (length_of n out) (length_of n put) (edge_list k) p q r s) where
+      outcome_as : {v' : Result (Unit {0}) Refusal} → v ≡ v' → refused_by (refusal_of v') i i ≡ close case_rules sheet (walk case_rules sheet) left (edge_list k) i (closing_of closing)
+      outcome_as g = ap (λ (x : Result (Unit {0}) Refusal). refused_by (refusal_of x) i i) (sym g ∙ z) ∙ sym (close_three_opts case_rules sheet left (edge_list k) i p q r s) ∙ closed_as i e
 
-      pub close_closed : v ≡ Closed → accepted i ≡ close case_rules sheet (walk case_rules sheet) left (edge_list k) i (closing_of closing)
-      unfolding refusal_of refused_by
+      pub close_closed : v ≡ Ok tt → accepted i ≡ close case_rules sheet (walk case_rules sheet) left (edge_list k) i (closing_of closing)
+      unfolding refused_by
       close_closed g = outcome_as g
 
-      pub close_no_moves : v ≡ NoMoves → refused 15 i ≡ close case_rules sheet (walk case_rules sheet) left (edge_list k) i (closing_of closing)
-      unfolding refusal_of refused_by
-      close_no_moves g = outcome_as g
-
-      pub close_no_saving : v ≡ NoSaving → refused 16 i ≡ close case_rules sheet (walk case_rules sheet) left (edge_list k) i (closing_of closing)
-      unfolding refusal_of refused_by
-      close_no_saving g = outcome_as g
+      pub close_not : {x : Refusal} → v ≡ Err x → refused (refusal_number x) i ≡ close case_rules sheet (walk case_rules sheet) left (edge_list k) i (closing_of closing)
+      close_not {x} g = sym (refused_number x i i) ∙ outcome_as g
 
   module _ {u v first : ℕ} (e : closing ≡ Reorder u v first) where
     pub close_order_asked : OrderAsked n out put sheet count k u v

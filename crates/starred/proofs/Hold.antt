@@ -19,20 +19,21 @@ use Rattle.lengths.proofs.Distances.{distance_euc2d, euc2d_only, distance_ceil2d
 use Rattle.lengths.proofs.Tables.{length_symmetric}
 use Rattle.sets.specs.EdgeSet.{Has, DegreeTwo, with_pair}
 use Rattle.closings.specs.Closing.{ThreeOptMoves}
-use Rattle.closings.specs.ClosingTest.{saves?, labelling?, centres_apart?, placed?, closed_by, three_opt_outcome}
-use Rattle.sets.specs.Joined.{joins?, has?}
+use Rattle.closings.specs.ClosingTest.{saves?, labelling?, three_opt_outcome}
+use Rattle.sets.specs.Joined.{has?}
 use Rattle.marks.specs.Mark.{open_up_to, mark_at}
-use Rattle.sets.specs.Neighbours.{with_point, seen, neighbours_of, both_of, ends_of, within?, either?, beyond}
+use Rattle.sets.specs.Neighbours.{neighbours_of, within?, either?}
 use lib.IntN.{pos}
-use Rattle.lengths.specs.Saving.{gains?, smaller, larger}
+use Rattle.lengths.specs.Saving.{gains?}
 use Rattle.closings.specs.Closing.{first_saving, second_saving, label_saving, three_opt_saving}
 use Rattle.closings.proofs.Savings.{saves_sums}
 use Rattle.rules.proofs.Savings.{compatible_sum, move_sum}
 use Rattle.rules.specs.Pair.{move_saving, FeasiblePair}
 use Rattle.rules.specs.PairTest.{every, compatible?, leg?, stays?, unmoved?, joint?, meeting?, apart?, degree_two_stays?, end_at?, end_stays?, candidate_leg?, feasible?, feasible_by01?}
 use Rattle.rules.specs.Pairs.{keep, feasible_pairs}
-use Rattle.sets.specs.Shape.{shape?, shuts?, reaches?, goes_on}
-use Rattle.closings.specs.declared.closing.ThreeOptOutcome.TheVariants.{NoSaving}
+use Rattle.sets.specs.Shape.{shape?, reaches?}
+use Rattle.std.specs.Prelude.{Err}
+use Rattle.lengths.specs.declared.refusal.Refusal.TheVariants.{Saving}
 use Rattle.closings.proofs.ClosingExact.{no_saving_exact}
 use Rattle.sets.proofs.Laws.Neighbours.{ends_turned}
 use Rattle.sets.proofs.Exact.{has_exact, ends_sound, shape_exact, single_shape}
@@ -70,7 +71,7 @@ feasible_hold a b c pairs apart e x y =
     subst (λ (es : List Edge). Memᴰ (edge x y) es ↔ FeasiblePair 4 square square all_open (edge a b ∷ []) c x y) e r
 
 are_moves : ThreeOptMoves centres 1 2 3 4 5 6 7 8
-unfolding centres ends_of both_of neighbours_of seen with_point has? joins?
+unfolding centres neighbours_of has?
 are_moves = record {
   edge_of_K = (has_exact centres 1 2).0 refl;
   centres = λ e. omega arith;
@@ -112,7 +113,7 @@ saves_hold rs difference h e best =
       record { x = 5; y = 6; z = 7; w = 8; moves = are_moves; saves = (saves_sums (eight rs) (eight rs) 1 2 3 4 5 6 7 8).1 (omega arith, omega arith) },
     )
 
-unsaved_hold : (rs : ℕ) → 12 ≤ rs → three_opt_outcome (eight rs) (eight rs) centres 1 2 3 4 ≡ NoSaving → Claim (unsaved rs)
+unsaved_hold : (rs : ℕ) → 12 ≤ rs → three_opt_outcome (eight rs) (eight rs) centres 1 2 3 4 ≡ Err Saving → Claim (unsaved rs)
 unsaved_hold rs h e =
     let l = eight_lengths rs in (
       (l, are_moves),
@@ -173,8 +174,8 @@ each (d ∷ es) (h & hs) e m = ⊎_elim (λ q. subst (λ (x : Example). Claim x)
 -- the square's numbers, the standing pairs and the 3-opt closing's answer are computed
 proved : Proved starred
 unfolding starred distance_by bisect passes square all_open five five_open second feasible_by01? with_pair move_saving eight centres length_of measured_table edge_distance gap_distance squares x_of y_of x_gap y_gap gap_of
-    edge_count place place_up tri edges rows row open_up_to mark_at feasible_pairs keep feasible? candidate_leg? leg? degree_two_stays? apart? meeting? joint? unmoved? end_stays? end_at? stays? every compatible? shape? shuts? reaches? goes_on
-    neighbours_of seen with_point within? either? beyond three_opt_outcome placed? has? joins? centres_apart? ends_of both_of closed_by labelling? saves? three_opt_saving label_saving first_saving second_saving smaller larger
+    edge_count place place_up tri edges rows row open_up_to mark_at feasible_pairs keep feasible? candidate_leg? leg? degree_two_stays? apart? meeting? joint? unmoved? end_stays? end_at? stays? every compatible? shape? reaches?
+    neighbours_of within? either? has? labelling? saves? three_opt_saving label_saving first_saving second_saving
 proved =
     distances_hold 1 1 2 1 2 1 2 1 (omega arith) refl refl refl refl refl refl &
     distances_hold 1 2 5 2 3 1 3 2 (omega arith) refl refl refl refl refl refl &

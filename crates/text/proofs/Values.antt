@@ -1,14 +1,14 @@
 -- The loop over columns: the value of those that are passed, and its bound whatever bytes they are. Assumes nothing.
-use Prim.Native.Nat.{ℕ, ◌+◌, ◌*◌, ◌^◌, ◌≤◌, ◌<◌}
+use Prim.Native.Nat.{ℕ, ◌+◌, ◌-◌, ◌*◌, ◌^◌, ◌≤◌, ◌<◌}
 use mathlib.Core.Path.{◌≡◌, refl, ◌∙◌, ap}
 use mathlib.Core.List.{List}
 use native.Mathlib.Nat.{pow-suc, pow-le-pow_right}
 use native.Mathlib.Numerals.{add-one}
 use native.Mathlib.Omega.{arith}
 use lib.ListN.{length, get_or, take}
-use lib.Seq.{take-suc, take-length}
+use lib.Seq.{take-suc}
 use Rattle.text.specs.Decimal.{value_from}
-use Rattle.text.specs.asks.Columns.{DigitIs, most_columns}
+use Rattle.text.specs.asks.Columns.{most_columns}
 use Rattle.text.proofs.Decimals.{value_append}
 
 -- a digit is at most 207, so the value of i columns is at most 23 * 10 ^ i - 23
@@ -25,12 +25,9 @@ module _ {columns : List ℕ} {value i : ℕ} (v : Valuing columns value i) wher
   pub value_few : length columns ≤ most_columns → i < length columns → value ≤ 23000000
   value_few m h = let few : 10 ^ i ≤ 10 ^ 6 = pow-le-pow_right {n = 10} (omega arith) {i = i} {j = 6} (omega arith) in omega (arith, v.small)
 
-  pub value_on : {d : ℕ} → i < length columns → DigitIs (get_or columns i 0) d → Valuing columns (10 * value + d) (i + 1)
-  value_on {d} h is = record {
+  pub value_on : {d : ℕ} → i < length columns → d ≡ get_or columns i 0 - 48 → d ≤ 207 → Valuing columns (10 * value + d) (i + 1)
+  value_on {d} h is small = record {
     inside = omega arith;
-    is = omega (arith, is.value, v.is, value_append 0 (take i columns) (get_or columns i 0), ap (value_from 0) (ap (λ (k : ℕ). take k columns) (add-one i) ∙ take-suc columns i 0 h));
-    small = omega (arith, v.small, is.small, ap (λ (k : ℕ). 10 ^ k) (add-one i), pow-suc 10 i);
+    is = omega (arith, v.is, value_append 0 (take i columns) (get_or columns i 0), ap (value_from 0) (ap (λ (k : ℕ). take k columns) (add-one i) ∙ take-suc columns i 0 h));
+    small = omega (arith, v.small, ap (λ (k : ℕ). 10 ^ k) (add-one i), pow-suc 10 i);
   }
-
-  pub value_done : length columns ≤ i → value ≡ value_from 0 columns
-  value_done h = let e : i ≡ length columns = omega (arith, v.inside) in v.is ∙ ap (value_from 0) (ap (λ (k : ℕ). take k columns) e ∙ take-length columns)

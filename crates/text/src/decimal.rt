@@ -11,7 +11,7 @@ fn put_digit(digit: u32, out: &mut [u8], at: usize) -> usize
     requires { DigitAsked out.old at digit }
     ensures { Wrote out.old at ((48 + digit) ∷ []) result out.new }
 {
-    out[at] = 48 + digit as u8;
+    out[at] = b'0' + digit as u8;
     at + 1
 }
 

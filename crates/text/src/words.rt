@@ -2,32 +2,19 @@
 ghost use Rattle.std.specs.Prelude.{◌≡◌};
 ghost use Rattle.text.specs.Words.{Room, Wrote, same};
 
-// Writes a word. Ends: i rises to its length.
+// Writes a word.
 pub fn put_word(word: &[u8], out: &mut [u8], at: usize) -> usize
     requires { Room out.old at word.now }
     ensures { Wrote out.old at word.now result out.new }
 {
-    let mut i = 0;
-    while i < word.len() {
-        out[at + i] = word[i];
-        i += 1;
-    }
-    at + i
+    let next = at + word.len();
+    out[at..next].copy_from_slice(word);
+    next
 }
 
-// Are two words the same? Ends: i rises to their length.
+// Are two words the same?
 pub fn same(a: &[u8], b: &[u8]) -> bool
     ensures { result ≡ same a.now b.now }
 {
-    if a.len() != b.len() {
-        return false;
-    }
-    let mut i = 0;
-    while i < a.len() {
-        if a[i] != b[i] {
-            return false;
-        }
-        i += 1;
-    }
-    true
+    a == b
 }

@@ -7,6 +7,7 @@ use mathlib.Core.List.{List, [], ◌∷◌, ◌++◌, append-nil}
 use native.Mathlib.Omega.{arith}
 use lib.ListN.{length, get_or}
 use borrow.Author.Tests.{ne_eqb}
+use Rattle.std.specs.Prelude.{Option, Some, None}
 use Rattle.lists.specs.Test.{all_at_most}
 use Rattle.lists.proofs.Bools.{and_both}
 use Rattle.lengths.specs.Edge.{edge_count}
@@ -25,25 +26,21 @@ use Rattle.tsplib_lines.proofs.LinesExact.{LineRead, is, other}
 use Rattle.tsplib_lines.proofs.WordsExact.{free_both}
 use Rattle.tsplib.specs.Language.{Text}
 use Rattle.tsplib.specs.Language as language
-use Rattle.tsplib.specs.State.{weigh_next, row_next}
-use Rattle.tsplib.specs.declared.state.Points.{Points}
-use Rattle.tsplib.specs.declared.state.Points.TheVariants as points
 use Rattle.tsplib.specs.declared.state.Weigh.{Weigh}
 use Rattle.tsplib.specs.declared.state.Weigh.TheVariants as weigh
 use Rattle.tsplib.specs.declared.state.State.{State}
 use Rattle.tsplib.specs.declared.state.State.TheVariants.{Specification, Nodes, Weights, Ended}
-use Rattle.tsplib.specs.declared.state.Stepped.TheVariants.{To}
 use Rattle.tsplib.proofs.Exact.{ran, ran_step}
 use Rattle.tsplib.proofs.Verdicts.{at_most_both}
-use Rattle.tsplib.proofs.LegalSteps.{LegalStep, name, comment, type_tsp, dimension, weight_type, format, nodes, weights, node, some_weights, last_node, last_weight}
+use Rattle.tsplib.proofs.LegalSteps.{heading, LegalStep, name, comment, type_tsp, dimension, weight_type, format, nodes, weights, node, some_weights, last_node, last_weight}
 
 -- the numbers that a state holds fit 32 bits
-abbrev SmallPoints : Points → Type 0
-SmallPoints points.Unset = Unit {0}
-SmallPoints (points.Set n) = n < number_limit
+abbrev SmallPoints : Option ℕ → Type 0
+SmallPoints None = Unit {0}
+SmallPoints (Some n) = n < number_limit
 
 abbrev pub Good : State → Type 0
-Good (Specification nm ty p w) = SmallPoints p
+Good (Specification h) = SmallPoints h.points
 Good (Nodes n r k) = (k ≤ n) × (n < number_limit)
 Good (Weights n left) = Unit {0}
 Good (Ended n v) = Unit {0}
@@ -55,16 +52,16 @@ sole_small {n = n} (number.more {n = k} m r) e = let f : k ≡ n = cc in omega (
 
 dimension_small : {t : List ℕ} {l : TextLine} {n : ℕ} → LineRead t l → l ≡ dimension_line n → n < number_limit
 dimension_small {n = n} (is (reads.dimension {n = k} s m)) e = let f : k ≡ n = cc in let h = sole_small m refl in omega arith
-dimension_small (is (reads.name s v)) e = let z : ◌≡◌ {A = ℕ} 0 1 = cc in absurd (omega arith)
-dimension_small (is (reads.comment s v)) e = let z : ◌≡◌ {A = ℕ} 0 1 = cc in absurd (omega arith)
-dimension_small (is (reads.type_tsp s m)) e = let z : ◌≡◌ {A = ℕ} 0 1 = cc in absurd (omega arith)
-dimension_small (is (reads.weight_type s m r)) e = let z : ◌≡◌ {A = ℕ} 0 1 = cc in absurd (omega arith)
-dimension_small (is (reads.format s m)) e = let z : ◌≡◌ {A = ℕ} 0 1 = cc in absurd (omega arith)
-dimension_small (is (reads.nodes s)) e = let z : ◌≡◌ {A = ℕ} 0 1 = cc in absurd (omega arith)
-dimension_small (is (reads.weights s)) e = let z : ◌≡◌ {A = ℕ} 0 1 = cc in absurd (omega arith)
-dimension_small (is (reads.eof s)) e = let z : ◌≡◌ {A = ℕ} 0 1 = cc in absurd (omega arith)
-dimension_small (is (reads.numbers m)) e = let z : ◌≡◌ {A = ℕ} 0 1 = cc in absurd (omega arith)
-dimension_small other e = let z : ◌≡◌ {A = ℕ} 0 1 = cc in absurd (omega arith)
+dimension_small (is (reads.name s v)) e = cc
+dimension_small (is (reads.comment s v)) e = cc
+dimension_small (is (reads.type_tsp s m)) e = cc
+dimension_small (is (reads.weight_type s m r)) e = cc
+dimension_small (is (reads.format s m)) e = cc
+dimension_small (is (reads.nodes s)) e = cc
+dimension_small (is (reads.weights s)) e = cc
+dimension_small (is (reads.eof s)) e = cc
+dimension_small (is (reads.numbers m)) e = cc
+dimension_small other e = cc
 
 pub good_step : {s t : State} {l : TextLine} {bytes : List ℕ} → LineRead bytes l → LegalStep s l t → Good s → Good t
 good_step r name g = g
@@ -88,7 +85,7 @@ pub record Completion (s : State) : Type 0 where
   pub written : Text lines text
   pub n : ℕ
   pub weighs : Weighing
-  pub ends : ran s lines ≡ To (Ended n weighs)
+  pub ends : ran s lines ≡ Some (Ended n weighs)
 
 -- the bytes of a line
 record Writes (l : TextLine) : Type 0 where
@@ -219,26 +216,25 @@ nodes_complete (suc m) n r k e h =
     let g : k < n = omega arith in
     prepend (write_node (suc k) (omega arith)) (node g) (nodes_complete m n r (suc k) (omega arith) h)
 
-rule_completes : (nm ty : Bool) (n r : ℕ) → n < number_limit → Completion (Specification nm ty (points.Set n) (weigh.Rule r))
+rule_completes : (nm ty : Bool) (n r : ℕ) → n < number_limit → Completion (Specification (heading nm ty (Some n) (weigh.Rule r)))
 rule_completes nm ty n r h = prepend write_nodes nodes (nodes_complete n n r 0 (omega arith) h)
 
-row_completes : (nm ty : Bool) (n : ℕ) → Completion (Specification nm ty (points.Set n) weigh.ExplicitRow)
+row_completes : (nm ty : Bool) (n : ℕ) → Completion (Specification (heading nm ty (Some n) weigh.ExplicitRow))
 row_completes nm ty n = prepend write_weights weights (weights_complete n (edge_count n))
 
-points_complete : (nm ty : Bool) (n : ℕ) (w : Weigh) → n < number_limit → Completion (Specification nm ty (points.Set n) w)
-unfolding weigh_next row_next
+points_complete : (nm ty : Bool) (n : ℕ) (w : Weigh) → n < number_limit → Completion (Specification (heading nm ty (Some n) w))
 points_complete nm ty n weigh.Unset h = prepend write_euc2d (weight_type refl) (rule_completes nm ty n 1 h)
 points_complete nm ty n weigh.Row h = prepend write_explicit (weight_type refl) (row_completes nm ty n)
 points_complete nm ty n weigh.Explicit h = prepend write_format (format refl) (row_completes nm ty n)
 points_complete nm ty n weigh.ExplicitRow h = row_completes nm ty n
 points_complete nm ty n (weigh.Rule r) h = rule_completes nm ty n r h
 
-specification_completes : (nm ty : Bool) (p : Points) (w : Weigh) → SmallPoints p → Completion (Specification nm ty p w)
-specification_completes nm ty points.Unset w g = prepend write_dimension dimension (points_complete nm ty 0 w (omega arith))
-specification_completes nm ty (points.Set n) w g = points_complete nm ty n w g
+specification_completes : (nm ty : Bool) (p : Option ℕ) (w : Weigh) → SmallPoints p → Completion (Specification (heading nm ty p w))
+specification_completes nm ty None w g = prepend write_dimension dimension (points_complete nm ty 0 w (omega arith))
+specification_completes nm ty (Some n) w g = points_complete nm ty n w g
 
 pub completes : (s : State) → Good s → Completion s
-completes (Specification nm ty p w) g = specification_completes nm ty p w g
+completes (Specification h) g = specification_completes h.name h.typed h.points h.weigh g
 completes (Nodes n r k) g = nodes_complete (n - k) n r k (omega (arith, g.0)) g.1
 completes (Weights n left) g = weights_complete n left
 completes (Ended n v) g = ended_completes n v

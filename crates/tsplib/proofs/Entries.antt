@@ -78,9 +78,6 @@ none_in out spot {xs} e = record {
   wrote = rw (ap (drop spot.skip) e ∙ drop-nil spot.skip) (wrote_nothing out spot.at);
 }
 
-pub same_in : {out : List ℕ} {spot : Slot} {xs ys : List ℕ} {r : Slot} {left : List ℕ} → xs ≡ ys → WroteTo out spot ys r left → WroteTo out spot xs r left
-same_in {out} {spot} {r = r} {left = left} e w = subst (λ (zs : List ℕ). WroteTo out spot zs r left) (sym e) w
-
 pub wrote_same : {out : List ℕ} {at : ℕ} {xs ys : List ℕ} {r : ℕ} {left : List ℕ} (k : ℕ) → xs ≡ ys → WroteNumbers out at (drop k xs) r left → WroteNumbers out at (drop k ys) r left
 wrote_same {out} {at} {r = r} {left = left} k e w = subst (λ (zs : List ℕ). WroteNumbers out at (drop k zs) r left) e w
 

@@ -10,6 +10,7 @@ use native.Mathlib.Decide.{dec_lt}
 use native.Mathlib.Omega.{arith}
 use lib.ListN.{length, take, drop, length-map}
 use lib.Seq.{take-add}
+use Rattle.std.specs.Prelude.{Option, Some, None}
 use Rattle.tsplib_lines.specs.Words.{newline}
 use Rattle.tsplib_lines.specs.TextLine.{TextLine, line_of, told_of}
 use Rattle.tsplib_lines.proofs.LinesExact.{line_read}
@@ -18,12 +19,10 @@ use Rattle.tsplib.specs.Language as language
 use Rattle.tsplib.specs.FaultLine.{joined, first_lines, BeginsText, ToldFirst}
 use Rattle.tsplib.specs.State.{no_lines, step_of}
 use Rattle.tsplib.specs.Gathering.{gathered}
-use Rattle.tsplib.specs.Judging.{whole_lines, unfinished, lines_of, judged, judged_from, judged_end, go_on, maximum_of}
+use Rattle.tsplib.specs.Judging.{whole_lines, unfinished, lines_of, fault, judged, judged_from, judged_end, go_on, maximum_of}
 use Rattle.tsplib.specs.declared.state.State.{State}
 use Rattle.tsplib.specs.declared.state.State.TheVariants.{Specification, Nodes, Weights, Ended}
-use Rattle.tsplib.specs.declared.state.Stepped.{Stepped}
-use Rattle.tsplib.specs.declared.state.Stepped.TheVariants as stepped
-use Rattle.tsplib.specs.declared.judging.JudgedText.TheVariants.{Fault}
+use Rattle.tsplib.specs.declared.judging.Fault.{Fault}
 use Rattle.tsplib.proofs.Completions.{Good, good_step, completes}
 use Rattle.tsplib.proofs.Exact.{ran, on_to, skip_for, accepted_rest, rest_instance}
 use Rattle.tsplib.proofs.LegalSteps.{step_legal, to_is, faulty}
@@ -36,53 +35,52 @@ pub record FaultAt (s : State) (ls : List TextLine) (k line : ℕ) : Type 0 wher
   pub told : line ≡ k + (passed + 1)
   pub within : passed ≤ length ls
   pub state : State
-  pub reached : ran s (take passed ls) ≡ stepped.To state
-  pub stops : (length ls ≤ passed) ⊎ (ran s (take (suc passed) ls) ≡ stepped.Fault)
+  pub reached : ran s (take passed ls) ≡ Some state
+  pub stops : (length ls ≤ passed) ⊎ (ran s (take (suc passed) ls) ≡ None)
 
-fault_is : {k line : ℕ} → Fault k ≡ Fault line → k ≡ line
-fault_is e = cc
+fault_is : {k line : ℕ} → fault k ≡ fault line → k ≡ line
+fault_is {k} {line} e = let f : ◌≡◌ {A = Fault} (record { line = k }) (record { line = line }) = cc in ap (λ (x : Fault). x.line) f
 
-here : (s : State) {k line : ℕ} → Fault (k + 1) ≡ Fault line → FaultAt s [] k line
+here : (s : State) {k line : ℕ} → fault (k + 1) ≡ fault line → FaultAt s [] k line
 unfolding ran
 here s e = record { passed = 0; told = sym (fault_is e); within = omega arith; state = s; reached = refl; stops = inl (omega arith) }
 
-end_fault : (s : State) (k m : ℕ) (rest : List ℕ) {line : ℕ} → judged_end s k m rest ≡ Fault line → FaultAt s [] k line
-unfolding judged_end
-end_fault (Specification nm ty p w) k m rest e = here (Specification nm ty p w) e
+end_fault : (s : State) (k m : ℕ) (rest : List ℕ) {line : ℕ} → judged_end s k m rest ≡ fault line → FaultAt s [] k line
+end_fault (Specification h) k m rest e = here (Specification h) e
 end_fault (Nodes n r j) k m rest e = here (Nodes n r j) e
 end_fault (Weights n left) k m rest e = here (Weights n left) e
-end_fault (Ended n w) k m [] e = let z : ◌≡◌ {A = ℕ} 0 1 = cc in absurd (omega arith)
+end_fault (Ended n w) k m [] e = cc
 end_fault (Ended n w) k m (b ∷ rest) e = here (Ended n w) e
 
-pub fault_at : (ls : List TextLine) (s : State) (k m : ℕ) (rest : List ℕ) (line : ℕ) → judged_from s k m ls rest ≡ Fault line → FaultAt s ls k line
+pub fault_at : (ls : List TextLine) (s : State) (k m : ℕ) (rest : List ℕ) (line : ℕ) → judged_from s k m ls rest ≡ fault line → FaultAt s ls k line
 unfolding judged_from ran
 fault_at [] s k m rest line e = end_fault s k m rest e
 fault_at (l ∷ ls) s k m rest line e = go (step_of s (told_of l)) refl e (λ t. fault_at ls t (k + 1) (max m (maximum_of (told_of l))) rest line)
   where
-    go : (x : Stepped) → step_of s (told_of l) ≡ x → go_on x k (λ (t : State). judged_from t (k + 1) (max m (maximum_of (told_of l))) ls rest) ≡ Fault line
-        → ((t : State) → judged_from t (k + 1) (max m (maximum_of (told_of l))) ls rest ≡ Fault line → FaultAt t ls (k + 1) line) → FaultAt s (l ∷ ls) k line
-    go (stepped.To t) f e ih =
+    go : (x : Option State) → step_of s (told_of l) ≡ x → go_on x k (λ (t : State). judged_from t (k + 1) (max m (maximum_of (told_of l))) ls rest) ≡ fault line
+        → ((t : State) → judged_from t (k + 1) (max m (maximum_of (told_of l))) ls rest ≡ fault line → FaultAt t ls (k + 1) line) → FaultAt s (l ∷ ls) k line
+    go (Some t) f e ih =
         let r = ih t e in
         record {
           passed = suc r.passed;
           told = omega (arith, r.told);
           within = omega (arith, r.within);
           state = r.state;
-          reached = ap (λ (x : Stepped). on_to x (λ (u : State). ran u (take r.passed ls))) f ∙ r.reached;
+          reached = ap (λ (x : Option State). on_to x (λ (u : State). ran u (take r.passed ls))) f ∙ r.reached;
           stops = later t f r.passed r.stops;
         }
       where
-        later : (t : State) → step_of s (told_of l) ≡ stepped.To t → (j : ℕ) → (length ls ≤ j) ⊎ (ran t (take (suc j) ls) ≡ stepped.Fault)
-            → (length (l ∷ ls) ≤ suc j) ⊎ (ran s (take (suc (suc j)) (l ∷ ls)) ≡ stepped.Fault)
+        later : (t : State) → step_of s (told_of l) ≡ Some t → (j : ℕ) → (length ls ≤ j) ⊎ (ran t (take (suc j) ls) ≡ None)
+            → (length (l ∷ ls) ≤ suc j) ⊎ (ran s (take (suc (suc j)) (l ∷ ls)) ≡ None)
         later t f j (inl h) = inl (omega arith)
-        later t f j (inr h) = inr (ap (λ (x : Stepped). on_to x (λ (u : State). ran u (take (suc j) ls))) f ∙ h)
-    go stepped.Fault f e ih = record {
+        later t f j (inr h) = inr (ap (λ (x : Option State). on_to x (λ (u : State). ran u (take (suc j) ls))) f ∙ h)
+    go None f e ih = record {
       passed = 0;
       told = sym (fault_is e);
       within = omega arith;
       state = s;
       reached = refl;
-      stops = inr (ap (λ (x : Stepped). on_to x (λ (u : State). ran u (take 0 ls))) f);
+      stops = inr (ap (λ (x : Option State). on_to x (λ (u : State). ran u (take 0 ls))) f);
     }
 
 -- a fault stays one, and a state is gone on from
@@ -91,21 +89,21 @@ unfolding ran
 ran_both [] ms s = refl
 ran_both (l ∷ ls) ms s = go (step_of s (told_of l)) (λ t. ran_both ls ms t)
   where
-    go : (x : Stepped) → ((t : State) → ran t (ls ++ ms) ≡ on_to (ran t ls) (λ (u : State). ran u ms))
+    go : (x : Option State) → ((t : State) → ran t (ls ++ ms) ≡ on_to (ran t ls) (λ (u : State). ran u ms))
         → on_to x (λ (t : State). ran t (ls ++ ms)) ≡ on_to (on_to x (λ (t : State). ran t ls)) (λ (u : State). ran u ms)
-    go (stepped.To t) ih = ih t
-    go stepped.Fault ih = refl
+    go (Some t) ih = ih t
+    go None ih = refl
 
 -- a state that lines of bytes lead to is good
-good_ran : (ls : List (List ℕ)) (s t : State) → Good s → ran s (map line_of ls) ≡ stepped.To t → Good t
+good_ran : (ls : List (List ℕ)) (s t : State) → Good s → ran s (map line_of ls) ≡ Some t → Good t
 unfolding ran
 good_ran [] s t g e = subst Good (to_is e) g
 good_ran (l ∷ ls) s t g e = go (step_of s (told_of (line_of l))) refl e (λ u. good_ran ls u t)
   where
-    go : (x : Stepped) → step_of s (told_of (line_of l)) ≡ x → on_to x (λ (u : State). ran u (map line_of ls)) ≡ stepped.To t
-        → ((u : State) → Good u → ran u (map line_of ls) ≡ stepped.To t → Good t) → Good t
-    go (stepped.To u) f e ih = ih u (good_step (line_read l) (step_legal s (line_of l) f) g) e
-    go stepped.Fault f e ih = faulty e
+    go : (x : Option State) → step_of s (told_of (line_of l)) ≡ x → on_to x (λ (u : State). ran u (map line_of ls)) ≡ Some t
+        → ((u : State) → Good u → ran u (map line_of ls) ≡ Some t → Good t) → Good t
+    go (Some u) f e ih = ih u (good_step (line_read l) (step_legal s (line_of l) f) g) e
+    go None f e ih = faulty e
 
 -- lines and their bytes, first some, then others
 text_both : {ls ms : List TextLine} {t u : List ℕ} → Text ls t → Text ms u → Text (ls ++ ms) (t ++ u)
@@ -130,7 +128,7 @@ take_free (suc k) [] none = none
 take_free (suc k) (l ∷ ls) (more f g) = more f (take_free k ls g)
 
 -- whole lines that lead to a state begin a text of the language
-begins : (ls : List (List ℕ)) (t : State) → AllFree ls → ran no_lines (map line_of ls) ≡ stepped.To t → BeginsText (joined ls [])
+begins : (ls : List (List ℕ)) (t : State) → AllFree ls → ran no_lines (map line_of ls) ≡ Some t → BeginsText (joined ls [])
 begins ls t f e =
     let c = completes t (good_ran ls no_lines t tt e) in
     record {
@@ -144,28 +142,28 @@ begins ls t f e =
         written = text_both (lines_text ls no_lines f e) c.written;
         says = rest_instance
             (accepted_rest (map line_of ls ++ c.lines) no_lines
-            (ran_both (map line_of ls) c.lines no_lines ∙ ap (λ (x : Stepped). on_to x (λ (u : State). ran u c.lines)) e ∙ c.ends));
+            (ran_both (map line_of ls) c.lines no_lines ∙ ap (λ (x : Option State). on_to x (λ (u : State). ran u c.lines)) e ∙ c.ends));
       };
     }
 
 -- whole lines that lead to none begin none
-begins_not : (ls : List (List ℕ)) → AllFree ls → ran no_lines (map line_of ls) ≡ stepped.Fault → BeginsText (joined ls []) → ⊥
+begins_not : (ls : List (List ℕ)) → AllFree ls → ran no_lines (map line_of ls) ≡ None → BeginsText (joined ls []) → ⊥
 begins_not ls f e b =
-    let r : ran no_lines (map line_of ls ++ lines_of b.rest) ≡ stepped.To (Ended b.n b.weighs) =
+    let r : ran no_lines (map line_of ls ++ lines_of b.rest) ≡ Some (Ended b.n b.weighs) =
     ap (ran no_lines) (sym (lines_joined ls b.rest f)) ∙ text_ran b.text in
-    let g : ran no_lines (map line_of ls ++ lines_of b.rest) ≡ stepped.Fault =
-    ran_both (map line_of ls) (lines_of b.rest) no_lines ∙ ap (λ (x : Stepped). on_to x (λ (u : State). ran u (lines_of b.rest))) e in
+    let g : ran no_lines (map line_of ls ++ lines_of b.rest) ≡ None =
+    ran_both (map line_of ls) (lines_of b.rest) no_lines ∙ ap (λ (x : Option State). on_to x (λ (u : State). ran u (lines_of b.rest))) e in
     faulty (sym g ∙ r)
 
 -- told first: the line of a text outside the language
-pub told_first : (text : List ℕ) (line : ℕ) → judged text ≡ Fault line → ToldFirst text line
+pub told_first : (text : List ℕ) (line : ℕ) → judged text ≡ fault line → ToldFirst text line
 unfolding judged lines_of first_lines
 told_first text line e = go (fault_at (lines_of text) no_lines 0 0 (unfinished text) line e)
   where
     whole : List (List ℕ)
     whole = whole_lines text
 
-    stop : (j : ℕ) → line ≡ 0 + (j + 1) → (length (lines_of text) ≤ j) ⊎ (ran no_lines (take (suc j) (lines_of text)) ≡ stepped.Fault)
+    stop : (j : ℕ) → line ≡ 0 + (j + 1) → (length (lines_of text) ≤ j) ⊎ (ran no_lines (take (suc j) (lines_of text)) ≡ None)
         → (length (whole_lines text) < line) ⊎ (BeginsText (joined (take line (whole_lines text)) []) → ⊥)
     stop j t (inl h) = inl (omega (arith, length-map (whole_lines text) line_of))
     stop j t (inr h) =
@@ -199,10 +197,10 @@ begins_fewer j k text h b = go (ran no_lines (map line_of (take j (whole_lines t
         let e : k ≡ j + (k - j) = omega arith in
         ap (λ (i : ℕ). take i (lines_of text)) e ∙ take-add j (k - j) (lines_of text)
 
-    go : (x : Stepped) → ran no_lines (map line_of (take j (whole_lines text))) ≡ x → BeginsText (joined (take j (whole_lines text)) [])
-    go (stepped.To t) e = begins (take j (whole_lines text)) t (free j) e
-    go stepped.Fault e =
-        let later : Stepped → Stepped = λ (x : Stepped). on_to x (λ (u : State). ran u (take (k - j) (drop j (lines_of text)))) in
+    go : (x : Option State) → ran no_lines (map line_of (take j (whole_lines text))) ≡ x → BeginsText (joined (take j (whole_lines text)) [])
+    go (Some t) e = begins (take j (whole_lines text)) t (free j) e
+    go None e =
+        let later : Option State → Option State = λ (x : Option State). on_to x (λ (u : State). ran u (take (k - j) (drop j (lines_of text)))) in
         absurd
         (begins_not (take k (whole_lines text)) (free k)
         (ap (ran no_lines) (map-take k (whole_lines text) ∙ parted)

@@ -6,7 +6,6 @@ pub mod Judgement
 pub mod NumbersGathered
 pub mod Reader
 pub mod SmallNumbers
-pub mod Stepping
 pub mod LegalSteps
 pub mod TextLines
 pub mod TextsExact

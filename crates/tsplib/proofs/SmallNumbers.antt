@@ -3,11 +3,11 @@ use Prim.Native.Nat.{ℕ, zero, suc, ◌<◌}
 use mathlib.Core.Path.{◌≡◌, refl, ◌∙◌, ap}
 use mathlib.Core.Bool.{true}
 use mathlib.Core.List.{List, [], ◌∷◌, map}
-use mathlib.Core.Option.{Option, none, some}
 use native.Mathlib.Omega.{arith}
 use lib.Dec.{leb}
 use lib.ListN.{get_or, drop}
 use borrow.Author.Tests.{le-leb}
+use Rattle.std.specs.Prelude.{Option, Some, None}
 use Rattle.lists.specs.Test.{all_at_most}
 use Rattle.lists.proofs.Bools.{and_right, and_both}
 use Rattle.lengths.proofs.AtMostTests.{at_most_each}
@@ -33,9 +33,9 @@ unfolding line_of numbers_of all_at_most
 line_small t = go (numbers_in t) refl
   where
     go : (o : Option (List ℕ)) → numbers_in t ≡ o → all_at_most largest_number (numbers_of (numbers_or o (parts_line (at_colon t) t))) ≡ true
-    go none f = ap (all_at_most largest_number) (parts_none (at_colon t) t)
-    go (some []) f = ap (all_at_most largest_number) (parts_none (at_colon t) t)
-    go (some (x ∷ xs)) f = text_small (numbers_stand t x xs f)
+    go None f = ap (all_at_most largest_number) (parts_none (at_colon t) t)
+    go (Some []) f = ap (all_at_most largest_number) (parts_none (at_colon t) t)
+    go (Some (x ∷ xs)) f = text_small (numbers_stand t x xs f)
 
 drop_small : (k : ℕ) (xs : List ℕ) → all_at_most largest_number xs ≡ true → all_at_most largest_number (drop k xs) ≡ true
 unfolding all_at_most

@@ -1,21 +1,19 @@
 -- The lines of a text, one after the other. Assumes nothing.
-use Prim.Native.Nat.{ℕ, suc, ◌+◌, ◌-◌, ◌<◌}
-use mathlib.Core.Path.{◌≡◌, refl, sym, ◌∙◌, ap, ap₂}
+use Prim.Native.Nat.{ℕ, ◌+◌}
+use mathlib.Core.Path.{◌≡◌, refl, ◌∙◌, ap, ap₂}
 use mathlib.Core.Bool.{Bool, true, false}
-use mathlib.Core.Logic.{◌⊎◌, inl, inr}
 use mathlib.Core.List.{List, [], ◌∷◌, ◌++◌, map}
-use native.Mathlib.Omega.{arith}
+use native.Mathlib.Numerals.{add-one}
 use lib.Dec.{eqb}
-use lib.ListN.{length, get_or, take, drop, length-drop}
-use lib.Seq.{split_at, get_or-drop, drop-drop}
+use lib.ListN.{take, drop}
+use lib.Seq.{split_at}
 use Rattle.tsplib_lines.specs.Words.{newline, free}
-use Rattle.tsplib_lines.specs.asks.Words.{FoundByte}
 use Rattle.tsplib_lines.specs.TextLine.{line_of}
-use Rattle.tsplib_lines.proofs.LineReading.{part_end}
+use Rattle.tsplib_lines.proofs.SoleWords.{FoundAt}
 use Rattle.tsplib.specs.Judging.{with_byte, whole_lines, unfinished, lines_of}
 
 pub false_true : {A : Type 0} → false ≡ true → A
-false_true e = let z : ◌≡◌ {A = ℕ} 0 1 = cc in absurd (omega arith)
+false_true e = cc
 
 -- a newline stands in the text
 if_free : (x : Bool) {f : Bool} → f ≡ false → (elim x [ true ↦ false | false ↦ f ]) ≡ false
@@ -65,20 +63,6 @@ unfolding unfinished
 rest_none [] h = refl
 rest_none (b ∷ t) h = rw (unfinished, h)
 
--- a line that ends in a newline, and a rest that does not
-module _ {text : List ℕ} {at c r : ℕ} (f : FoundByte text at c r) where
-  pub next_line : (r ≡ length text → ⊥) → drop at text ≡ take (r - at) (drop at text) ++ c ∷ drop (r + 1) text
-  next_line h =
-      let l : r - at < length (drop at text) = omega (arith, f.low, f.high, h, length-drop at text) in
-      let k : at + (r - at) ≡ r = omega (arith, f.low) in
-      let m : at + suc (r - at) ≡ r + 1 = omega (arith, f.low) in
-      let b : get_or (drop at text) (r - at) 0 ≡ c = get_or-drop at text (r - at) 0 ∙ ap (λ (j : ℕ). get_or text j 0) k ∙ stop f.stops in
-      split_at (drop at text) (r - at) 0 l
-      ∙ ap₂ (λ (x : ℕ) (y : List ℕ). take (r - at) (drop at text) ++ x ∷ y) b (drop-drop (suc (r - at)) at text ∙ ap (λ (j : ℕ). drop j text) m)
-    where
-      stop : (r ≡ length text) ⊎ (get_or text r 0 ≡ c) → get_or text r 0 ≡ c
-      stop (inl e) = absurd (h e)
-      stop (inr e) = e
-
-  pub last_part : r ≡ length text → free c (drop at text) ≡ true
-  last_part e = ap (free c) (sym (part_end at text) ∙ ap (λ (k : ℕ). take (k - at) (drop at text)) (sym e)) ∙ f.passed
+-- a line that ends in a newline, and what stands behind it
+pub next_line : (text : List ℕ) {r : ℕ} → FoundAt newline text r → text ≡ take r text ++ newline ∷ drop (r + 1) text
+next_line text {r} f = split_at text r 0 f.inside ∙ ap₂ (λ (x : ℕ) (y : List ℕ). take r text ++ x ∷ y) f.is (rw add-one)

@@ -5,25 +5,23 @@ use Prim.Native.Nat.{ℕ}
 use mathlib.Core.Path.{◌≡◌, refl, sym, ◌∙◌, ap, ap₂, subst}
 use mathlib.Core.Bool.{Bool, true, false}
 use mathlib.Core.List.{List, [], ◌∷◌, ◌++◌, map}
-use native.Mathlib.Omega.{arith}
 use lib.Dec.{eqb}
 use borrow.Author.Tests.{eqb-true}
+use Rattle.std.specs.Prelude.{Option, Some, None}
 use Rattle.tsplib_lines.specs.Words.{newline, free}
 use Rattle.tsplib_lines.specs.TextLine.{TextLine, other-line, line_of, told_of}
 use Rattle.tsplib_lines.specs.declared.text_line.Weighing.{Weighing}
 use Rattle.tsplib_lines.proofs.LinesExact.{LineRead, is, other, line_read, reads_line}
 use Rattle.tsplib.specs.Language.{Text, Tsplib}
 use Rattle.tsplib.specs.Language as language
-use Rattle.tsplib.specs.State.{no_lines, step_of, on_specification, on_nodes, on_weights, body_of}
+use Rattle.tsplib.specs.State.{no_lines, step_of}
 use Rattle.tsplib.specs.Gathering.{gathered}
-use Rattle.tsplib.specs.Judging.{with_byte, whole_lines, unfinished, lines_of, judged, judged_from}
+use Rattle.tsplib.specs.Judging.{with_byte, whole_lines, unfinished, lines_of, described, judged, judged_from}
 use Rattle.tsplib.specs.FaultLine.{joined}
 use Rattle.tsplib.specs.declared.state.State.{State}
 use Rattle.tsplib.specs.declared.state.State.TheVariants.{Specification, Nodes, Weights, Ended}
-use Rattle.tsplib.specs.declared.state.Stepped.{Stepped}
-use Rattle.tsplib.specs.declared.state.Stepped.TheVariants as stepped
-use Rattle.tsplib.specs.declared.judging.JudgedText.TheVariants.{Described}
 use Rattle.tsplib.proofs.Exact.{ran, on_to, skip_for, accepted_rest, rest_accepted, instance_rest, rest_instance, instance_gathered}
+use Rattle.tsplib.specs.declared.judging.Described.{Described}
 use Rattle.tsplib.proofs.LegalSteps.{faulty}
 use Rattle.tsplib.proofs.TextLines.{false_true, lines_next, rest_next, whole_none}
 use Rattle.tsplib.proofs.Verdicts.{judged_accepted, accepted_judged, largest}
@@ -70,7 +68,7 @@ has-line (b ∷ t) h = go (eqb b newline) h (has-line t)
 
 joined_byte : (b : ℕ) (ls : List (List ℕ)) (rest l : List ℕ) (ms : List (List ℕ)) → ls ≡ l ∷ ms → joined (with_byte b ls) rest ≡ b ∷ joined ls rest
 unfolding joined
-joined_byte b [] rest l ms e = let z : ◌≡◌ {A = ℕ} 0 1 = cc in absurd (omega arith)
+joined_byte b [] rest l ms e = cc
 joined_byte b (x ∷ xs) rest l ms e = refl
 
 later : (b : ℕ) (t : List ℕ) → eqb b newline ≡ false → free newline (b ∷ t) ≡ false → free newline t ≡ false
@@ -94,30 +92,29 @@ whole_joined (b ∷ t) = go (free newline (b ∷ t)) refl (whole_joined t)
     go false h ih = found (eqb b newline) refl h ih
 
 -- no state takes a line that the language does not know
-other_fault : (s : State) → step_of s (told_of other-line) ≡ stepped.Fault
-unfolding step_of on_specification on_nodes on_weights told_of body_of
-other_fault (Specification nm ty p w) = refl
+other_fault : (s : State) → step_of s (told_of other-line) ≡ None
+other_fault (Specification h) = refl
 other_fault (Nodes n r k) = refl
 other_fault (Weights n left) = refl
 other_fault (Ended n w) = refl
 
 -- lines that the steps take are lines of the language
-pub lines_text : (ls : List (List ℕ)) (s : State) {t : State} → AllFree ls → ran s (map line_of ls) ≡ stepped.To t → Text (map line_of ls) (joined ls [])
+pub lines_text : (ls : List (List ℕ)) (s : State) {t : State} → AllFree ls → ran s (map line_of ls) ≡ Some t → Text (map line_of ls) (joined ls [])
 unfolding ran joined
 lines_text [] s f e = language.none
 lines_text (l ∷ ls) s {t} (more f g) e = go (step_of s (told_of (line_of l))) refl e (λ u. lines_text ls u g)
   where
-    read : (x : TextLine) → LineRead l x → (y : Stepped) {u : State} → step_of s (told_of x) ≡ y → y ≡ stepped.To u → Text (map line_of ls) (joined ls []) → Text (x ∷ map line_of ls) (l ++ newline ∷ joined ls [])
+    read : (x : TextLine) → LineRead l x → (y : Option State) {u : State} → step_of s (told_of x) ≡ y → y ≡ Some u → Text (map line_of ls) (joined ls []) → Text (x ∷ map line_of ls) (l ++ newline ∷ joined ls [])
     read x (is r) y e h m = language.line f r m
     read x other y e h m = faulty (sym (other_fault s) ∙ e ∙ h)
 
-    go : (y : Stepped) → step_of s (told_of (line_of l)) ≡ y → on_to y (λ (u : State). ran u (map line_of ls)) ≡ stepped.To t
-        → ((u : State) → ran u (map line_of ls) ≡ stepped.To t → Text (map line_of ls) (joined ls [])) → Text (line_of l ∷ map line_of ls) (l ++ newline ∷ joined ls [])
-    go (stepped.To u) e h ih = read (line_of l) (line_read l) (stepped.To u) e refl (ih u h)
-    go stepped.Fault e h ih = faulty h
+    go : (y : Option State) → step_of s (told_of (line_of l)) ≡ y → on_to y (λ (u : State). ran u (map line_of ls)) ≡ Some t
+        → ((u : State) → ran u (map line_of ls) ≡ Some t → Text (map line_of ls) (joined ls [])) → Text (line_of l ∷ map line_of ls) (l ++ newline ∷ joined ls [])
+    go (Some u) e h ih = read (line_of l) (line_read l) (Some u) e refl (ih u h)
+    go None e h ih = faulty h
 
 -- an accepted text is a text of the language, with its data
-pub accepted_text : (text : List ℕ) {n : ℕ} {w : Weighing} {maximum : ℕ} → judged text ≡ Described n w maximum → Tsplib text n w (gathered (skip_for w) (lines_of text))
+pub accepted_text : (text : List ℕ) {n : ℕ} {w : Weighing} {maximum : ℕ} → judged text ≡ described n w maximum → Tsplib text n w (gathered (skip_for w) (lines_of text))
 unfolding judged lines_of
 accepted_text text {n} {w} {maximum} e =
     let v = judged_accepted (lines_of text) no_lines 0 0 (unfinished text) n w maximum e in
@@ -130,10 +127,10 @@ accepted_text text {n} {w} {maximum} e =
 
 -- a text of the language is accepted, and its data are the numbers of its lines
 pub record AcceptedAs (text : List ℕ) (n : ℕ) (w : Weighing) (xs : List ℕ) : Type 0 where
-  pub verdict : judged text ≡ Described n w (largest 0 (lines_of text))
+  pub verdict : judged text ≡ described n w (largest 0 (lines_of text))
   pub data_are : gathered (skip_for w) (lines_of text) ≡ xs
 
-pub text_ran : {text : List ℕ} {n : ℕ} {w : Weighing} {xs : List ℕ} → Tsplib text n w xs → ran no_lines (lines_of text) ≡ stepped.To (Ended n w)
+pub text_ran : {text : List ℕ} {n : ℕ} {w : Weighing} {xs : List ℕ} → Tsplib text n w xs → ran no_lines (lines_of text) ≡ Some (Ended n w)
 text_ran {text} t = ap (ran no_lines) (text_lines t.written) ∙ rest_accepted (instance_rest t.says)
 
 pub text_accepted : (text : List ℕ) {n : ℕ} {w : Weighing} {xs : List ℕ} → Tsplib text n w xs → AcceptedAs text n w xs
@@ -148,6 +145,7 @@ pub text_once : {text : List ℕ} {m n : ℕ} {v w : Weighing} {xs ys : List ℕ
 text_once {text} {m} {n} {v} {w} t u =
     let a = text_accepted text t in
     let b = text_accepted text u in
-    let e : Described m v (largest 0 (lines_of text)) ≡ Described n w (largest 0 (lines_of text)) = sym a.verdict ∙ b.verdict in
-    let same : v ≡ w = cc in
-    (cc, same, sym a.data_are ∙ ap (λ (z : Weighing). gathered (skip_for z) (lines_of text)) same ∙ b.data_are)
+    let e : described m v (largest 0 (lines_of text)) ≡ described n w (largest 0 (lines_of text)) = sym a.verdict ∙ b.verdict in
+    let d : ◌≡◌ {A = Described} (record { n = m; weighing = v; maximum = largest 0 (lines_of text) }) (record { n = n; weighing = w; maximum = largest 0 (lines_of text) }) = cc in
+    let same : v ≡ w = ap (λ (x : Described). x.weighing) d in
+    (ap (λ (x : Described). x.n) d, same, sym a.data_are ∙ ap (λ (z : Weighing). gathered (skip_for z) (lines_of text)) same ∙ b.data_are)

@@ -4,16 +4,14 @@ use Prim.Native.Nat.{ℕ}
 use mathlib.Core.Path.{◌≡◌, refl, subst}
 use mathlib.Core.List.{List, [], ◌∷◌, ◌++◌, map}
 use Rattle.tsplib_lines.specs.Words.{colon, free, after_blanks, only_blanks, word_then_blanks, is_sole, name_word, comment_word, type_word, tsp_word, dimension_word, weight_type_word, att_word, man2d_word, explicit_word, format_word, upper_row_word, node_section_word, weight_section_word, eof_word}
-use Rattle.tsplib_lines.specs.Numbers.{is_digit, numbers_from, numbers_in, counted, counted_all, total_of, tallied_of}
-use Rattle.tsplib_lines.specs.TextLine.{at_colon, keyword_of, weighing_of, section_of, dimension_of, valued, parts_line, line_of, told_of}
+use Rattle.tsplib_lines.specs.Numbers.{numbers_from, numbers_in, counted_all, total_of, tallied_of}
+use Rattle.tsplib_lines.specs.TextLine.{at_colon, keyword_of, weighing_of, section_of, line_of}
 use Rattle.tsplib_lines.specs.declared.text_line.Weighing.TheVariants.{Explicit, Rule}
 use Rattle.lengths.specs.Edge.{edge_count}
 use Rattle.tsplib.specs.Language.{Tsplib}
-use Rattle.tsplib.specs.State.{weigh_next, row_next, weighed_as, on_name, on_type, on_dimension, open_nodes, open_weights, on_specification, on_node, on_nodes, on_weights, step_of, body_of}
 use Rattle.tsplib.specs.Gathering.{numbers_of, gathered}
-use Rattle.tsplib.specs.Judging.{whole_lines, unfinished, lines_of, maximum_of, judged_end, judged_from, judged}
+use Rattle.tsplib.specs.Judging.{whole_lines, unfinished, lines_of, described, fault, judged_from, judged}
 use Rattle.tsplib.specs.FaultLine.{joined}
-use Rattle.tsplib.specs.declared.judging.JudgedText.TheVariants.{Described, Fault}
 use Rattle.tsplib.proofs.TextsExact.{accepted_text}
 
 -- coordinates: NAME : a:b, COMMENT: behind a blank and with no value, TYPE: TSP, DIMENSION :004, MAN_2D, the square
@@ -87,14 +85,14 @@ faults =
     ∷ []
 
 pub record Computed : Type 0 where
-  pub square_judged : judged square ≡ Described 4 (Rule 4) 10
+  pub square_judged : judged square ≡ described 4 (Rule 4) 10
   pub square_data : gathered 1 (lines_of square) ≡ 0 ∷ 0 ∷ 10 ∷ 0 ∷ 10 ∷ 10 ∷ 0 ∷ 10 ∷ []
-  pub lengths_judged : judged lengths ≡ Described 4 Explicit 6
+  pub lengths_judged : judged lengths ≡ described 4 Explicit 6
   pub lengths_data : gathered 0 (lines_of lengths) ≡ 1 ∷ 2 ∷ 3 ∷ 4 ∷ 5 ∷ 6 ∷ []
-  pub faults_told : map (λ (f : Faulty). judged f.text) faults ≡ map (λ (f : Faulty). Fault f.line) faults
+  pub faults_told : map (λ (f : Faulty). judged f.text) faults ≡ map (λ (f : Faulty). fault f.line) faults
 
 pub computed : Computed
-unfolding square lengths faults joined free after_blanks only_blanks word_then_blanks is_sole is_digit numbers_from numbers_in counted counted_all total_of tallied_of at_colon keyword_of weighing_of section_of dimension_of valued parts_line line_of told_of edge_count weigh_next row_next weighed_as on_name on_type on_dimension open_nodes open_weights on_specification on_node on_nodes on_weights step_of numbers_of gathered whole_lines unfinished lines_of maximum_of judged_end judged_from judged body_of
+unfolding square lengths faults joined free after_blanks only_blanks word_then_blanks is_sole numbers_from numbers_in counted_all total_of tallied_of at_colon keyword_of weighing_of section_of line_of edge_count numbers_of gathered whole_lines unfinished lines_of judged_from judged
 computed = record { square_judged = refl; square_data = refl; lengths_judged = refl; lengths_data = refl; faults_told = refl }
 
 -- texts of the language

@@ -1,17 +1,17 @@
 // The numbers of a text into a table, 32 bits each: of each line of numbers all, or all but the first.
-ghost use Rattle.std.specs.Prelude.{◌≡◌, [], ◌∷◌, drop};
+ghost use Rattle.std.specs.Prelude.{◌≡◌, [], ◌∷◌, drop, None};
 ghost use Rattle.tsplib_lines.specs.TextLine.{line_of};
 ghost use Rattle.tsplib.specs.Judging.{lines_of};
 ghost use Rattle.tsplib.specs.Gathering.{numbers_of, gathered};
-ghost use Rattle.tsplib.specs.asks.Gathering.{RoomFor, WroteNumbers, WroteTo, begun, ended_by, place_behind, taken_from};
+ghost use Rattle.tsplib.specs.asks.Gathering.{RoomFor, WroteNumbers, WroteTo, number_of, ended_by, begun_behind, taken_from};
 
-use endian::bytes::put32;
-use tsplib_lines::numbers::{Numbers, Partial, numbers_of};
+use endian::bytes::Number;
+use tsplib_lines::numbers::numbers_of;
 use tsplib_lines::words::find;
 use tsplib_lines::{numbers, words};
 
 // Where the next number goes: how many are left out before, and the entry.
-#[derive(Drop)]
+#[derive(Clone, Copy)]
 pub struct Slot {
     pub skip: usize,
     pub at: usize,
@@ -28,7 +28,7 @@ fn write_number(number: u32, spot: Slot, out: &mut [u8]) -> Slot
             at: spot.at,
         };
     }
-    put32(out, spot.at, number);
+    u32::put(out, spot.at, number);
     Slot {
         skip: 0,
         at: spot.at + 1,
@@ -36,58 +36,50 @@ fn write_number(number: u32, spot: Slot, out: &mut [u8]) -> Slot
 }
 
 // Writes the number that is begun, if one is.
-fn write_begun(place: Partial, spot: Slot, out: &mut [u8]) -> Slot
-    requires { RoomFor out.old spot.at (drop spot.skip (begun place)) }
-    ensures { WroteTo out.old spot (begun place) result out.new }
+fn write_begun(begun: Option<u32>, spot: Slot, out: &mut [u8]) -> Slot
+    requires { RoomFor out.old spot.at (drop spot.skip (number_of begun)) }
+    ensures { WroteTo out.old spot (number_of begun) result out.new }
 {
-    match place {
-        Partial::Between => spot,
-        Partial::Within(number) => write_number(number, spot, out),
+    match begun {
+        None => spot,
+        Some(number) => write_number(number, spot, out),
     }
 }
 
 // Writes the number that a byte ends, if it ends one.
-fn write_ended(b: u8, place: Partial, spot: Slot, out: &mut [u8]) -> Slot
-    requires { RoomFor out.old spot.at (drop spot.skip (ended_by b place)) }
-    ensures { WroteTo out.old spot (ended_by b place) result out.new }
+fn write_ended(b: u8, begun: Option<u32>, spot: Slot, out: &mut [u8]) -> Slot
+    requires { RoomFor out.old spot.at (drop spot.skip (ended_by b begun)) }
+    ensures { WroteTo out.old spot (ended_by b begun) result out.new }
 {
     if b != words::BLANK {
         return spot;
     }
-    write_begun(place, spot, out)
+    write_begun(begun, spot, out)
 }
 
-// The place behind a byte of numbers: the digits' lowest four bits are their values.
-fn place_behind(b: u8, place: Partial) -> Partial
-    ensures { result ≡ place_behind b place }
+// The number that is begun behind a byte of numbers: the digits' lowest four bits are their values.
+fn begun_behind(b: u8, begun: Option<u32>) -> Option<u32>
+    ensures { result ≡ begun_behind b begun }
 {
     if b == words::BLANK {
-        return Partial::Between;
+        return None;
     }
-    match place {
-        Partial::Between => Partial::Within((b % 16) as u32),
-        Partial::Within(v) => Partial::Within(
-            ((10 * (v as u64) + (b % 16) as u64) % numbers::LIMIT) as u32,
-        ),
-    }
+    let before = u64::from(begun.unwrap_or(0));
+    Some(((10 * before + u64::from(b % 16)) % numbers::LIMIT) as u32)
 }
 
-// Writes the numbers of a text from an entry on, without the first `skip`: the next entry. One byte a turn to its end.
+// Writes the numbers of a text from an entry on, without the first `skip`: the next entry.
 fn write_numbers(text: &[u8], skip: usize, out: &mut [u8], at: usize) -> usize
-    requires { RoomFor out.old at (drop skip (taken_from Partial.Between text.now)) }
-    ensures { WroteNumbers out.old at (drop skip (taken_from Partial.Between text.now)) result out.new }
+    requires { RoomFor out.old at (drop skip (taken_from None text.now)) }
+    ensures { WroteNumbers out.old at (drop skip (taken_from None text.now)) result out.new }
 {
-    let mut place = Partial::Between;
-    let mut spot = Slot { skip: skip, at: at };
-    let mut i: usize = 0;
-    while i < text.len() {
-        let b = text[i];
-        spot = write_ended(b, place, spot, out);
-        place = place_behind(b, place);
-        i += 1;
+    let mut begun = None;
+    let mut spot = Slot { skip, at };
+    for b in text {
+        spot = write_ended(*b, begun, spot, out);
+        begun = begun_behind(*b, begun);
     }
-    let last = write_begun(place, spot, out);
-    last.at
+    write_begun(begun, spot, out).at
 }
 
 // Writes the numbers of a line, if it is numbers.
@@ -96,8 +88,8 @@ fn write_line(line: &[u8], skip: usize, out: &mut [u8], at: usize) -> usize
     ensures { WroteNumbers out.old at (drop skip (numbers_of (line_of line.now))) result out.new }
 {
     match numbers_of(line) {
-        Numbers::Some(_) => write_numbers(line, skip, out, at),
-        Numbers::Nothing => at,
+        Some(_) => write_numbers(line, skip, out, at),
+        None => at,
     }
 }
 
@@ -106,15 +98,11 @@ pub fn gather(text: &[u8], skip: usize, out: &mut [u8]) -> usize
     requires { RoomFor out.old 0 (gathered skip (lines_of text.now)) }
     ensures { WroteNumbers out.old 0 (gathered skip (lines_of text.now)) result out.new }
 {
-    let mut from: usize = 0;
-    let mut at: usize = 0;
-    while from < text.len() {
-        let end = find(text, from, words::NEWLINE);
-        if end == text.len() {
-            return at;
-        }
-        at = write_line(&text[from..end], skip, out, at);
-        from = end + 1;
+    let mut at = 0;
+    let mut rest = text;
+    while let Some(end) = find(rest, words::NEWLINE) {
+        at = write_line(&rest[..end], skip, out, at);
+        rest = &rest[end + 1..];
     }
     at
 }

@@ -1,23 +1,42 @@
 // The operations that read a TSPLIB text.
 ghost use Rattle.std.specs.Prelude.{◌≡◌};
 ghost use Rattle.tsplib.specs.Judging.{judged};
-ghost use Rattle.tsplib.specs.Reading.{ReadAs, points_of};
+ghost use Rattle.tsplib.specs.Reading.{ReadAs, points_of, at_line, at_call};
 ghost use Rattle.tsplib.specs.asks.Reading.{GatheredAsked, CoordinatesAsked, CoordinatesRead, WeightsAsked, WeightsRead};
 
 use crate::gathering::gather;
-use crate::judging::{JudgedText, judge};
-use endian::bytes::count32;
-use lengths::instance::{Admission, Instance};
+use crate::judging::{Described, Fault, judge};
+use endian::bytes::count_of;
+use lengths::edge;
+use lengths::instance::Instance;
 use lengths::measure::measure;
-use lengths::outcome::Outcome;
-use lengths::{edge, refusal};
+use lengths::refusal::Refusal;
 use tsplib_lines::text_line::Weighing;
 
-// The answer: the number of points, or the refusal with its line, which is 0 but for 19.
-#[derive(Drop)]
-pub enum Read {
-    Points(u32),
-    Refused { refusal: u8, line: u64 },
+// A refusal of a text with its line, which is 0 but for 19.
+#[derive(Clone, Copy, Debug, PartialEq, Eq)]
+pub struct TextRefused {
+    pub refusal: Refusal,
+    pub line: u64,
+}
+
+impl From<Refusal> for TextRefused {
+    ghost from_gives = { λ refusal refused. refused ≡ at_call refusal };
+
+    fn from(refusal: Refusal) -> TextRefused {
+        TextRefused { refusal, line: 0 }
+    }
+}
+
+impl From<Fault> for TextRefused {
+    ghost from_gives = { λ fault refused. refused ≡ at_line fault };
+
+    fn from(fault: Fault) -> TextRefused {
+        TextRefused {
+            refusal: Refusal::Text,
+            line: fault.line,
+        }
+    }
 }
 
 // A place for the bytes of all coordinates.
@@ -30,96 +49,62 @@ fn measure_gathered(
     rule: u32,
     coordinates: &mut [u8],
     table: &mut [u8],
-) -> Read
+) -> Result<u32, TextRefused>
     requires { GatheredAsked text.now n coordinates.old }
     ensures { CoordinatesRead text.now n rule table.old result table.new }
 {
     gather(text, 1, coordinates);
     match measure(n, rule, coordinates, table) {
-        Outcome::Done => Read::Points(n),
-        Outcome::Refused { refusal, record: _ } => Read::Refused {
-            refusal: refusal,
-            line: 0,
-        },
+        Ok(()) => Ok(n),
+        Err(refused) => Err(TextRefused::from(refused.refusal)),
     }
 }
 
 // Reads the coordinates of n points and measures them.
-fn read_coordinates(text: &[u8], n: u32, rule: u32, table: &mut [u8]) -> Read
+fn read_coordinates(text: &[u8], n: u32, rule: u32, table: &mut [u8]) -> Result<u32, TextRefused>
     requires { CoordinatesAsked text.now n }
     ensures { CoordinatesRead text.now n rule table.old result table.new }
 {
-    let Admission::Admitted(instance) = Instance::admit(n) else {
-        return Read::Refused {
-            refusal: refusal::POINTS,
-            line: 0,
-        };
-    };
-    let bytes = 8 * (instance.points as usize);
+    let instance = Instance::admit(n)?;
+    let bytes = 8 * usize::from(instance.points);
     let mut coordinates = [0u8; COORDINATE_BYTES];
     measure_gathered(text, n, rule, &mut coordinates[..bytes], table)
 }
 
 // Reads the weights of n points, the largest of which is `maximum`.
-fn read_weights(text: &[u8], n: u32, maximum: u32, table: &mut [u8]) -> Read
+fn read_weights(text: &[u8], n: u32, maximum: u32, table: &mut [u8]) -> Result<u32, TextRefused>
     requires { WeightsAsked text.now n maximum }
     ensures { WeightsRead text.now n table.old result table.new }
 {
-    let Admission::Admitted(instance) = Instance::admit(n) else {
-        return Read::Refused {
-            refusal: refusal::POINTS,
-            line: 0,
-        };
-    };
-    if count32(table) != edge::count(instance.points) {
-        return Read::Refused {
-            refusal: refusal::SIZE,
-            line: 0,
-        };
+    let instance = Instance::admit(n)?;
+    if count_of::<u32>(table) != edge::count(instance.points) {
+        return Err(Refusal::Size.into());
     }
     if Instance::MOST_LENGTH < maximum {
-        return Read::Refused {
-            refusal: refusal::LENGTH,
-            line: 0,
-        };
+        return Err(Refusal::Length.into());
     }
     gather(text, 0, table);
-    Read::Points(n)
+    Ok(n)
 }
 
 // Reads a TSPLIB text into the table: first the language, then the tests of *measure* or of weights.
-pub fn read_tsplib(text: &[u8], table: &mut [u8]) -> Read
+pub fn read_tsplib(text: &[u8], table: &mut [u8]) -> Result<u32, TextRefused>
     ensures { ReadAs text.now table.old result table.new }
 {
-    match judge(text) {
-        JudgedText::Fault(line) => Read::Refused {
-            refusal: refusal::TEXT,
-            line: line,
-        },
-        JudgedText::Described {
-            n,
-            weighing,
-            maximum,
-        } => match weighing {
-            Weighing::Rule(rule) => read_coordinates(text, n, rule, table),
-            Weighing::Explicit => read_weights(text, n, maximum, table),
-        },
+    let Described {
+        n,
+        weighing,
+        maximum,
+    } = judge(text)?;
+    match weighing {
+        Weighing::Rule(rule) => read_coordinates(text, n, rule, table),
+        Weighing::Explicit => read_weights(text, n, maximum, table),
     }
 }
 
 // How many points a TSPLIB text has.
-pub fn tsplib_points(text: &[u8]) -> Read
+pub fn tsplib_points(text: &[u8]) -> Result<u32, TextRefused>
     ensures { result ≡ points_of (judged text.now) }
 {
-    match judge(text) {
-        JudgedText::Fault(line) => Read::Refused {
-            refusal: refusal::TEXT,
-            line: line,
-        },
-        JudgedText::Described {
-            n,
-            weighing: _,
-            maximum: _,
-        } => Read::Points(n),
-    }
+    Ok(judge(text)?.n)
 }

@@ -1,129 +1,112 @@
--- Words among blanks: blanks skipped, a byte looked for, and a word compared, one byte after the other. Assumes
--- nothing.
-use Prim.Native.Nat.{ℕ, suc, ◌+◌, ◌-◌, ◌≤◌, ◌<◌}
+-- Words among blanks: where a byte first stands, the blanks in front, and a word behind them. Assumes nothing.
+use Prim.Native.Nat.{ℕ, suc, ◌+◌, ◌-◌, ◌<◌}
 use mathlib.Core.Path.{◌≡◌, refl, sym, ◌∙◌, ap}
-use mathlib.Core.Bool.{Bool, true, false, ◌&&◌}
-use mathlib.Core.Logic.{inl, inr}
+use mathlib.Core.Bool.{Bool, true, false, cond, ◌&&◌, not}
 use mathlib.Core.List.{List, [], ◌∷◌, ◌++◌}
-use native.Mathlib.Numerals.{add-one}
 use native.Mathlib.Omega.{arith}
 use native.Mathlib.Decide.{dec_lt}
-use lib.Dec.{eqb}
-use lib.ListN.{length, get_or, take, drop, drop_of_length-le, length-drop}
-use lib.Seq.{drop-cons, take-suc, get_or-drop}
-use borrow.Author.Tests.{eq-eqb, ne_eqb}
-use Rattle.text.specs.Words.{blank}
+use lib.Dec.{eqb, ltb}
+use lib.ListN.{length, get_or, take, drop, length-drop}
+use lib.Seq.{take_all}
+use borrow.Author.Tests.{eq-eqb, ne_eqb, eqb-true, lt-ltb, le-ltb}
+use Rattle.std.specs.Prelude.{Option, Some, None, position, ◌==◌, option_map}
+use Rattle.std.specs.List.{position_or_len}
+use Rattle.text.specs.Words.{blank, blanks}
 use Rattle.tsplib_lines.specs.Words.{after_blanks, only_blanks, word_then_blanks, is_sole, free}
-use Rattle.tsplib_lines.specs.asks.Words.{Skipped, FoundByte}
+use Rattle.tsplib_lines.proofs.WordsExact.{followed_by}
 
--- the loop over blanks
-pub record Skipping (text : List ℕ) (at i : ℕ) : Type 0 where
-  pub low : at ≤ i
-  pub high : i ≤ length text
-  pub same : after_blanks (drop at text) ≡ after_blanks (drop i text)
+-- the first place that passes a test, from that of the rest
+position-cons : (p : ℕ → Bool) (x : ℕ) (xs : List ℕ) → position p (x ∷ xs) ≡ cond (p x) (Some 0) (option_map suc (position p xs))
+position-cons p x xs = go (p x) refl
+  where
+    later : (m n : ℕ) → cond (ltb (1 + m) (suc n)) (Some (1 + m)) None ≡ option_map suc (cond (ltb m n) (Some m) None)
+    later m n = elim (dec_lt m n) [
+      | yes h ↦ rw (lt-ltb m n h, lt-ltb (1 + m) (suc n) (omega arith)) (ap {B = Option ℕ} Some (omega arith))
+      | no h ↦ rw (le-ltb m n (omega arith), le-ltb (1 + m) (suc n) (omega arith)) refl
+    ]
 
-pub skip_start : {text : List ℕ} {at : ℕ} → at ≤ length text → Skipping text at at
-skip_start h = record { low = omega arith; high = h; same = refl }
+    go : (t : Bool) → p x ≡ t → position p (x ∷ xs) ≡ cond t (Some 0) (option_map suc (position p xs))
+    go true e = rw (e, lt-ltb 0 (suc (length xs)) (omega arith)) refl
+    go false e = rw e (later (position_or_len p xs) (length xs))
 
-module _ {text : List ℕ} {at i : ℕ} (s : Skipping text at i) where
-  pub skip_on : i < length text → get_or text i 0 ≡ blank → Skipping text at (i + 1)
-  unfolding after_blanks
-  skip_on h e = record { low = omega (arith, s.low); high = omega arith; same = s.same ∙ rw (drop-cons text i 0 h, after_blanks, eq-eqb (get_or text i 0) blank e, add-one) }
+-- where a byte first stands: bytes before it are others
+pub record FoundAt (c : ℕ) (text : List ℕ) (r : ℕ) : Type 0 where
+  pub inside : r < length text
+  pub is : get_or text r 0 ≡ c
+  pub front : free c (take r text) ≡ true
 
-  pub skip_stop : i < length text → (get_or text i 0 ≡ blank → ⊥) → Skipped text at i
-  unfolding after_blanks
-  skip_stop h e = record { low = s.low; high = s.high; rest = sym (s.same ∙ rw (drop-cons text i 0 h, after_blanks, ne_eqb (get_or text i 0) blank e)) }
+data Found (c : ℕ) (text : List ℕ) : Option ℕ → Type 0 where
+  at : {r : ℕ} → FoundAt c text r → Found c text (Some r)
+  nowhere : free c text ≡ true → Found c text None
 
-  pub skip_end : length text ≤ i → Skipped text at i
-  unfolding after_blanks
-  skip_end h = record { low = s.low; high = s.high; rest = sym (s.same ∙ rw (drop_of_length-le text h)) }
-
--- the loop that looks for a byte
-pub record Finding (text : List ℕ) (at c i : ℕ) : Type 0 where
-  pub low : at ≤ i
-  pub high : i ≤ length text
-  pub passed : free c (take (i - at) (drop at text)) ≡ true
-
-pub find_start : {text : List ℕ} {at : ℕ} (c : ℕ) → at ≤ length text → Finding text at c at
+found_in : (c : ℕ) (text : List ℕ) → Found c text (position (λ b. b == c) text)
 unfolding free
-find_start {text} {at} c h = let e : at - at ≡ 0 = omega arith in record { low = omega arith; high = h; passed = rw e }
-
-free_snoc : (c b : ℕ) (p : List ℕ) → free c p ≡ true → (b ≡ c → ⊥) → free c (p ++ (b ∷ [])) ≡ true
-unfolding free
-free_snoc c b [] h e = rw (free, ne_eqb b c e)
-free_snoc c b (x ∷ p) h e = free_step (eqb x c) h (free_snoc c b p)
+found_in c [] = nowhere refl
+found_in c (b ∷ t) = rw (position-cons (λ b. b == c) b t) (go (eqb b c) refl (position (λ b. b == c) t) (found_in c t))
   where
-    free_step : (t : Bool) → (elim t [ true ↦ false | false ↦ free c p ]) ≡ true → (free c p ≡ true → (b ≡ c → ⊥) → free c (p ++ (b ∷ [])) ≡ true)
-        → (elim t [ true ↦ false | false ↦ free c (p ++ (b ∷ [])) ]) ≡ true
-    free_step true h f = h
-    free_step false h f = f h e
+    go : (x : Bool) → eqb b c ≡ x → (o : Option ℕ) → Found c t o → Found c (b ∷ t) (cond x (Some 0) (option_map suc o))
+    go true e o f = at (record { inside = omega arith; is = eqb-true b c e; front = refl })
+    go false e (Some r) (at f) = at (record { inside = omega (arith, f.inside); is = f.is; front = rw (free, e) f.front })
+    go false e None (nowhere f) = nowhere (rw (free, e) f)
 
-module _ {text : List ℕ} {at c i : ℕ} (s : Finding text at c i) where
-  pub find_on : i < length text → (get_or text i 0 ≡ c → ⊥) → Finding text at c (i + 1)
-  find_on h e =
-      let k : i + 1 - at ≡ suc (i - at) = omega (arith, s.low) in
-      let l : i - at < length (drop at text) = omega (arith, s.low, length-drop at text) in
-      let g : get_or (drop at text) (i - at) 0 ≡ get_or text i 0 = get_or-drop at text (i - at) 0 ∙ ap (λ (j : ℕ). get_or text j 0) (omega (arith, s.low)) in
-      record { low = omega (arith, s.low); high = omega arith; passed = rw (k, take-suc (drop at text) (i - at) 0 l) (free_snoc c (get_or (drop at text) (i - at) 0) (take (i - at) (drop at text)) s.passed (λ q. e (sym g ∙ q))) }
+at_of : {c r : ℕ} {text : List ℕ} → Found c text (Some r) → FoundAt c text r
+at_of (at f) = f
 
-  pub find_stop : get_or text i 0 ≡ c → FoundByte text at c i
-  find_stop e = record { low = s.low; high = s.high; passed = s.passed; stops = inr e }
+nowhere_of : {c : ℕ} {text : List ℕ} → Found c text None → free c text ≡ true
+nowhere_of (nowhere f) = f
 
-  pub find_end : length text ≤ i → FoundByte text at c i
-  find_end h = record { low = s.low; high = s.high; passed = s.passed; stops = inl (omega (arith, s.high)) }
+pub found_at : (c : ℕ) (text : List ℕ) {r : ℕ} → position (λ b. b == c) text ≡ Some r → FoundAt c text r
+found_at c text e = at_of (rw e at (found_in c text))
 
--- the loop over a word
-pub record Matching (word text : List ℕ) (at i : ℕ) : Type 0 where
-  pub within : i ≤ length word
-  pub high : at ≤ length text
-  pub same : is_sole word text ≡ word_then_blanks (drop i word) (drop at text)
+pub free_all : (c : ℕ) (text : List ℕ) → position (λ b. b == c) text ≡ None → free c text ≡ true
+free_all c text e = nowhere_of (rw e at (found_in c text))
 
-pub match_start : {word text : List ℕ} {at : ℕ} → Skipped text 0 at → Matching word text at 0
-unfolding is_sole
-match_start {word} {text} s = record { within = omega arith; high = s.high; same = ap (word_then_blanks word) (sym s.rest) }
+-- the blanks in front
+unfoldable pub behind : List ℕ → Option ℕ → List ℕ
+behind text None = []
+behind text (Some r) = drop r text
 
-module _ {word text : List ℕ} {at i : ℕ} (m : Matching word text at i) where
-  pub match_short : i < length word → length text ≤ at → false ≡ is_sole word text
-  unfolding word_then_blanks
-  match_short h g = sym (m.same ∙ rw (drop-cons word i 0 h, drop_of_length-le text g))
-
-  pub match_not : i < length word → at < length text → (get_or text at 0 ≡ get_or word i 0 → ⊥) → false ≡ is_sole word text
-  unfolding word_then_blanks
-  match_not h g e = sym (m.same ∙ rw (drop-cons word i 0 h, drop-cons text at 0 g, ne_eqb (get_or text at 0) (get_or word i 0) e))
-
-  pub match_on : i < length word → at < length text → get_or text at 0 ≡ get_or word i 0 → Matching word text (at + 1) (i + 1)
-  unfolding word_then_blanks
-  match_on h g e = record {
-    within = omega arith;
-    high = omega arith;
-    same = m.same ∙ rw (drop-cons word i 0 h, drop-cons text at 0 g, eq-eqb (get_or text at 0) (get_or word i 0) e, add-one at, add-one i);
-  }
-
--- blanks are all that is left exactly where nothing stands behind them
-none_behind : (t : List ℕ) → after_blanks t ≡ [] → only_blanks t ≡ true
-unfolding after_blanks only_blanks
-none_behind [] h = refl
-none_behind (b ∷ t) h = step (eqb b blank) h (none_behind t)
+pub blanks_behind : (text : List ℕ) → after_blanks text ≡ behind text (position (λ b. not (b == blank)) text)
+unfolding after_blanks behind
+blanks_behind [] = refl
+blanks_behind (b ∷ t) = rw (position-cons (λ b. not (b == blank)) b t) (go (eqb b blank) (position (λ b. not (b == blank)) t) (blanks_behind t))
   where
-    step : (x : Bool) → ◌≡◌ {A = List ℕ} (elim x [ true ↦ after_blanks t | false ↦ b ∷ t ]) [] → (after_blanks t ≡ [] → only_blanks t ≡ true) → x && only_blanks t ≡ true
-    step true h f = f h
-    step false h f = let z : ◌≡◌ {A = ℕ} 0 1 = cc in absurd (omega arith)
+    go : (x : Bool) (o : Option ℕ) → after_blanks t ≡ behind t o → (elim x [ true ↦ after_blanks t | false ↦ b ∷ t ]) ≡ behind (b ∷ t) (cond (not x) (Some 0) (option_map suc o))
+    go true None h = h
+    go true (Some r) h = h
+    go false o h = refl
 
-some_behind : (t : List ℕ) (c : ℕ) (s : List ℕ) → after_blanks t ≡ c ∷ s → only_blanks t ≡ false
-unfolding after_blanks only_blanks
-some_behind [] c s h = let z : ◌≡◌ {A = ℕ} 0 1 = cc in absurd (omega arith)
-some_behind (b ∷ t) c s h = step (eqb b blank) h (some_behind t c s)
-  where
-    step : (x : Bool) → ◌≡◌ {A = List ℕ} (elim x [ true ↦ after_blanks t | false ↦ b ∷ t ]) (c ∷ s) → (after_blanks t ≡ c ∷ s → only_blanks t ≡ false) → x && only_blanks t ≡ false
-    step true h f = f h
-    step false h f = refl
+pub past_some : (text : List ℕ) {r : ℕ} → position (λ b. not (b == blank)) text ≡ Some r → take (length text - r) (drop r text) ≡ after_blanks text
+unfolding behind
+past_some text {r} e = take_all (length text - r) (drop r text) (omega (arith, length-drop r text)) ∙ sym (blanks_behind text ∙ ap (behind text) e)
 
-pub blanks_left : {text : List ℕ} {at r : ℕ} → Skipped text at r → eqb r (length text) ≡ only_blanks (drop at text)
-blanks_left {text} {at} {r} s = elim (dec_lt r (length text)) [
-  | yes h ↦ ne_eqb r (length text) (λ e. omega arith) ∙ sym (some_behind (drop at text) (get_or text r 0) (drop (suc r) text) (sym s.rest ∙ drop-cons text r 0 h))
-  | no h ↦ eq-eqb r (length text) (omega (arith, s.high)) ∙ sym (none_behind (drop at text) (sym s.rest ∙ drop_of_length-le text {i = r} (omega arith)))
-]
+pub past_none : (text : List ℕ) → position (λ b. not (b == blank)) text ≡ None → [] ≡ after_blanks text
+unfolding behind
+past_none text e = sym (blanks_behind text ∙ ap (behind text) e)
 
-pub match_end : {word text : List ℕ} {at i r : ℕ} → Matching word text at i → length word ≤ i → Skipped text at r → eqb r (length text) ≡ is_sole word text
+-- a word in front
+word_front : (w r : List ℕ) → word_then_blanks w (w ++ r) ≡ only_blanks r
 unfolding word_then_blanks
-match_end {word} {text} {at} m h s = blanks_left s ∙ sym (m.same ∙ rw (drop_of_length-le word h))
+word_front [] r = refl
+word_front (c ∷ w) r = rw (eq-eqb c c refl) (word_front w r)
+
+none_left : (t : List ℕ) → eqb (length (after_blanks t)) 0 ≡ only_blanks t
+unfolding after_blanks only_blanks
+none_left [] = refl
+none_left (b ∷ t) = go (eqb b blank) (none_left t)
+  where
+    go : (x : Bool) → eqb (length (after_blanks t)) 0 ≡ only_blanks t → eqb (length {A = ℕ} (elim x [ true ↦ after_blanks t | false ↦ b ∷ t ])) 0 ≡ (x && only_blanks t)
+    go true h = h
+    go false h = ne_eqb (length (b ∷ t)) 0 (λ e. omega arith)
+
+pub sole_some : (w t rest : List ℕ) → after_blanks t ≡ w ++ rest → eqb (length (after_blanks rest)) 0 ≡ is_sole w t
+unfolding is_sole
+sole_some w t rest e = none_left rest ∙ sym (ap (word_then_blanks w) e ∙ word_front w rest)
+
+pub sole_none : (w t : List ℕ) → ((rest : List ℕ) → after_blanks t ≡ w ++ rest → ⊥) → false ≡ is_sole w t
+unfolding is_sole
+sole_none w t h = go (word_then_blanks w (after_blanks t)) refl
+  where
+    go : (x : Bool) → word_then_blanks w (after_blanks t) ≡ x → false ≡ x
+    go true e = let f = followed_by w (after_blanks t) e in absurd (h (blanks f.count) f.followed)
+    go false e = refl

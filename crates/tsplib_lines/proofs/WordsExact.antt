@@ -4,7 +4,6 @@ use Prim.Native.Nat.{ℕ, zero, suc}
 use mathlib.Core.Path.{◌≡◌, refl, ◌∙◌, ap}
 use mathlib.Core.Bool.{Bool, true, false}
 use mathlib.Core.List.{List, [], ◌∷◌, ◌++◌}
-use native.Mathlib.Omega.{arith}
 use lib.Dec.{eqb}
 use borrow.Author.Tests.{eqb-true, eq-eqb}
 use Rattle.lists.proofs.Bools.{and_left, and_right, and_both}
@@ -47,10 +46,10 @@ led_by (b ∷ t) = go (eqb b blank) refl (led_by t)
     go true e r = record { count = suc r.count; led = ap (λ (c : ℕ). c ∷ t) (eqb-true b blank e) ∙ ap (λ (s : List ℕ). blank ∷ s) r.led }
     go false e r = record { count = 0; led = refl }
 
-followed_by : (w t : List ℕ) → word_then_blanks w t ≡ true → Followed w t
+pub followed_by : (w t : List ℕ) → word_then_blanks w t ≡ true → Followed w t
 unfolding word_then_blanks
 followed_by [] t h = let r = is_blank t h in record { count = r.count; followed = r.blank_only }
-followed_by (c ∷ w) [] h = let z : ◌≡◌ {A = ℕ} 0 1 = cc in absurd (omega arith)
+followed_by (c ∷ w) [] h = cc
 followed_by (c ∷ w) (b ∷ t) h =
     let r = followed_by w t (and_right (eqb b c) (word_then_blanks w t) h) in
     let e : b ≡ c = eqb-true b c (and_left (eqb b c) (word_then_blanks w t) h) in
@@ -97,7 +96,7 @@ free_both c [] t h g = g
 free_both c (b ∷ s) t h g = go (eqb b c) h (λ k. free_both c s t k g)
   where
     go : (x : Bool) → (elim x [ true ↦ false | false ↦ free c s ]) ≡ true → (free c s ≡ true → free c (s ++ t) ≡ true) → (elim x [ true ↦ false | false ↦ free c (s ++ t) ]) ≡ true
-    go true h f = let z : ◌≡◌ {A = ℕ} 0 1 = cc in absurd (omega arith)
+    go true h f = cc
     go false h f = f h
 
 pub sole_free : (c : ℕ) {w t : List ℕ} → eqb blank c ≡ false → free c w ≡ true → Sole w t → free c t ≡ true

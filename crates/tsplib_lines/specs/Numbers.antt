@@ -1,15 +1,10 @@
 -- Numbers parted by blanks: "Numbers are digits only, fit 32 bits and are parted by blanks".
 use Rattle.std.specs.Prelude.{ℕ, ◌+◌, ◌-◌, ◌*◌, ◌^◌, ◌≤◌, ◌<◌, max, ◌≡◌, Bool, true, false, cond, ◌&&◌, List, [], ◌∷◌, ◌++◌, eqb, leb, ltb, length}
-use Rattle.std.proofs.Math.Option.{Option, none, some}
+use Rattle.std.specs.Prelude.{Option, Some, None}
 use Rattle.text.specs.Decimal.{value_from}
 use Rattle.text.specs.Words.{blank, blanks}
-use Rattle.tsplib_lines.specs.declared.numbers.Partial.{Partial}
-use Rattle.tsplib_lines.specs.declared.numbers.Partial.TheVariants.{Between, Within}
 use Rattle.tsplib_lines.specs.declared.numbers.Tally.{Tally}
-use Rattle.tsplib_lines.specs.declared.numbers.Numbers.{Numbers}
-use Rattle.tsplib_lines.specs.declared.numbers.Numbers.TheVariants.{Some, Nothing}
-use Rattle.tsplib_lines.specs.declared.numbers.Swept.{Swept}
-use Rattle.tsplib_lines.specs.declared.numbers.Swept.TheVariants.{On, Stray}
+use Rattle.tsplib_lines.specs.declared.numbers.Sweep.{Sweep}
 
 -- numbers have 32 bits
 abbrev pub number_limit : ℕ
@@ -33,37 +28,37 @@ pub data NumberText : List ℕ → List ℕ → Type 0 where
   last : {d : List ℕ} {n : ℕ} → Number d n → (k : ℕ) → NumberText (d ++ blanks k) (n ∷ [])
   more : {d t xs : List ℕ} {n : ℕ} → Number d n → NumberText t xs → NumberText (d ++ blank ∷ t) (n ∷ xs)
 
--- the numbers of a text byte by byte, from between two numbers or from within one, with its value so far; none where
--- the text is no numbers
+-- the numbers of a text byte by byte, from between two numbers (None) or from within one, with its value so far; none
+-- where the text is no numbers
 abbrev pub with_number : ℕ → Option (List ℕ) → Option (List ℕ)
-with_number n none = none
-with_number n (some xs) = some (n ∷ xs)
+with_number n None = None
+with_number n (Some xs) = Some (n ∷ xs)
 
-abbrev pub at_blank : Partial → (Partial → Option (List ℕ)) → Option (List ℕ)
-at_blank Between rest = rest Between
-at_blank (Within v) rest = with_number v (rest Between)
+abbrev pub at_blank : Option ℕ → (Option ℕ → Option (List ℕ)) → Option (List ℕ)
+at_blank None rest = rest None
+at_blank (Some v) rest = with_number v (rest None)
 
-abbrev pub at_digit : ℕ → Partial → (Partial → Option (List ℕ)) → Option (List ℕ)
-at_digit d Between rest = rest (Within d)
-at_digit d (Within v) rest = elim (ltb (10 * v + d) number_limit) [ true ↦ rest (Within (10 * v + d)) | false ↦ none ]
+abbrev pub at_digit : ℕ → Option ℕ → (Option ℕ → Option (List ℕ)) → Option (List ℕ)
+at_digit d None rest = rest (Some d)
+at_digit d (Some v) rest = elim (ltb (10 * v + d) number_limit) [ true ↦ rest (Some (10 * v + d)) | false ↦ None ]
 
-unfoldable pub is_digit : ℕ → Bool
+abbrev pub is_digit : ℕ → Bool
 is_digit b = leb 48 b && leb b 57
 
-unfoldable pub numbers_from : Partial → List ℕ → Option (List ℕ)
-numbers_from Between [] = some []
-numbers_from (Within v) [] = some (v ∷ [])
+unfoldable pub numbers_from : Option ℕ → List ℕ → Option (List ℕ)
+numbers_from None [] = Some []
+numbers_from (Some v) [] = Some (v ∷ [])
 numbers_from p (b ∷ t) =
     elim (eqb b blank) [
-      | true ↦ at_blank p (λ (q : Partial). numbers_from q t)
-      | false ↦ elim (is_digit b) [ true ↦ at_digit (b - 48) p (λ (q : Partial). numbers_from q t) | false ↦ none ]
+      | true ↦ at_blank p (λ (q : Option ℕ). numbers_from q t)
+      | false ↦ elim (is_digit b) [ true ↦ at_digit (b - 48) p (λ (q : Option ℕ). numbers_from q t) | false ↦ None ]
     ]
 
 unfoldable pub numbers_in : List ℕ → Option (List ℕ)
-numbers_in text = numbers_from Between text
+numbers_in text = numbers_from None text
 
 -- what the judge of lines wants to know of numbers: how many, the first and the largest
-unfoldable pub counted : Tally → ℕ → Tally
+abbrev pub counted : Tally → ℕ → Tally
 counted t n = record { count = t.count + 1; first = cond (eqb t.count 0) n t.first; maximum = max t.maximum n }
 
 unfoldable pub counted_all : Tally → List ℕ → Tally
@@ -73,30 +68,33 @@ counted_all t (n ∷ ns) = counted_all (counted t n) ns
 abbrev pub no_tally : Tally
 no_tally = record { count = 0; first = 0; maximum = 0 }
 
-unfoldable pub total_of : Tally → Numbers
-total_of t = cond (eqb t.count 0) Nothing (Some t)
+unfoldable pub total_of : Tally → Option Tally
+total_of t = cond (eqb t.count 0) None (Some t)
 
-unfoldable pub tallied_of : Tally → Option (List ℕ) → Numbers
-tallied_of t none = Nothing
-tallied_of t (some xs) = total_of (counted_all t xs)
+unfoldable pub tallied_of : Tally → Option (List ℕ) → Option Tally
+tallied_of t None = None
+tallied_of t (Some xs) = total_of (counted_all t xs)
+
+-- no byte yet
+abbrev pub no_sweep : Sweep
+no_sweep = record { begun = None; tally = no_tally }
 
 -- one byte, and the end of the text
-unfoldable pub swept_blank : Partial → Tally → Swept
-swept_blank Between t = On (record { place = Between; tally = t })
-swept_blank (Within v) t = On (record { place = Between; tally = counted t v })
+abbrev pub ended : Option ℕ → Tally → Tally
+ended None t = t
+ended (Some v) t = counted t v
 
-unfoldable pub swept_digit : ℕ → Partial → Tally → Swept
-swept_digit d Between t = On (record { place = Within d; tally = t })
-swept_digit d (Within v) t =
-    elim (ltb (10 * v + d) number_limit) [ true ↦ On (record { place = Within (10 * v + d); tally = t }) | false ↦ Stray ]
+abbrev pub swept_blank : Sweep → Sweep
+swept_blank s = record { begun = None; tally = ended s.begun s.tally }
 
-unfoldable pub swept_byte : ℕ → Partial → Tally → Swept
-swept_byte b p t =
+abbrev pub swept_digit : ℕ → Option ℕ → Tally → Option Sweep
+swept_digit d None t = Some (record { begun = Some d; tally = t })
+swept_digit d (Some v) t =
+    elim (ltb (10 * v + d) number_limit) [ true ↦ Some (record { begun = Some (10 * v + d); tally = t }) | false ↦ None ]
+
+abbrev pub swept_byte : ℕ → Sweep → Option Sweep
+swept_byte b s =
     elim (eqb b blank) [
-      | true ↦ swept_blank p t
-      | false ↦ elim (is_digit b) [ true ↦ swept_digit (b - 48) p t | false ↦ Stray ]
+      | true ↦ Some (swept_blank s)
+      | false ↦ elim (is_digit b) [ true ↦ swept_digit (b - 48) s.begun s.tally | false ↦ None ]
     ]
-
-unfoldable pub ended : Partial → Tally → Tally
-ended Between t = t
-ended (Within v) t = counted t v

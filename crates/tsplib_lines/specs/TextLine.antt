@@ -1,18 +1,15 @@
 -- A line of the language: a keyword with its value, a section's name, EOF, numbers, or none of these.
-use Rattle.std.specs.Prelude.{ℕ, Bool, true, false, List, [], ◌∷◌, ◌++◌, eqb}
-use Rattle.std.proofs.Math.Option.{Option, none, some}
+use Rattle.std.specs.Prelude.{ℕ, Bool, true, false, List, [], ◌∷◌, ◌++◌, eqb, Option, Some, None}
+use denote.Ref.{Bor}
 use Rattle.tsplib_lines.specs.Words.{colon, Sole, is_sole, name_word, comment_word, type_word, tsp_word, dimension_word}
 use Rattle.tsplib_lines.specs.Words.{weight_type_word, euc2d_word, ceil2d_word, att_word, man2d_word, max2d_word, explicit_word}
 use Rattle.tsplib_lines.specs.Words.{format_word, upper_row_word, node_section_word, weight_section_word, eof_word}
 use Rattle.tsplib_lines.specs.Numbers.{NumberText, numbers_in, no_tally, tallied_of}
-use Rattle.tsplib_lines.specs.declared.numbers.Numbers.{Numbers}
-use Rattle.tsplib_lines.specs.declared.numbers.Numbers.TheVariants.{Some, Nothing}
+use Rattle.tsplib_lines.specs.declared.numbers.Tally.{Tally}
 use Rattle.tsplib_lines.specs.declared.text_line.Weighing.{Weighing}
 use Rattle.tsplib_lines.specs.declared.text_line.Weighing.TheVariants as weighing
 use Rattle.tsplib_lines.specs.declared.text_line.Keyword.{Keyword}
 use Rattle.tsplib_lines.specs.declared.text_line.Keyword.TheVariants as keyword
-use Rattle.tsplib_lines.specs.declared.text_line.NamedWeighing.{NamedWeighing}
-use Rattle.tsplib_lines.specs.declared.text_line.NamedWeighing.TheVariants as named
 use Rattle.tsplib_lines.specs.declared.text_line.TalliedLine as code
 use Rattle.tsplib_lines.specs.declared.text_line.TalliedLine.TheVariants as told
 
@@ -63,23 +60,23 @@ abbrev pub when : {A : Type 0} → Bool → A → A → A
 when true this rest = this
 when false this rest = rest
 
-unfoldable pub keyword_of : List ℕ → Keyword
+unfoldable pub keyword_of : List ℕ → Option Keyword
 keyword_of k =
-    when (is_sole name_word k) keyword.Name
-    (when (is_sole comment_word k) keyword.Comment
-    (when (is_sole type_word k) keyword.Type
-    (when (is_sole dimension_word k) keyword.Dimension
-    (when (is_sole weight_type_word k) keyword.WeightType
-    (when (is_sole format_word k) keyword.WeightFormat keyword.Unknown)))))
+    when (is_sole name_word k) (Some keyword.Name)
+    (when (is_sole comment_word k) (Some keyword.Comment)
+    (when (is_sole type_word k) (Some keyword.Type)
+    (when (is_sole dimension_word k) (Some keyword.Dimension)
+    (when (is_sole weight_type_word k) (Some keyword.WeightType)
+    (when (is_sole format_word k) (Some keyword.WeightFormat) None)))))
 
-unfoldable pub weighing_of : List ℕ → NamedWeighing
+unfoldable pub weighing_of : List ℕ → Option Weighing
 weighing_of v =
-    when (is_sole explicit_word v) (named.Known weighing.Explicit)
-    (when (is_sole euc2d_word v) (named.Known (weighing.Rule 1))
-    (when (is_sole ceil2d_word v) (named.Known (weighing.Rule 2))
-    (when (is_sole att_word v) (named.Known (weighing.Rule 3))
-    (when (is_sole man2d_word v) (named.Known (weighing.Rule 4))
-    (when (is_sole max2d_word v) (named.Known (weighing.Rule 5)) named.Unknown)))))
+    when (is_sole explicit_word v) (Some weighing.Explicit)
+    (when (is_sole euc2d_word v) (Some (weighing.Rule 1))
+    (when (is_sole ceil2d_word v) (Some (weighing.Rule 2))
+    (when (is_sole att_word v) (Some (weighing.Rule 3))
+    (when (is_sole man2d_word v) (Some (weighing.Rule 4))
+    (when (is_sole max2d_word v) (Some (weighing.Rule 5)) None)))))
 
 unfoldable pub section_of : List ℕ → TextLine
 section_of t =
@@ -87,43 +84,46 @@ section_of t =
     (when (is_sole weight_section_word t) weight-section
     (when (is_sole eof_word t) eof-line other-line))
 
-unfoldable pub dimension_of : Option (List ℕ) → TextLine
-dimension_of none = other-line
-dimension_of (some []) = other-line
-dimension_of (some (n ∷ [])) = dimension_line n
-dimension_of (some (n ∷ m ∷ ns)) = other-line
+abbrev pub dimension_of : Option (List ℕ) → TextLine
+dimension_of None = other-line
+dimension_of (Some []) = other-line
+dimension_of (Some (n ∷ [])) = dimension_line n
+dimension_of (Some (n ∷ m ∷ ns)) = other-line
 
-abbrev pub weighing_line : NamedWeighing → TextLine
-weighing_line (named.Known m) = weighing-line m
-weighing_line named.Unknown = other-line
+abbrev pub weighing_line : Option Weighing → TextLine
+weighing_line (Some m) = weighing-line m
+weighing_line None = other-line
 
-unfoldable pub valued : Keyword → List ℕ → TextLine
+abbrev pub valued : Keyword → List ℕ → TextLine
 valued keyword.Name v = name-line
 valued keyword.Comment v = comment-line
 valued keyword.Type v = when (is_sole tsp_word v) type-line other-line
 valued keyword.Dimension v = dimension_of (numbers_in v)
 valued keyword.WeightType v = weighing_line (weighing_of v)
 valued keyword.WeightFormat v = when (is_sole upper_row_word v) format-line other-line
-valued keyword.Unknown v = other-line
 
-unfoldable pub parts_line : Parts → List ℕ → TextLine
+abbrev pub valued_as : Option Keyword → List ℕ → TextLine
+valued_as (Some key) v = valued key v
+valued_as None v = other-line
+
+abbrev pub parts_line : Parts → List ℕ → TextLine
 parts_line whole t = section_of t
-parts_line (parts k v) t = valued (keyword_of k) v
+parts_line (parts k v) t = valued_as (keyword_of k) v
 
 abbrev pub numbers_or : Option (List ℕ) → TextLine → TextLine
-numbers_or none rest = rest
-numbers_or (some []) rest = rest
-numbers_or (some (x ∷ xs)) rest = number_line (x ∷ xs)
+numbers_or None rest = rest
+numbers_or (Some []) rest = rest
+numbers_or (Some (x ∷ xs)) rest = number_line (x ∷ xs)
 
 unfoldable pub line_of : List ℕ → TextLine
 line_of t = numbers_or (numbers_in t) (parts_line (at_colon t) t)
 
 -- what the code keeps of a line: of numbers how many, the first and the largest
-abbrev pub told_numbers : Numbers → code.TalliedLine
+abbrev pub told_numbers : Option Tally → code.TalliedLine
 told_numbers (Some t) = told.Numbers t
-told_numbers Nothing = told.Other
+told_numbers None = told.Other
 
-unfoldable pub told_of : TextLine → code.TalliedLine
+abbrev pub told_of : TextLine → code.TalliedLine
 told_of name-line = told.Name
 told_of comment-line = told.Comment
 told_of type-line = told.Type
@@ -134,8 +134,13 @@ told_of eof-line = told.Eof
 told_of other-line = told.Other
 told_of (dimension_line n) = told.Dimension n
 told_of (weighing-line m) = told.WeightType m
-told_of (number_line xs) = told_numbers (tallied_of no_tally (some xs))
+told_of (number_line xs) = told_numbers (tallied_of no_tally (Some xs))
 
 -- the line where the value is the one word that it may be
-unfoldable pub only_as : List ℕ → List ℕ → code.TalliedLine → code.TalliedLine
+abbrev pub only_as : List ℕ → List ℕ → code.TalliedLine → code.TalliedLine
 only_as word value line = when (is_sole word value) line told.Other
+
+-- what the first of some words stands for that the text is by itself
+unfoldable pub named : {A : Type 0} → List ℕ → List (Bor (List ℕ) × A) → Option A
+named t [] = None
+named t (p ∷ ps) = when (is_sole p.0.now t) (Some p.1) (named t ps)

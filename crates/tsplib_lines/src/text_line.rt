@@ -1,27 +1,22 @@
 // One line of a TSPLIB text: a keyword with its value, a section's name, EOF, numbers, or none of these.
 ghost use Rattle.std.specs.Prelude.{◌≡◌};
 ghost use Rattle.tsplib_lines.specs.TextLine.{keyword_of, weighing_of, section_of, dimension_of, valued, parts_line, at_colon};
-ghost use Rattle.tsplib_lines.specs.TextLine.{line_of, told_of, weighing_line, only_as};
+ghost use Rattle.tsplib_lines.specs.TextLine.{line_of, told_of, weighing_line, only_as, named};
 ghost use Rattle.tsplib_lines.specs.Numbers.{numbers_in};
 
-use crate::numbers::{Numbers, Tally, numbers_of};
+use crate::numbers::{Tally, numbers_of};
 use crate::words;
 use crate::words::{find, is_sole};
 
-// How edges are weighed: by the lengths that the text gives, or by a rule of *measure*.
-#[derive(Clone, Copy)]
+// How edges are weighed: by the lengths that the text gives, or by a rule of *measure*, which takes the rule's number
+// and tests it behind 1 and 2.
+#[derive(Clone, Copy, PartialEq, Eq)]
 pub enum Weighing {
     Explicit,
     Rule(u32),
 }
 
-#[derive(Drop)]
-pub enum NamedWeighing {
-    Known(Weighing),
-    Unknown,
-}
-
-#[derive(Drop)]
+#[derive(Clone, Copy, PartialEq, Eq)]
 pub enum Keyword {
     Name,
     Comment,
@@ -29,7 +24,6 @@ pub enum Keyword {
     Dimension,
     WeightType,
     WeightFormat,
-    Unknown,
 }
 
 #[derive(Clone, Copy)]
@@ -47,83 +41,71 @@ pub enum TalliedLine {
     Other,
 }
 
-// The keyword that stands before the colon.
-fn keyword_of(text: &[u8]) -> Keyword
-    ensures { result ≡ keyword_of text.now }
+// What the word stands for that the text is by itself, among words with what each stands for.
+fn named<T: Copy>(text: &[u8], names: &[(&[u8], T)]) -> Option<T>
+    ensures { result ≡ named text.now names.now }
 {
-    if is_sole(text, b"NAME") {
-        return Keyword::Name;
+    for (word, meaning) in names {
+        if is_sole(text, word) {
+            return Some(*meaning);
+        }
     }
-    if is_sole(text, b"COMMENT") {
-        return Keyword::Comment;
-    }
-    if is_sole(text, b"TYPE") {
-        return Keyword::Type;
-    }
-    if is_sole(text, b"DIMENSION") {
-        return Keyword::Dimension;
-    }
-    if is_sole(text, b"EDGE_WEIGHT_TYPE") {
-        return Keyword::WeightType;
-    }
-    if is_sole(text, b"EDGE_WEIGHT_FORMAT") {
-        return Keyword::WeightFormat;
-    }
-    Keyword::Unknown
+    None
 }
 
+const KEYWORDS: [(&[u8], Keyword); 6] = [
+    (b"NAME", Keyword::Name),
+    (b"COMMENT", Keyword::Comment),
+    (b"TYPE", Keyword::Type),
+    (b"DIMENSION", Keyword::Dimension),
+    (b"EDGE_WEIGHT_TYPE", Keyword::WeightType),
+    (b"EDGE_WEIGHT_FORMAT", Keyword::WeightFormat),
+];
+
+// The keyword that stands before the colon.
+fn keyword_of(text: &[u8]) -> Option<Keyword>
+    ensures { result ≡ keyword_of text.now }
+{
+    named(text, &KEYWORDS)
+}
+
+const WEIGHINGS: [(&[u8], Weighing); 6] = [
+    (b"EXPLICIT", Weighing::Explicit),
+    (b"EUC_2D", Weighing::Rule(1)),
+    (b"CEIL_2D", Weighing::Rule(2)),
+    (b"ATT", Weighing::Rule(3)),
+    (b"MAN_2D", Weighing::Rule(4)),
+    (b"MAX_2D", Weighing::Rule(5)),
+];
+
 // The value of EDGE_WEIGHT_TYPE.
-fn weighing_of(text: &[u8]) -> NamedWeighing
+fn weighing_of(text: &[u8]) -> Option<Weighing>
     ensures { result ≡ weighing_of text.now }
 {
-    if is_sole(text, b"EXPLICIT") {
-        return NamedWeighing::Known(Weighing::Explicit);
-    }
-    if is_sole(text, b"EUC_2D") {
-        return NamedWeighing::Known(Weighing::Rule(1));
-    }
-    if is_sole(text, b"CEIL_2D") {
-        return NamedWeighing::Known(Weighing::Rule(2));
-    }
-    if is_sole(text, b"ATT") {
-        return NamedWeighing::Known(Weighing::Rule(3));
-    }
-    if is_sole(text, b"MAN_2D") {
-        return NamedWeighing::Known(Weighing::Rule(4));
-    }
-    if is_sole(text, b"MAX_2D") {
-        return NamedWeighing::Known(Weighing::Rule(5));
-    }
-    NamedWeighing::Unknown
+    named(text, &WEIGHINGS)
 }
+
+const SECTIONS: [(&[u8], TalliedLine); 3] = [
+    (b"NODE_COORD_SECTION", TalliedLine::NodeSection),
+    (b"EDGE_WEIGHT_SECTION", TalliedLine::WeightSection),
+    (b"EOF", TalliedLine::Eof),
+];
 
 // A line without a colon: a section's name or EOF.
 fn section(text: &[u8]) -> TalliedLine
     ensures { result ≡ told_of (section_of text.now) }
 {
-    if is_sole(text, b"NODE_COORD_SECTION") {
-        return TalliedLine::NodeSection;
-    }
-    if is_sole(text, b"EDGE_WEIGHT_SECTION") {
-        return TalliedLine::WeightSection;
-    }
-    if is_sole(text, b"EOF") {
-        return TalliedLine::Eof;
-    }
-    TalliedLine::Other
+    named(text, &SECTIONS).unwrap_or(TalliedLine::Other)
 }
 
 // The value of DIMENSION: one number.
 fn dimension(value: &[u8]) -> TalliedLine
     ensures { result ≡ told_of (dimension_of (numbers_in value.now)) }
 {
-    let Numbers::Some(tally) = numbers_of(value) else {
-        return TalliedLine::Other;
-    };
-    if tally.count != 1 {
-        return TalliedLine::Other;
+    match numbers_of(value) {
+        Some(tally) if tally.count == 1 => TalliedLine::Dimension(tally.first),
+        _ => TalliedLine::Other,
     }
-    TalliedLine::Dimension(tally.first)
 }
 
 // EDGE_WEIGHT_TYPE with its value.
@@ -131,8 +113,8 @@ fn weight_type(value: &[u8]) -> TalliedLine
     ensures { result ≡ told_of (weighing_line (weighing_of value.now)) }
 {
     match weighing_of(value) {
-        NamedWeighing::Known(w) => TalliedLine::WeightType(w),
-        NamedWeighing::Unknown => TalliedLine::Other,
+        Some(weighing) => TalliedLine::WeightType(weighing),
+        None => TalliedLine::Other,
     }
 }
 
@@ -141,9 +123,10 @@ fn only(value: &[u8], word: &[u8], line: TalliedLine) -> TalliedLine
     ensures { result ≡ only_as word.now value.now line }
 {
     if is_sole(value, word) {
-        return line;
+        line
+    } else {
+        TalliedLine::Other
     }
-    TalliedLine::Other
 }
 
 // A keyword with its value.
@@ -157,7 +140,6 @@ fn valued_line(key: Keyword, value: &[u8]) -> TalliedLine
         Keyword::Dimension => dimension(value),
         Keyword::WeightType => weight_type(value),
         Keyword::WeightFormat => only(value, b"UPPER_ROW", TalliedLine::WeightFormat),
-        Keyword::Unknown => TalliedLine::Other,
     }
 }
 
@@ -165,12 +147,13 @@ fn valued_line(key: Keyword, value: &[u8]) -> TalliedLine
 fn word_line(text: &[u8]) -> TalliedLine
     ensures { result ≡ told_of (parts_line (at_colon text.now) text.now) }
 {
-    let at = find(text, 0, words::COLON);
-    if at == text.len() {
+    let Some(at) = find(text, words::COLON) else {
         return section(text);
+    };
+    match keyword_of(&text[..at]) {
+        Some(key) => valued_line(key, &text[at + 1..]),
+        None => TalliedLine::Other,
     }
-    let key = keyword_of(&text[..at]);
-    valued_line(key, &text[at + 1..])
 }
 
 // What a line's bytes are.
@@ -178,7 +161,7 @@ pub fn read_line(text: &[u8]) -> TalliedLine
     ensures { result ≡ told_of (line_of text.now) }
 {
     match numbers_of(text) {
-        Numbers::Some(tally) => TalliedLine::Numbers(tally),
-        Numbers::Nothing => word_line(text),
+        Some(tally) => TalliedLine::Numbers(tally),
+        None => word_line(text),
     }
 }

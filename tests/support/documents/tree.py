@@ -12,7 +12,7 @@ OTHERS = {"rt", "diff", "grep", "requires", "--help", "--allow-holes", "--check"
 # a definition or a theorem, a constructor or a field: what a colon follows at the front of a line
 DEFINED = re.compile(r"^\s*(?:(?:unfoldable|abbrev|pub)\s+)*(?:(?:record|data)\s+([^\s({:]+)|([^\s(){}:,]+)\s+:\s)", re.M)
 KIT = re.compile(r"^use (?!Rattle)(?:\w+\.)*(\w+)\.\{([^}]*)\}", re.M)
-CODED = re.compile(r"\b(?:fn|struct|enum|const|mod)\s+(\w+)|(?:->|\w:) &?(?:mut )?\[?(\w+)")
+CODED = re.compile(r"\b(?:fn|struct|enum|type|const|mod)\s+(\w+)|(?:->|\w:) &?(?:mut )?\[?(\w+)")
 BLOCK = re.compile(r"^(?:pub\s+)?(?:impl|struct|enum)\s+(\w+)\s*\{\n(.*?)^\}", re.M | re.S)
 MEMBER = re.compile(r"\b(?:fn|const)\s+(\w+)|^    (?:pub )?(\w+)(?=:|,|\(| \{)", re.M)
 PYTHON = re.compile(r"\b(?:def|class)\s+(\w+)|^(\w+)\s*=|\.(\w+)\s*=|[\"'](-*\w[\w-]*)[\"']", re.M)

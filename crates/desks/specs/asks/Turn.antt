@@ -3,7 +3,7 @@ use Rattle.std.specs.Prelude.{ℕ, ◌≤◌, ◌<◌, ◌≡◌, List, length}
 use Rattle.marks.specs.Mark.{struck_mark}
 use Rattle.marking.specs.asks.Mark.{AdmittedBy, RowsAsked}
 use Rattle.desks.specs.State.{desk_count, state_bytes, next_index, owner, lines_at}
-use Rattle.desks.specs.Turn.{turn_packed, desk_left, served_left}
+use Rattle.desks.specs.Turn.{desk_sheet, turn_packed, desk_left, served_left}
 use Rattle.desks.specs.declared.turn.Served.{Served}
 
 -- a sheet that passed the tests, whose desk has a line left
@@ -26,11 +26,11 @@ pub record ServeAsked (state : List ℕ) (desk : ℕ) : Type 0 where
 -- what a turn leaves of the desk's numbers
 pub record PutBackAs (state : List ℕ) (desk : ℕ) (served : Served) (left : List ℕ) : Type 0 where
   pub kept : length left ≡ length state
-  pub written : left ≡ desk_left served state desk
+  pub written : left ≡ desk_left (desk_sheet served) state desk
 
 -- what serving a desk answers and leaves
 pub record ServedAs (state : List ℕ) (desk n : ℕ) (table set s : List ℕ) (answer : Served) (state-out set_out : List ℕ) : Type 0 where
-  pub answered : answer ≡ (turn_packed n table set s (next_index state desk) (owner state desk) (lines_at state desk)).served
+  pub answered : desk_sheet answer ≡ (turn_packed n table set s (next_index state desk) (owner state desk) (lines_at state desk)).served
   pub state_left : state-out ≡ served_left
       (turn_packed n table set s (next_index state desk) (owner state desk) (lines_at state desk)).served state desk
   pub set-left : set_out ≡ (turn_packed n table set s (next_index state desk) (owner state desk) (lines_at state desk)).marks

@@ -2,11 +2,6 @@
 use Rattle.std.specs.Prelude.{ℕ, ◌+◌, ◌*◌, ◌≤◌, ◌<◌, ◌≡◌, List, ◌++◌, length, take, drop}
 use Rattle.endian.specs.Bytes.{little_endian, bytes_of}
 
--- a byte as a wider number
-pub record ByteIs (b r : ℕ) : Type 0 where
-  pub same : r ≡ b
-  pub small : r < 256
-
 -- the entry with this number has all its bytes
 pub record Entry (width : ℕ) (bytes : List ℕ) (at : ℕ) : Type 0 where
   pub inside : width * (at + 1) ≤ length bytes

@@ -1,11 +1,12 @@
 -- What functions ask of each other about the subject of `specs/Find.antt`, and what they ensure.
-use Rattle.std.specs.Prelude.{ℕ, suc, ◌+◌, ◌-◌, ◌*◌, ◌≤◌, ◌<◌, ◌≡◌, Bool, not, ◌&&◌, cond, List, ◌++◌, eqb, length, take}
+use Rattle.std.specs.Prelude.{ℕ, suc, ◌+◌, ◌-◌, ◌*◌, ◌≤◌, ◌<◌, ◌≡◌, Bool, false, not, ◌&&◌, cond, List, ◌++◌, Option, Some, None, eqb, length, take}
 use Rattle.lengths.specs.Edge.{Edge, Point, edge_count, row, rows, edges, tri}
 use Rattle.lengths.specs.Instance.{least_points, most_edges}
 use Rattle.search.specs.asks.Pairs.{passes?}
 use Rattle.rules.specs.Pairs.{keep}
-use Rattle.lengths.specs.Table.{Lengths}
-use Rattle.search.specs.asks.Split.{Bounded, LegsAsked}
+use Rattle.endian.specs.Bytes.{whole32}
+use Rattle.search.specs.asks.Split.{LegsAsked}
+use Rattle.enumeration.specs.declared.comparison.Comparison.{Comparison}
 use Rattle.sets.specs.Neighbours.{either?}
 use Rattle.enumeration.specs.Find.{numbers_of}
 
@@ -13,13 +14,18 @@ use Rattle.enumeration.specs.Find.{numbers_of}
 unfoldable pub ones : Bool → ℕ
 ones t = cond t 1 0
 
--- the pair x, z passes the one comparison, and z is not barred
-unfoldable pub unbarred? : ℕ → List ℕ → List ℕ → ℕ → ℕ → ℕ → ℕ → Bool
-unbarred? n table legs bound barred x z = passes? n table legs bound x z && not (eqb z barred)
+-- z is barred
+abbrev pub barred? : Option ℕ → ℕ → Bool
+barred? None z = false
+barred? (Some w) z = eqb z w
 
--- the point that is barred in the row of x, 0 for none: the row of the lower point of K's edge bars the higher
-unfoldable pub barred_in : ℕ → ℕ → ℕ → ℕ
-barred_in low high x = cond (eqb x low) high 0
+-- the pair x, z passes the one comparison, and z is not barred
+unfoldable pub unbarred? : ℕ → List ℕ → List ℕ → ℕ → Option ℕ → ℕ → ℕ → Bool
+unbarred? n table legs bound barred x z = passes? n table legs bound x z && not (barred? barred z)
+
+-- the point that is barred in the row of x: the row of the lower point of K's edge bars the higher
+abbrev pub barred_in : ℕ → ℕ → ℕ → Option ℕ
+barred_in low high x = cond (eqb x low) (Some high) None
 
 -- the pair x, z passes the one comparison, and is not K's edge
 unfoldable pub passes_apart? : ℕ → List ℕ → List ℕ → ℕ → ℕ → ℕ → ℕ → ℕ → Bool
@@ -30,29 +36,34 @@ unfoldable pub at_end? : ℕ → List ℕ → List ℕ → ℕ → ℕ → ℕ �
 at_end? n table legs bound other x z = passes? n table legs bound x z && either? other x z
 
 -- the pairs of x with the points above it that pass and are not barred
-unfoldable pub unbarred_of : ℕ → List ℕ → List ℕ → ℕ → ℕ → ℕ → List Edge
+unfoldable pub unbarred_of : ℕ → List ℕ → List ℕ → ℕ → ℕ → Option ℕ → List Edge
 unbarred_of n table legs bound x barred = keep (unbarred? n table legs bound barred) (row x (suc x) (n - x))
 
--- what the search of a row is asked about: a table, legs and bound of it, the row's point, and room for a pair with
--- each point above it
-pub record RowToList (n : ℕ) (table legs : List ℕ) (bound x : ℕ) (found : List ℕ) (before : ℕ) : Type 0 where
-  pub lengths : Lengths n table
-  pub bounded : Bounded legs bound
+-- the same by a comparison
+abbrev pub apart_by : Comparison → ℕ → ℕ → ℕ → ℕ → Bool
+apart_by by = passes_apart? by.n (whole32 by.table.now) by.legs.now by.bound
+
+abbrev pub end_by : Comparison → ℕ → ℕ → ℕ → Bool
+end_by by = at_end? by.n (whole32 by.table.now) by.legs.now by.bound
+
+abbrev pub row_by : Comparison → ℕ → Option ℕ → List Edge
+row_by by = unbarred_of by.n (whole32 by.table.now) by.legs.now by.bound
+
+-- what the search of a row is asked about: the row's point, and room for a pair with each point above it
+pub record RowToList (n x : ℕ) (found : List ℕ) (before : ℕ) : Type 0 where
   pub low : 1 ≤ x
   pub high : x < n
   pub few : before + (n - x) ≤ most_edges
   pub room : 2 * (before + (n - x)) ≤ length found
 
 -- these pairs of the row are written behind those that were there before
-pub record RowFound (n : ℕ) (table legs : List ℕ) (bound x barred : ℕ) (found : List ℕ) (before count : ℕ) (left : List ℕ) : Type 0 where
-  pub counted : count ≡ before + length (unbarred_of n table legs bound x barred)
-  pub front : take (2 * count) left ≡ take (2 * before) found ++ numbers_of (unbarred_of n table legs bound x barred)
+pub record RowFound (by : Comparison) (x : ℕ) (barred : Option ℕ) (found : List ℕ) (before count : ℕ) (left : List ℕ) : Type 0 where
+  pub counted : count ≡ before + length (row_by by x barred)
+  pub front : take (2 * count) left ≡ take (2 * before) found ++ numbers_of (row_by by x barred)
   pub size : length left ≡ length found
 
--- what the search of all rows is asked about: a table, legs and bound of it, and room for every pair
-pub record RowsToList (n : ℕ) (table legs : List ℕ) (bound : ℕ) (found : List ℕ) : Type 0 where
-  pub lengths : Lengths n table
-  pub bounded : Bounded legs bound
+-- what the search of all rows is asked about: room for every pair
+pub record RowsToList (n : ℕ) (found : List ℕ) : Type 0 where
   pub some : 1 ≤ n
   pub room : 2 * edge_count n ≤ length found
 
@@ -66,8 +77,8 @@ pub record RowsFound (n : ℕ) (test : ℕ → ℕ → Bool) (found₀ found : L
   pub written : take (2 * count) found ++ numbers_of (keep test (rows x (n - x))) ≡ numbers_of (keep test (edges n))
 
 -- what the search at an end of the edge is asked about: the same, and the other end
-pub record EndAsked (n : ℕ) (table legs : List ℕ) (bound other : ℕ) (found : List ℕ) : Type 0 where
-  pub asked : RowsToList n table legs bound found
+pub record EndAsked (n other : ℕ) (found : List ℕ) : Type 0 where
+  pub asked : RowsToList n found
   pub point : Point n other
 
 -- what the search is asked about: the edge ab, the split point, and room for every pair

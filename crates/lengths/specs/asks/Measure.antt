@@ -1,9 +1,8 @@
 -- What functions ask of each other about the subject of `specs/Measure.antt`, and what they ensure.
-use Rattle.std.specs.Prelude.{ℕ, ◌+◌, ◌-◌, ◌*◌, ◌≤◌, ◌≡◌, Bool, true, false, List, length}
+use Rattle.std.specs.Prelude.{ℕ, ◌+◌, ◌-◌, ◌*◌, ◌≤◌, ◌≡◌, List, length}
 use Rattle.endian.specs.Bytes.{whole32}
 use Rattle.endian.specs.asks.Bytes.{Encoding}
 use Rattle.lengths.specs.declared.distance.Rule.{Rule}
-use Rattle.lengths.specs.declared.distance.Rule.TheVariants.{Man2d, Max2d}
 use Rattle.lengths.specs.Edge.{edge_count, place_up}
 use Rattle.lengths.specs.asks.Edge.{IsEdgeUp}
 use Rattle.lengths.specs.Distance.{gap_distance}
@@ -23,11 +22,6 @@ pub record Located (cs : List ℕ) (x y b : ℕ) : Type 0 where
 -- the distance from the point with the coordinates x and y to the point b
 unfoldable pub distance_to : Rule → ℕ → ℕ → List ℕ → ℕ → ℕ
 distance_to rule x y cs b = gap_distance rule (gap_of x (x_of cs b)) (gap_of y (y_of cs b))
-
--- the rule of the gaps themselves: the larger, or their sum
-unfoldable pub gap_rule : Bool → Rule
-gap_rule true = Max2d
-gap_rule false = Man2d
 
 -- what `fill` is given: at least two points, their coordinates, and the bytes of a table of their edges
 pub record Fillable (n : ℕ) (cs table : List ℕ) : Type 0 where

@@ -1,5 +1,5 @@
 -- What the functions that write the text of a line ask of each other, and what they ensure.
-use Rattle.std.specs.Prelude.{ℕ, ◌+◌, ◌*◌, ◌^◌, ◌≤◌, ◌<◌, ◌≡◌, List, ◌∷◌, ◌++◌, length}
+use Rattle.std.specs.Prelude.{ℕ, ◌+◌, ◌*◌, ◌^◌, ◌≤◌, ◌<◌, ◌≡◌, List, ◌∷◌, ◌++◌, Option, length}
 use Rattle.lengths.specs.Edge.{Edge, edge, edges}
 use Rattle.lengths.specs.Instance.{least_points, most_edges}
 use Rattle.lengths.specs.Table.{length_of}
@@ -8,7 +8,8 @@ use Rattle.marks.specs.Mark.{open_in}
 use Rattle.text.specs.Words.{Wrote}
 use Rattle.sentences.specs.Sentence.{sentence_bytes, text_of}
 use Rattle.sentences.specs.asks.Sentence.{reason_of}
-use Rattle.reasons.specs.PairReason.{PairOutcome, pair_outcome}
+use Rattle.sentences.specs.Reason.{Reason}
+use Rattle.reasons.specs.PairReason.{pair_outcome}
 use Rattle.reasons.specs.Telling.{reason_at, case_behind, reasons_from}
 use Rattle.reasons.specs.asks.PairReason.{SplitAsked}
 use Rattle.reasons.specs.declared.line_text.ToldPair.{ToldPair}
@@ -30,12 +31,12 @@ abbrev pub most_text : ℕ
 most_text = sentence_bytes * most_edges
 
 -- what is told of a pair with this outcome, where record i is the case of the next standing pair
-pub record ToldAt (o : PairOutcome) (s : List ℕ) (i : ℕ) (r : ToldPair) : Type 0 where
+pub record ToldAt (o : Option Reason) (s : List ℕ) (i : ℕ) (r : ToldPair) : Type 0 where
   pub reason_is : reason_of r.reason ≡ reason_at o s i
   pub case_is : r.case ≡ case_behind o s i
 
 -- the outcomes of the pairs at the split point c under K = {ab}
-abbrev pub outcomes_of : ℕ → (table marks : List ℕ) → (a b c : ℕ) → ℕ → ℕ → PairOutcome
+abbrev pub outcomes_of : ℕ → (table marks : List ℕ) → (a b c : ℕ) → ℕ → ℕ → Option Reason
 outcomes_of n table marks a b c = pair_outcome (length_of n table) (open_in n marks) a b c
 
 -- the text of a split whose first case is the record i
@@ -55,7 +56,7 @@ pub record EdgeAsked (n : ℕ) (table marks : List ℕ) (a b c x y at : ℕ) : T
 
 -- what telling the pair xy leaves, or passing by an edge of c: the sentence, if there is one, and what is then still to
 -- be told
-pub record EdgeTold (outcome : ℕ → ℕ → PairOutcome) (s : List ℕ) (c i x y : ℕ) (out : List ℕ) (at : ℕ) (r : TextPosition) (left : List ℕ)
+pub record EdgeTold (outcome : ℕ → ℕ → Option Reason) (s : List ℕ) (c i x y : ℕ) (out : List ℕ) (at : ℕ) (r : TextPosition) (left : List ℕ)
     : Type 0 where
   pub piece : List ℕ
   pub put : FittedWithin sentence_bytes out at piece r.at left

@@ -1,19 +1,22 @@
 -- What functions ask of each other about the subject of `specs/PairReason.antt`, and what they ensure.
-use Rattle.std.specs.Prelude.{ℕ, min, max, ◌≡◌, cond, ◌&&◌, List, ltb, length}
+use Rattle.std.specs.Prelude.{ℕ, min, max, ◌≡◌, cond, ◌&&◌, List, ℤ, Option, Some, None, ltb, length}
 use Rattle.lengths.specs.Saving.{gains?}
 use Rattle.lengths.specs.Edge.{Point, edge_count}
 use Rattle.lengths.specs.Table.{Lengths}
 use Rattle.rules.specs.Pair.{exchange_saving}
 use Rattle.sentences.specs.Reason.{Reason, exchange, move}
 use Rattle.sentences.specs.asks.Sentence.{reason_of}
-use Rattle.reasons.specs.PairReason.{PairOutcome, shut, stands, end?, exchange_of, moves?, move_of}
-use Rattle.reasons.specs.declared.pair.PairOutcome as declared
-use Rattle.reasons.specs.declared.pair.PairOutcome.TheVariants.{Shut, Stands}
+use Rattle.reasons.specs.PairReason.{gain, end?, exchange_of, moves?, move_of}
+use Rattle.sentences.specs.declared.reason.Reason as declared
 
 -- the declared outcome as the definition has it
-unfoldable pub outcome_of : declared.PairOutcome → PairOutcome
-outcome_of (Shut r) = shut (reason_of r)
-outcome_of Stands = stands
+abbrev pub outcome_of : Option declared.Reason → Option Reason
+outcome_of (Some r) = Some (reason_of r)
+outcome_of None = None
+
+-- a saving above 0, as a plain number
+unfoldable pub gained : ℤ → Option ℕ
+gained s = cond (gains? s) (Some (gain s)) None
 
 -- the exchange of cz and ab, which saves so much
 abbrev pub exchanged : (a b c z saved : ℕ) → Reason
@@ -27,13 +30,13 @@ moved a b c x y saved =
     (move c (min a b) (max a b) saved))
 
 -- the outcome by test 5 alone, and by tests 4 and 5
-unfoldable pub move_outcome : (len : ℕ → ℕ → ℕ) (a b c x y : ℕ) → PairOutcome
-move_outcome len a b c x y = cond (moves? len a b c x y) (shut (move_of len a b c x y)) stands
+unfoldable pub move_outcome : (len : ℕ → ℕ → ℕ) (a b c x y : ℕ) → Option Reason
+move_outcome len a b c x y = cond (moves? len a b c x y) (Some (move_of len a b c x y)) None
 
-unfoldable pub saving_outcome : (len : ℕ → ℕ → ℕ) (a b c x y : ℕ) → PairOutcome
+unfoldable pub saving_outcome : (len : ℕ → ℕ → ℕ) (a b c x y : ℕ) → Option Reason
 saving_outcome len a b c x y =
-    cond (gains? (exchange_saving len len c x a b)) (shut (exchange_of len a b c x))
-    (cond (gains? (exchange_saving len len c y a b)) (shut (exchange_of len a b c y))
+    cond (gains? (exchange_saving len len c x a b)) (Some (exchange_of len a b c x))
+    (cond (gains? (exchange_saving len len c y a b)) (Some (exchange_of len a b c y))
     (move_outcome len a b c x y))
 
 -- an instance with its marks, and a split at c under K = {ab}

@@ -13,7 +13,7 @@ unfoldable pub tightened : (out put : ℕ → ℕ → ℕ) → ℕ → ℕ → �
 tightened out put c u v b = cond (eqb u c) b (cond (eqb v c) b (min (put u c + put v c + most_length - out u v) b))
 
 -- the same by the lengths uv, cu and cv
-unfoldable pub tightened_by : ℕ → ℕ → ℕ → ℕ → ℕ → ℕ → ℕ → ℕ
+abbrev pub tightened_by : ℕ → ℕ → ℕ → ℕ → ℕ → ℕ → ℕ → ℕ
 tightened_by c u v uv cu cv b = cond (eqb u c) b (cond (eqb v c) b (min (cu + cv + most_length - uv) b))
 
 -- the least of these over the edges of K that do not touch c; `loose` where there is none, which every pair meets

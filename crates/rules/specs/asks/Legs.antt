@@ -21,7 +21,7 @@ unfoldable pub narrowed : (out put : ℕ → ℕ → ℕ) → ℕ → ℕ → �
 narrowed out put c p q x m = cond (leb (m + out p q) (max (put c p + put x q) (put c q + put x p))) m far
 
 -- the same by numbers: a leg m that is `both` with the edge, and the two exchanges
-unfoldable pub narrowed_by : ℕ → ℕ → ℕ → ℕ → ℕ
+abbrev pub narrowed_by : ℕ → ℕ → ℕ → ℕ → ℕ
 narrowed_by m both one other = cond (leb both (max one other)) m far
 
 -- the legs are those of 1 to n
@@ -92,7 +92,7 @@ abbrev pub quarter_leg : (most byte j length : ℕ) → ℕ
 quarter_leg most byte j length = cond (opens most (quarter byte j)) length far
 
 -- four legs written, by a byte of marks
-unfoldable pub four_legs : (most byte : ℕ) (rows : List ℕ) (from : ℕ) (legs : List ℕ) (x : ℕ) → List ℕ
+abbrev pub four_legs : (most byte : ℕ) (rows : List ℕ) (from : ℕ) (legs : List ℕ) (x : ℕ) → List ℕ
 four_legs most byte rows from legs x =
     set
     (set

@@ -7,7 +7,7 @@ use Rattle.sentences.specs.declared.reason.Reason.TheVariants.{Struck, Third, Lo
 use Rattle.sentences.specs.Reason as spec
 use Rattle.sentences.specs.Sentence.{dash, sentence_bytes}
 
-unfoldable pub reason_of : Reason → spec.Reason
+abbrev pub reason_of : Reason → spec.Reason
 reason_of (Struck p q) = spec.struck p q
 reason_of (Third w) = spec.third w
 reason_of (Loop p q r) = spec.loop p q r

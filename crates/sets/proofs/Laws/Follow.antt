@@ -28,7 +28,6 @@ module _ (K : List Edge) (c x y : ℕ) (two : AtMostTwo (with_pair K c x y)) (pl
       → suc f ≤ n - length (at ∷ from ∷ rest)
       → ((v : ℕ) → Trail (with_pair K c x y) c y v at (from ∷ rest) → reaches? f K at v y ≡ true → ⊥)
       → (t : Bool) → eqb at y ≡ t → (m : PathStep) → Onward K at from m → (t || goes_on m (λ v. reaches? f K at v y)) ≡ true → ⊥
-  unfolding goes_on
   found_step n f at from rest t long fuel rec true e m h r =
       omega (arith, long (at ∷ from ∷ rest) (closes (with_pair K c x y) two plain c y (pair_y K c x y) at from rest t (eqb-true at y e)))
   found_step n f at from rest t long fuel rec false e Stop h r = false≢true r
@@ -62,7 +61,6 @@ module _ (K : List Edge) (c x y : ℕ) (two : AtMostTwo (with_pair K c x y)) (pl
   met_step : (ws : List ℕ) (f at from : ℕ) (rest : List ℕ) → Trail (with_pair K c x y) c y at from rest → Away ws at from
       → ((v : ℕ) → Trail (with_pair K c x y) c y v at (from ∷ rest) → In v ws → reaches? f K at v y ≡ true)
       → (t : Bool) → eqb at y ≡ t → (m : PathStep) → Onward K at from m → (t || goes_on m (λ v. reaches? f K at v y)) ≡ true
-  unfolding goes_on
   met_step ws f at from rest t a rec true e m h = refl
   met_step ws f at from rest t a rec false e m h = go m h
     where

@@ -33,14 +33,12 @@ pigeon (inr p) (inl q) (inr r) = inr (inl (p ∙ sym r))
 
 -- the test of one edge
 joins_true : (p q a b : ℕ) → joins? p q a b ≡ true → Joins (edge p q) a b
-unfolding joins?
 joins_true p q a b h =
     ⊎_elim (λ e. let w = and_true (eqb p a) (eqb q b) e in inl (eqb-true p a w.0, eqb-true q b w.1))
     (λ e. let w = and_true (eqb p b) (eqb q a) e in inr (eqb-true p b w.0, eqb-true q a w.1))
     (or_true (eqb p a && eqb q b) (eqb p b && eqb q a) h)
 
 true_joins : (p q a b : ℕ) → Joins (edge p q) a b → joins? p q a b ≡ true
-unfolding joins?
 true_joins p q a b (inl h) =
     true_or (eqb p a && eqb q b) (eqb p b && eqb q a) (inl (and_both (eqb p a) (eqb q b) (eq-eqb p a h.0) (eq-eqb q b h.1)))
 true_joins p q a b (inr h) =

@@ -1,7 +1,7 @@
 -- What `neighbours_of`, `beyond`, `within?` and `ends_of` say of a list of edges, each in full: their answers
 -- exclude one another, so each answer is given exactly when what it says holds. Assumes nothing.
 use Prim.Native.Nat.{ℕ}
-use mathlib.Core.Path.{◌≡◌, refl, sym, ◌∙◌, subst₂}
+use mathlib.Core.Path.{◌≡◌, refl, sym, ◌∙◌, subst}
 use native.Mathlib.Omega.{arith}
 use mathlib.Core.Bool.{Bool, true, false, cond, false≢true}
 use mathlib.Core.List.{List, [], ◌∷◌}
@@ -17,7 +17,7 @@ use Rattle.sets.specs.declared.neighbours.Neighbours.{Neighbours}
 use Rattle.sets.specs.declared.neighbours.Neighbours.TheVariants.{None, One, Two, More}
 use Rattle.sets.specs.declared.neighbours.PathStep.{PathStep}
 use Rattle.sets.specs.declared.neighbours.PathStep.TheVariants.{Stop, On, Fork}
-use Rattle.sets.specs.declared.neighbours.Ends.TheVariants.{Two as Both, Other}
+use Rattle.std.specs.Prelude.{Some}
 use Rattle.sets.proofs.Laws.Joined.{pigeon}
 
 -- v has three different neighbours
@@ -42,7 +42,6 @@ NeighboursAre K v More = Three K v
 -- an edge that joins v to u alone
 with_exact : (K : List Edge) (e : Edge) (v u : ℕ) → Joins e v u → ((w : ℕ) → Joins e v w → w ≡ u) → (m : Neighbours) → NeighboursAre K v m
     → NeighboursAre (e ∷ K) v (with_point m u)
-unfolding with_point
 with_exact K e v u j only None h = (inl j, λ w. ⊎_elim (only w) (λ k. absurd (h w k)))
 with_exact K e v u j only (One a) h = go (eqb a u) refl
   where
@@ -122,7 +121,6 @@ past_exact K e v past More h =
     }
 
 seen_exact : (K : List Edge) (p q v : ℕ) (m : Neighbours) → NeighboursAre K v m → NeighboursAre (edge p q ∷ K) v (seen p q v m)
-unfolding seen
 seen_exact K p q v m h = go (eqb p v) refl (eqb q v) refl
   where
     go : (t : Bool) → eqb p v ≡ t → (s : Bool) → eqb q v ≡ s → NeighboursAre (edge p q ∷ K) v (cond t (with_point m q) (cond s (with_point m p) m))
@@ -163,7 +161,6 @@ Onward K v from (On w) = Leads K v from w
 Onward K v from Fork = Forks K v from
 
 beyond_exact : (K : List Edge) (v from : ℕ) (m : Neighbours) → NeighboursAre K v m → Onward K v from (beyond m from)
-unfolding beyond
 beyond_exact K v from None h = λ u k. absurd (h u k)
 beyond_exact K v from (One a) h = go (eqb a from) refl
   where
@@ -264,32 +261,23 @@ pub within_exact : (K : List Edge) (v x y : ℕ) → (within? (neighbours_of K v
 within_exact K v x y =
     (within_true K v x y (neighbours_of K v) (neighbours_exact K v), true_within K v x y (neighbours_of K v) (neighbours_exact K v))
 
-ends_two : (K : List Edge) (r x y : ℕ) (m : Neighbours) → NeighboursAre K r m → both_of m ≡ Both x y → DegreeTwo K r x y
-unfolding both_of
-ends_two K r x y None h e = absurd (never e)
-  where
-    never : Other ≡ Both x y → ⊥
-    never q = let z : ◌≡◌ {A = ℕ} 0 1 = cc in omega arith
-ends_two K r x y (One a) h e = absurd (never e)
-  where
-    never : Other ≡ Both x y → ⊥
-    never q = let z : ◌≡◌ {A = ℕ} 0 1 = cc in omega arith
-ends_two K r x y (Two a b) h e =
-    let p : a ≡ x = cc in
-    let q : b ≡ y = cc in
-    subst₂ (λ (s t : ℕ). DegreeTwo K r s t) p q h
-ends_two K r x y More h e = absurd (never e)
-  where
-    never : Other ≡ Both x y → ⊥
-    never q = let z : ◌≡◌ {A = ℕ} 0 1 = cc in omega arith
+no_ends : {x y : ℕ} → both_of None ≡ Some (x, y) → ⊥
+no_ends q = let z : ◌≡◌ {A = ℕ} 0 1 = cc in omega arith
 
-two_ends : (K : List Edge) (r x y : ℕ) (m : Neighbours) → NeighboursAre K r m → DegreeTwo K r x y → (both_of m ≡ Both x y) ⊎ (both_of m ≡ Both y x)
-unfolding both_of
+ends_two : (K : List Edge) (r x y : ℕ) (m : Neighbours) → NeighboursAre K r m → both_of m ≡ Some (x, y) → DegreeTwo K r x y
+ends_two K r x y None h e = absurd (no_ends e)
+ends_two K r x y (One a) h e = absurd (no_ends e)
+ends_two K r x y (Two a b) h e =
+    let w : ◌≡◌ {A = ℕ × ℕ} (a, b) (x, y) = cc in
+    subst (λ (w : ℕ × ℕ). DegreeTwo K r w.0 w.1) w h
+ends_two K r x y More h e = absurd (no_ends e)
+
+two_ends : (K : List Edge) (r x y : ℕ) (m : Neighbours) → NeighboursAre K r m → DegreeTwo K r x y → (both_of m ≡ Some (x, y)) ⊎ (both_of m ≡ Some (y, x))
 two_ends K r x y None h e = absurd (h x e.has_x)
 two_ends K r x y (One a) h e = absurd (e.apart (h.1 x e.has_x ∙ sym (h.1 y e.has_y)))
 two_ends K r x y (Two a b) h e = go (h.only x e.has_x) (h.only y e.has_y)
   where
-    go : (x ≡ a) ⊎ (x ≡ b) → (y ≡ a) ⊎ (y ≡ b) → (Both a b ≡ Both x y) ⊎ (Both a b ≡ Both y x)
+    go : (x ≡ a) ⊎ (x ≡ b) → (y ≡ a) ⊎ (y ≡ b) → (both_of (Two a b) ≡ Some (x, y)) ⊎ (both_of (Two a b) ≡ Some (y, x))
     go (inl p) (inl q) = absurd (e.apart (p ∙ sym q))
     go (inl p) (inr q) = inl (cc)
     go (inr p) (inl q) = inr (cc)
@@ -297,16 +285,18 @@ two_ends K r x y (Two a b) h e = go (h.only x e.has_x) (h.only y e.has_y)
 two_ends K r x y More h e =
     absurd (⊎_elim h.a_b (⊎_elim h.a_c h.b_c) (pigeon (e.only h.a h.has_a) (e.only h.b h.has_b) (e.only h.c h.has_c)))
 
+-- where a point has exactly two neighbours, they are different
+pub two_apart : (K : List Edge) (c : ℕ) (centre : Neighbours) → centre ≡ neighbours_of K c → (a b : ℕ) → centre ≡ Two a b → a ≡ b → ⊥
+two_apart K c centre own a b e = (subst (NeighboursAre K c) (sym own ∙ e) (neighbours_exact K c)).apart
+
 -- r's two ends, named in the other order
 pub ends_turned : {K : List Edge} {r x y : ℕ} → DegreeTwo K r x y → DegreeTwo K r y x
 ends_turned d = record { apart = λ e. d.apart (sym e); has_x = d.has_y; has_y = d.has_x; only = λ v h. ⊎_elim inr inl (d.only v h) }
 
 -- what `ends_of` answers are r's two ends
-pub ends_sound : (K : List Edge) (r x y : ℕ) → ends_of K r ≡ Both x y → DegreeTwo K r x y
-unfolding ends_of
+pub ends_sound : (K : List Edge) (r x y : ℕ) → ends_of K r ≡ Some (x, y) → DegreeTwo K r x y
 ends_sound K r x y e = ends_two K r x y (neighbours_of K r) (neighbours_exact K r) e
 
 -- where r has two ends, `ends_of` answers them in one of the two orders
-pub ends_complete : (K : List Edge) (r x y : ℕ) → DegreeTwo K r x y → (ends_of K r ≡ Both x y) ⊎ (ends_of K r ≡ Both y x)
-unfolding ends_of
+pub ends_complete : (K : List Edge) (r x y : ℕ) → DegreeTwo K r x y → (ends_of K r ≡ Some (x, y)) ⊎ (ends_of K r ≡ Some (y, x))
 ends_complete K r x y e = two_ends K r x y (neighbours_of K r) (neighbours_exact K r) e

@@ -8,7 +8,6 @@ use mathlib.Core.Path.{◌≡◌, refl, ap, ap₂, ◌∙◌, subst, subst⁻¹}
 use mathlib.Core.Logic.{inl, inr, by_cases}
 use mathlib.Core.Bool.{true, false}
 use mathlib.Core.List.{List, ◌∷◌}
-use lib.Dec.{lit≤}
 use lib.ListN.{length, get_or, set, length-set, replicate, get_or-replicate}
 use lib.Seq.{get_or-set_same, get_or-set_other}
 use Rattle.lengths.specs.Edge.{Edge, edge, Point}
@@ -80,12 +79,13 @@ edges_of_pair f t m c x y hf ht =
     ∙ ap₂ (λ (e : Edge) (es : List Edge). e ∷ es) (ap₂ edge f₁ t₁) (up₂ ∙ ap₂ (λ (e : Edge) (es : List Edge). e ∷ es) (ap₂ edge f₂ t₂) rest)
 
 -- the set after a pair was taken in
-abbrev pub grown : EdgeSet → ℕ → ℕ → ℕ → EdgeSet
-grown k c x y =
+abbrev pub grown : (k : EdgeSet) → ℕ → ℕ → ℕ → k.count + 2 ≤ most_known → EdgeSet
+grown k c x y h =
     record {
       from = set (set k.from k.count c) (k.count + 1) c;
       to = set (set k.to k.count y) (k.count + 1) x;
       count = k.count + 2;
+      few = h;
     }
 
 -- what holds of the stored points and of two more holds after these are set
@@ -107,42 +107,43 @@ points_pair P f m u v i h old pu pv hi = by_cases (ℕ_discrete i (m + 1)) last 
     other ne = subst⁻¹ P (get_or-set_other (set f m u) (m + 1) i v 0 ne) (by_cases (ℕ_discrete i m) (inner ne) (below ne))
 
 -- it is the set with the pair's two edges
-pub added : (k : EdgeSet) (c x y : ℕ) → Stored k → k.count + 2 ≤ most_known → Added k c x y (grown k c x y)
+pub added : (k : EdgeSet) (c x y : ℕ) → length k.from ≡ known_places → length k.to ≡ known_places → (h : k.count + 2 ≤ most_known)
+    → Added k c x y (grown k c x y h)
 unfolding edge_list with_pair
-added k c x y s h =
+added k c x y f t h =
     record {
-      edges = edges_of_pair k.from k.to k.count c x y (omega (arith, s.from_size)) (omega (arith, s.to_size));
+      edges = edges_of_pair k.from k.to k.count c x y (omega (arith, f)) (omega (arith, t));
       two = refl;
       stored = st;
       held = held';
     }
   where
-    st : Stored (grown k c x y)
+    st : Stored (grown k c x y h)
     st =
         record {
-          from_size = length-set (set k.from k.count c) (k.count + 1) c ∙ length-set k.from k.count c ∙ s.from_size;
-          to_size = length-set (set k.to k.count y) (k.count + 1) x ∙ length-set k.to k.count y ∙ s.to_size;
-          few = omega arith;
+          from_size = length-set (set k.from k.count c) (k.count + 1) c ∙ length-set k.from k.count c ∙ f;
+          to_size = length-set (set k.to k.count y) (k.count + 1) x ∙ length-set k.to k.count y ∙ t;
+          few = h;
         }
 
-    held' : (n : ℕ) → Held n k → Point n c → Point n x → Point n y → Held n (grown k c x y)
+    held' : (n : ℕ) → Held n k → Point n c → Point n x → Point n y → Held n (grown k c x y h)
     held' n old pc px py =
         record {
           stored = st;
           points =
               record {
-                from_point = λ i hi. points_pair (Point n) k.from k.count c c i (omega (arith, s.from_size)) old.points.from_point pc pc hi;
-                to_point = λ i hi. points_pair (Point n) k.to k.count y x i (omega (arith, s.to_size)) old.points.to_point py px hi;
+                from_point = λ i hi. points_pair (Point n) k.from k.count c c i (omega (arith, f)) old.points.from_point pc pc hi;
+                to_point = λ i hi. points_pair (Point n) k.to k.count y x i (omega (arith, t)) old.points.to_point py px hi;
               };
         }
 
 -- the set of one edge
-abbrev pub lone : ℕ → ℕ → EdgeSet
-lone a b = record { from = replicate known_places a; to = replicate known_places b; count = 1 }
+abbrev pub lone : ℕ → ℕ → 1 ≤ most_known → EdgeSet
+lone a b h = record { from = replicate known_places a; to = replicate known_places b; count = 1; few = h }
 
-pub single : (a b : ℕ) → Single a b (lone a b)
+pub single : (a b : ℕ) (h : 1 ≤ most_known) → Single a b (lone a b h)
 unfolding edge_list edges_of
-single a b =
+single a b h =
     record {
       edges = refl;
       one = refl;
@@ -158,8 +159,8 @@ single a b =
           };
     }
   where
-    st : Stored (lone a b)
-    st = record { from_size = refl; to_size = refl; few = lit≤ tt }
+    st : Stored (lone a b h)
+    st = record { from_size = refl; to_size = refl; few = h }
 
 -- every edge of a held set joins points of 1 to n
 edges_held : (n : ℕ) (f t : List ℕ) (m : ℕ) → ((i : ℕ) → i < m → Point n (get_or f i 0)) → ((i : ℕ) → i < m → Point n (get_or t i 0)) → (a b : ℕ)

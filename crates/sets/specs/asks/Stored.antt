@@ -1,13 +1,10 @@
 -- The edges that an EdgeSet stores, last in first, and what its functions keep: arrays of its size, a count that fits,
 -- points of 1 to n. These are the readings that the contracts of src/edge_set.rt cite.
-use Rattle.std.specs.Prelude.{ℕ, zero, suc, ◌+◌, ◌*◌, ◌≤◌, ◌<◌, ◌≡◌, List, [], ◌∷◌, length, get_or}
+use Rattle.std.specs.Prelude.{ℕ, zero, suc, ◌+◌, ◌≤◌, ◌<◌, ◌≡◌, List, [], ◌∷◌, length, get_or}
 use Rattle.lengths.specs.Edge.{Edge, edge, Point}
+pub use Rattle.sets.specs.EdgeSet.{most_known}
 use Rattle.sets.specs.EdgeSet.{with_pair}
 use Rattle.sets.specs.declared.edge_set.EdgeSet.{EdgeSet}
-
--- the most edges that K has: the edge to be struck, and two for each of six splits
-abbrev pub most_known : ℕ
-most_known = 1 + 2 * 6
 
 -- the places of the arrays that hold them
 abbrev pub known_places : ℕ

@@ -1,6 +1,8 @@
 -- One line and the lines of a sheet: the declared answers in terms of the argument layer's verdicts, and what
 -- the functions ask.
-use Rattle.std.specs.Prelude.{ℕ, suc, ◌≤◌, ◌≡◌, List, length}
+use Rattle.std.specs.Prelude.{ℕ, suc, ◌≤◌, ◌≡◌, List, length, Option, Some, None, Result, Ok, Err}
+use Rattle.lengths.specs.Refusal.{refusal_number}
+use Rattle.lengths.specs.declared.refusal.Refused.{Refused}
 use Rattle.argument.specs.Verdict.{Verdict, accepted, refused}
 use Rattle.argument.specs.Line.{Struck, strikes}
 use Rattle.argument.specs.Sheet.{Place, LineStep, over, onward, line_step}
@@ -8,14 +10,11 @@ use Rattle.marks.specs.Mark.{pending_mark}
 use Rattle.sheets.specs.Rules.{marking_between}
 use Rattle.sheets.specs.Sheet.{Readable}
 use Rattle.sheets.specs.asks.Walk.{Tried}
-use Rattle.sheet_lines.specs.declared.line.Judged.{Judged}
-use Rattle.sheet_lines.specs.declared.line.Judged.TheVariants as judged
-use Rattle.sheet_lines.specs.declared.line.Stepped.{Stepped}
-use Rattle.sheet_lines.specs.declared.line.Stepped.TheVariants as stepped
+use Rattle.sheet_lines.specs.declared.line.Strike.{Strike}
 
-abbrev pub judged_of : Judged → Verdict Struck
-judged_of (judged.Strikes a b next high) = accepted (strikes a b next high)
-judged_of (judged.Refused number rec) = refused number rec
+abbrev pub judged_of : Result Strike Refused → Verdict Struck
+judged_of (Ok s) = accepted (strikes s.a s.b s.next s.high)
+judged_of (Err r) = refused (refusal_number r.refusal) r.at
 
 -- what is asked of a line that was entered as record i
 pub record LineAsked (n : ℕ) (out put outrows putrows marks sheet : List ℕ) (count i : ℕ) : Type 0 where
@@ -33,10 +32,10 @@ abbrev pub place_of : List ℕ → (lines last index high : ℕ) → Place (List
 place_of marks lines last index high = record { marks = marks; lines = lines; last = last; index = index; high = high }
 
 -- the declared answer for a line, with the marks that are left, as what a step from p comes to
-abbrev pub stepped_of : Place (List ℕ) → Stepped → List ℕ → Verdict (LineStep (List ℕ))
-stepped_of p stepped.Over left = accepted over
-stepped_of p (stepped.Struck next high) left = accepted (onward (place_of left (suc p.lines) p.index next high))
-stepped_of p (stepped.Refused number rec) left = refused number rec
+abbrev pub stepped_of : Place (List ℕ) → Result (Option Strike) Refused → List ℕ → Verdict (LineStep (List ℕ))
+stepped_of p (Ok None) left = accepted over
+stepped_of p (Ok (Some s)) left = accepted (onward (place_of left (suc p.lines) p.index s.next s.high))
+stepped_of p (Err r) left = refused (refusal_number r.refusal) r.at
 
 -- the marks after a step from p: changed only where a line was accepted
 abbrev pub marks_after : Place (List ℕ) → Verdict (LineStep (List ℕ)) → List ℕ
@@ -45,7 +44,8 @@ marks_after p (accepted (onward q)) = q.marks
 marks_after p (refused number rec) = p.marks
 
 -- what `mark_line` ensures, which writes the mark `mark`, however many lines were accepted before
-pub record SteppedAs (mark n : ℕ) (out put marks sheet : List ℕ) (last index high : ℕ) (r : Stepped) (left : List ℕ) : Type 0 where
+pub record SteppedAs (mark n : ℕ) (out put marks sheet : List ℕ) (last index high : ℕ) (r : Result (Option Strike) Refused) (left : List ℕ)
+    : Type 0 where
   pub answered : (lines : ℕ) → stepped_of (place_of marks lines last index high) r left
       ≡ line_step (marking_between mark n out put) sheet (place_of marks lines last index high)
   pub size : length left ≡ length marks

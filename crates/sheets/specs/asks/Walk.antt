@@ -1,13 +1,13 @@
 -- What the functions of the walk answer and ask, in terms of the walk's own definitions.
-use Rattle.std.specs.Prelude.{ℕ, ◌+◌, ◌*◌, ◌≤◌, ◌≡◌, true, false, List, [], ◌∷◌, length}
+use Rattle.std.specs.Prelude.{ℕ, ◌+◌, ◌*◌, ◌≤◌, ◌≡◌, true, false, List, [], ◌∷◌, length, Option, Some, None, Result, Ok, Err}
 use Rattle.lengths.specs.Edge.{Edge, edge, Point, edge_count}
 use Rattle.lengths.specs.Instance.{least_points}
 use Rattle.lengths.specs.asks.Rows.{Rows}
+use Rattle.lengths.specs.Refusal.{refusal_number}
+use Rattle.lengths.specs.declared.refusal.Refused.{Refused}
 use Rattle.lengths.specs.Table.{Intervals}
 use Rattle.sets.specs.asks.Stored.{Held, most_known}
 use Rattle.sets.specs.declared.edge_set.EdgeSet.{EdgeSet}
-use Rattle.search.specs.declared.pairs.NextPair.{NextPair}
-use Rattle.search.specs.declared.pairs.NextPair.TheVariants.{Pair, End}
 use Rattle.argument.specs.Record.{records, closing_fits}
 use Rattle.argument.specs.Verdict.{Verdict, accepted, refused}
 use Rattle.argument.specs.Rules.{Rules}
@@ -15,20 +15,17 @@ use Rattle.argument.specs.Walk.{ChainStep, ends, takes, Spot}
 use Rattle.sheets.specs.Sheet.{most_records, record_size}
 use Rattle.sheets.specs.asks.Sheet.{closing_of}
 use Rattle.sheets.specs.declared.sheet.Closing.{Closing}
-use Rattle.sheets.specs.declared.walk.Walked.{Walked}
-use Rattle.sheets.specs.declared.walk.Walked.TheVariants as walked
-use Rattle.sheets.specs.declared.walk.Looked.{Looked}
-use Rattle.sheets.specs.declared.walk.Looked.TheVariants as looked
+use Rattle.sheets.specs.declared.sheet.Case.{Case}
 
 -- the declared answers as verdicts: 01's number and values for each case
-abbrev pub walked_of : Walked → Verdict ℕ
-walked_of (walked.Closed high) = accepted high
-walked_of (walked.Refused number rec) = refused number rec
+abbrev pub walked_of : Result ℕ Refused → Verdict ℕ
+walked_of (Ok high) = accepted high
+walked_of (Err r) = refused (refusal_number r.refusal) r.at
 
-abbrev pub looked_of : Looked → Verdict ChainStep
-looked_of looked.ChainEnds = accepted ends
-looked_of (looked.Takes c) = accepted (takes c.a c.b (closing_of c.closing) c.next)
-looked_of (looked.Refused number rec) = refused number rec
+abbrev pub looked_of : Result (Option Case) Refused → Verdict ChainStep
+looked_of (Ok None) = accepted ends
+looked_of (Ok (Some c)) = accepted (takes c.a c.b (closing_of c.closing) c.next)
+looked_of (Err r) = refused (refusal_number r.refusal) r.at
 
 -- rules of which only the number of points is asked
 abbrev pub points_only : ℕ → Rules
@@ -45,11 +42,11 @@ points_only n =
     }
 
 -- a spot of which only the next pair, the index and the two records are asked
-abbrev pub pairs_of : NextPair → List Edge
-pairs_of End = []
-pairs_of (Pair x y) = edge x y ∷ []
+abbrev pub pairs_of : Option (ℕ × ℕ) → List Edge
+pairs_of None = []
+pairs_of (Some (x, y)) = edge x y ∷ []
 
-abbrev pub spot_of : NextPair → (last index high : ℕ) → Spot
+abbrev pub spot_of : Option (ℕ × ℕ) → (last index high : ℕ) → Spot
 spot_of next last index high = record { left = 0; known = []; point = 0; pairs = pairs_of next; last = last; index = index; high = high }
 
 -- the sheet is so many whole records

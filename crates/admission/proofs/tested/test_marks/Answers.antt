@@ -1,19 +1,10 @@
--- `admission::tested::test_marks` meets its contract: each way out has its lemma in `Deciding` or `TestWays`. Assumes
--- nothing.
-use Rattle.admission.proofs.Deciding.{before_refused}
+-- `admission::tested::test_marks` meets its contract: each way out has its lemma in `TestWays`. Assumes nothing.
+use mathlib.Core.Path.{sym, ◌∙◌}
 use Rattle.admission.proofs.TestWays.{marks_refused, marks_passed}
 use Rattle.admission.proofs.tested.test_marks.Goals as goal
 
-pub returns-in-Refused : goal.returns-in-Refused
-returns-in-Refused c = before_refused _ c.in-Refused.is
-
-pub well_packed-requires : goal.well_packed-requires
-well_packed-requires c = c.requires.some _ c.in-Points.is
-
 pub returns-then-not-well_packed : goal.returns-then-not-well_packed
-returns-then-not-well_packed c =
-    marks_refused _ c.in-Points.is (c.requires.some _ c.in-Points.is) c.well_packed.ensures c.if-not-well_packed.true
+returns-then-not-well_packed c = marks_refused _ _ c.requires (sym c.well_packed.ensures ∙ c.if-not-well_packed.true)
 
 pub returns : goal.returns
-returns c =
-    marks_passed _ c.in-Points.is (c.requires.some _ c.in-Points.is) c.well_packed.ensures c.if-not-well_packed.false
+returns c = marks_passed _ _ (sym c.well_packed.ensures ∙ c.if-not-well_packed.false)

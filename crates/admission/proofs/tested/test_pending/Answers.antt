@@ -1,16 +1,11 @@
--- `admission::tested::test_pending` meets its contract: each way out has its lemma in `Deciding` or `TestWays`. Assumes
--- nothing.
-use Rattle.admission.proofs.Deciding.{before_refused}
-use Rattle.admission.proofs.TestWays.{pending_told}
+-- `admission::tested::test_pending` meets its contract: what the set holds beside its marks is 0. Assumes nothing.
+use mathlib.Core.Path.{sym, ◌∙◌}
+use Rattle.marks.specs.Mark.{open_mark}
+use Rattle.marks.proofs.Resolving.{within_held}
 use Rattle.admission.proofs.tested.test_pending.Goals as goal
 
-pub returns-in-Refused : goal.returns-in-Refused
-returns-in-Refused c = before_refused _ c.in-Refused.is
-
 pub returns-then-not-marks_within : goal.returns-then-not-marks_within
-returns-then-not-marks_within c =
-    pending_told _ c.in-Points.is (c.requires.well _ c.in-Points.is) c.marks_within.ensures c.if-not-marks_within.true
+returns-then-not-marks_within c = rw (sym (within_held _ _ c.requires open_mark) ∙ sym c.marks_within.ensures.tested ∙ c.if-not-marks_within.true)
 
 pub returns : goal.returns
-returns c =
-    pending_told _ c.in-Points.is (c.requires.well _ c.in-Points.is) c.marks_within.ensures c.if-not-marks_within.false
+returns c = rw (sym (within_held _ _ c.requires open_mark) ∙ sym c.marks_within.ensures.tested ∙ c.if-not-marks_within.false)

@@ -3,6 +3,7 @@ use mathlib.Core.Path.{◌≡◌, sym, ◌∙◌}
 use mathlib.Core.Bool.{true}
 use native.Mathlib.Omega.{arith}
 use borrow.Author.Tests.{not-true, not-false}
+use Rattle.lengths.proofs.Refusals.{told}
 use Rattle.desks.specs.HandIn.{is_desk}
 use Rattle.desks.proofs.HandInAnswers.{desk_within, desk_asked, hand_in_short, hand_in_nowhere, hand_in_busy, hand_in_refused, hand_in_done}
 use Rattle.desks.proofs.handing.hand_in.Goals as goal
@@ -35,21 +36,14 @@ set_desk-requires c =
     desk_asked _ _ c.if-desks-lt-STATE_BYTES.false
     at_desk
 
-pub returns-in-Refused : goal.returns-in-Refused
-returns-in-Refused c =
+pub returns-in_err-test_sheet : goal.returns-in_err-test_sheet
+returns-in_err-test_sheet c =
     let at_desk : is_desk c.args.desk ≡ true = sym c.is_desk.ensures ∙ not-false _ c.if-not-is_desk.false-raw in
-    hand_in_refused _ _ _ _ _ _ c.if-desks-lt-STATE_BYTES.false
-    at_desk
-    (sym c.has_line.ensures ∙ c.if-has_line.false)
-    c.test_sheet.ensures c.in-Refused.is
+    rw (told c.from_residual.ensures.1)
+    (hand_in_refused _ _ _ _ _ _ c.if-desks-lt-STATE_BYTES.false at_desk (sym c.has_line.ensures ∙ c.if-has_line.false) c.test_sheet.ensures c.in_err-test_sheet.was)
 
-pub returns-in-Done : goal.returns-in-Done
-returns-in-Done c =
+pub returns : goal.returns
+returns c =
     let at_desk : is_desk c.args.desk ≡ true = sym c.is_desk.ensures ∙ not-false _ c.if-not-is_desk.false-raw in
-    hand_in_done _ _ _ _ _ _
-    c.if-desks-lt-STATE_BYTES.false
-    at_desk
-    (sym c.has_line.ensures
-    ∙ c.if-has_line.false)
-    c.test_sheet.ensures c.in-Done.is
-    c.set_desk.ensures
+    hand_in_done _ _ _ _ _ _ c.if-desks-lt-STATE_BYTES.false at_desk (sym c.has_line.ensures ∙ c.if-has_line.false) c.test_sheet.ensures
+    c.in_ok-test_sheet.was c.set_desk.ensures

@@ -6,4 +6,4 @@ pub returns-then-desks-lt-STATE_BYTES : goal.returns-then-desks-lt-STATE_BYTES
 returns-then-desks-lt-STATE_BYTES c = next_short _ c.if-desks-lt-STATE_BYTES.true
 
 pub returns : goal.returns
-returns c = next_told _ c.if-desks-lt-STATE_BYTES.false c.next_of-next.ensures
+returns c = next_told _ c.if-desks-lt-STATE_BYTES.false c.next_of.ensures

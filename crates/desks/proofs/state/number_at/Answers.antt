@@ -4,11 +4,11 @@ use Rattle.desks.proofs.States.{first_bytes, place_inside, number_read}
 use mathlib.Core.Path.{sym}
 use Rattle.desks.proofs.state.number_at.Goals as goal
 
-pub slice_bounds-number16-end : goal.slice_bounds-number16-end
-slice_bounds-number16-end c = sym (first_bytes c.requires)
+pub slice_bounds-number-end : goal.slice_bounds-number-end
+slice_bounds-number-end c = sym (first_bytes c.requires)
 
-pub number16-requires : goal.number16-requires
-number16-requires c = place_inside c.requires
+pub number-requires : goal.number-requires
+number-requires c = place_inside c.requires
 
 pub returns : goal.returns
-returns c = number_read c.requires c.number16.ensures
+returns c = number_read c.requires c.number.ensures

@@ -3,5 +3,5 @@ use Rattle.desks.proofs.States.{desk_set}
 use Rattle.desks.proofs.state.set_desk.Goals as goal
 
 pub returns : goal.returns
-returns c = desk_set c.put16.ensures
-    c.put16-2.ensures c.put16-3.ensures
+returns c = desk_set c.put.ensures
+    c.put-2.ensures c.put-3.ensures

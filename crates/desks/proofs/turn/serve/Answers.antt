@@ -5,4 +5,4 @@ use Rattle.desks.proofs.turn.serve.Goals as goal
 
 pub returns : goal.returns
 returns c = desk_served _ _ _ _ _ _
-    c.number_at-index.ensures c.number_at-owner.ensures c.number_at-lines.ensures c.turn_sheet-served.ensures c.put_back.ensures c.put16.ensures
+    c.number_at-index.ensures c.number_at-owner.ensures c.number_at-lines.ensures c.turn_sheet-served.ensures c.put_back.ensures c.put.ensures

@@ -6,15 +6,10 @@ pub returns-then-desks-lt-STATE_BYTES : goal.returns-then-desks-lt-STATE_BYTES
 returns-then-desks-lt-STATE_BYTES c = turn_short _ _ _ _ _ c.if-desks-lt-STATE_BYTES.true
 
 pub serve-served-requires : goal.serve-served-requires
-serve-served-requires c = turn_serves _ c.if-desks-lt-STATE_BYTES.false
-    c.next_of.ensures c.in-Desk.is
+serve-served-requires c = turn_serves _ c.if-desks-lt-STATE_BYTES.false c.next_of.ensures c.in-Some.is
 
-pub returns-in-NoLine : goal.returns-in-NoLine
-returns-in-NoLine c = turn_none _ _ _ _ _ c.if-desks-lt-STATE_BYTES.false c.next_of.ensures
-    c.in-NoLine.is
+pub returns-in_default : goal.returns-in_default
+returns-in_default c = turn_none _ _ _ _ _ c.if-desks-lt-STATE_BYTES.false c.next_of.ensures c.in_default.is
 
-pub returns-in-Desk : goal.returns-in-Desk
-returns-in-Desk c = turn_served _ _ _ _ _
-    c.if-desks-lt-STATE_BYTES.false
-    c.next_of.ensures
-    c.in-Desk.is c.serve-served.ensures
+pub returns : goal.returns
+returns c = turn_served _ _ _ _ _ c.if-desks-lt-STATE_BYTES.false c.next_of.ensures c.in-Some.is c.serve-served.ensures

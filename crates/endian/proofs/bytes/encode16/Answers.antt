@@ -7,11 +7,11 @@ use Rattle.endian.proofs.bytes.encode16.Goals as goal
 pub loop-i-init : goal.loop-i-init
 loop-i-init c = encoding_start c.requires
 
-pub put16-requires : goal.put16-requires
-put16-requires c = record { inside = omega (arith, c.loop-i.invariant, c.loop-i-test.true) }
+pub put-requires : goal.put-requires
+put-requires c = record { inside = omega (arith, c.loop-i.invariant, c.loop-i-test.true) }
 
 pub loop-i-preserved : goal.loop-i-preserved
-loop-i-preserved c = encoding_on c.loop-i.invariant c.loop-i-test.true refl c.put16.ensures
+loop-i-preserved c = encoding_on c.loop-i.invariant c.loop-i-test.true refl c.put.ensures
 
 pub returns : goal.returns
 returns c = all_encoded c.loop-i.invariant c.loop-i-test.false

@@ -4,9 +4,6 @@ use native.Mathlib.Omega.{arith}
 use Rattle.lengths.proofs.Guesses.{step_small, corrected}
 use Rattle.lengths.proofs.distance.distance.Goals as goal
 
-pub step-requires : goal.step-requires
-step-requires c = record { sum = c.requires; bits = omega (arith, c.is_close.ensures c.if-is_close.true) }
-
 pub overflow_add-result : goal.overflow_add-result
 overflow_add-result c = record { fits = omega (arith, c.is_close.ensures c.if-is_close.true, step_small _ c.step.ensures) }
 

@@ -9,7 +9,7 @@ returns-in-Man2d c = record { at = rw c.in-Man2d.is; bits = search rules }
 
 pub returns-in-Max2d : goal.returns-in-Max2d
 unfolding gap_distance
-returns-in-Max2d c = record { at = rw c.in-Max2d.is c.larger.ensures; bits = search rules }
+returns-in-Max2d c = record { at = rw c.in-Max2d.is c.max.ensures; bits = search rules }
 
 pub returns-in-Rooted : goal.returns-in-Rooted
 unfolding gap_distance

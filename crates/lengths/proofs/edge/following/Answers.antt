@@ -5,5 +5,5 @@ use Rattle.lengths.proofs.edge.following.Goals as goal
 pub returns-then-b-n : goal.returns-then-b-n
 returns-then-b-n c = follows_along c.requires.1 c.if-b-n.true
 
-pub returns : goal.returns
-returns c = follows_down c.requires.1 c.if-b-n.false
+pub returns-else-b-n : goal.returns-else-b-n
+returns-else-b-n c = follows_down c.requires.1 c.if-b-n.false

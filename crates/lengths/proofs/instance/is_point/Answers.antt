@@ -1,9 +1,12 @@
--- `lengths::instance::is_point` meets its contract: each return is a way out of `isPoint`. Assumes nothing.
-use Rattle.lengths.proofs.Instances.{point_zero, point_above}
+-- `lengths::instance::is_point` meets its contract: it is the definition. Assumes nothing.
+use borrow.Author.Tests.{le-leb, lt-leb}
+use Rattle.lengths.specs.Instance.{is_point}
 use Rattle.lengths.proofs.instance.is_point.Goals as goal
 
-pub returns-then-a-lt1 : goal.returns-then-a-lt1
-returns-then-a-lt1 c = point_zero _ _ c.if-a-lt1.true
+pub returns-then-a-ge1 : goal.returns-then-a-ge1
+unfolding is_point
+returns-then-a-ge1 c = rw (is_point, le-leb _ _ c.if-a-ge1.true)
 
-pub returns : goal.returns
-returns c = point_above _ _ c.if-a-lt1.false
+pub returns-else-a-ge1 : goal.returns-else-a-ge1
+unfolding is_point
+returns-else-a-ge1 c = rw (is_point, lt-leb _ _ c.if-a-ge1.false)

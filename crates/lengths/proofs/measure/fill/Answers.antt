@@ -1,7 +1,5 @@
 -- `lengths::measure::fill` meets its contract: `Filling` holds at the loop's head. Assumes nothing.
-use native.Mathlib.Omega.{arith}
-use Rattle.lengths.proofs.Edges.{edges_few}
-use Rattle.lengths.proofs.Filling.{first_row, row_fillable, row_fits, rows_more, all_filled}
+use Rattle.lengths.proofs.Filling.{first_row, row_fillable, rows_more, all_filled}
 use Rattle.lengths.proofs.measure.fill.Goals as goal
 
 pub loop-a-init : goal.loop-a-init
@@ -9,9 +7,6 @@ loop-a-init c = first_row c.requires
 
 pub measure_row-requires : goal.measure_row-requires
 measure_row-requires c = row_fillable c.loop-a.invariant c.loop-a-test.true
-
-pub overflow_add-at : goal.overflow_add-at
-overflow_add-at c = record { fits = omega (arith, row_fits c.loop-a.invariant c.loop-a-test.true, edges_few _ c.loop-a.invariant.asked.few) }
 
 pub loop-a-preserved : goal.loop-a-preserved
 loop-a-preserved c = rows_more c.loop-a.invariant c.loop-a-test.true c.measure_row.ensures

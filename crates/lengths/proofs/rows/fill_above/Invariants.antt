@@ -1,11 +1,7 @@
 -- `lengths::rows::fill_above` meets its contract: `Above` holds at the loop's head. Assumes nothing.
-use Prim.Native.Nat.{◌-◌}
 use Rattle.endian.specs.Bytes.{whole32}
 use Rattle.lengths.proofs.RowFilling.{Above}
 use Rattle.lengths.proofs.rows.fill_above.Given as goal
 
 abbrev pub invariant-loop-i : goal.invariant-loop-i
 invariant-loop-i l = Above l.n (whole32 l.table) l.initial.rows l.at l.v l.rows l.i
-
-abbrev pub decreases-loop-i : goal.decreases-loop-i
-decreases-loop-i l = l.n - l.v - l.i

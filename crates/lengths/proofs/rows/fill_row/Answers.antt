@@ -3,8 +3,5 @@
 use Rattle.lengths.proofs.RowFilling.{row_done}
 use Rattle.lengths.proofs.rows.fill_row.Goals as goal
 
-pub shape_of-rows : goal.shape_of-rows
-shape_of-rows c = (row_done c.requires c.fill_below.ensures c.fill_above.ensures).size
-
 pub returns : goal.returns
 returns c = row_done c.requires c.fill_below.ensures c.fill_above.ensures

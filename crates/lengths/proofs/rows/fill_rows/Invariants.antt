@@ -1,11 +1,7 @@
 -- `lengths::rows::fill_rows` meets its contract: `RowsTo` holds at the loop's head. Assumes nothing.
-use Prim.Native.Nat.{◌+◌, ◌-◌}
 use Rattle.endian.specs.Bytes.{whole32}
 use Rattle.lengths.proofs.RowFilling.{RowsTo}
 use Rattle.lengths.proofs.rows.fill_rows.Given as goal
 
 abbrev pub invariant-loop-v : goal.invariant-loop-v
-invariant-loop-v l = RowsTo l.n (whole32 l.table) l.initial.rows l.rows l.v l.at
-
-abbrev pub decreases-loop-v : goal.decreases-loop-v
-decreases-loop-v l = l.n + 1 - l.v
+invariant-loop-v l = RowsTo l.n (whole32 l.table) l.initial.rows l.rows l.v

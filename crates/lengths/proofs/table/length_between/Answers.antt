@@ -15,9 +15,9 @@ returns-then-a-b c = record { at = sym (length_self _ (whole32 c.args.table.now)
 pub returns : goal.returns
 returns c = record {
   at =
-      c.wide.ensures
-      ∙ c.number32.ensures
+      c.from.ensures
+      ∙ c.number.ensures
       ∙ ap (λ (i : ℕ). get_or (whole32 c.args.table.now) i 0) c.place-at.ensures.at
       ∙ sym (length_apart _ _ _ _ c.if-a-b.false);
-  bits = omega (arith, c.wide.ensures);
+  bits = omega (arith, c.from.ensures);
 }

@@ -1,4 +1,4 @@
--- `marks::converting::is_byte_set` meets its contract. Assumes nothing.
+-- `marks::converting::is_byte_set` meets its contract: it is the definition. Assumes nothing.
 use mathlib.Core.Path.{sym, ◌∙◌}
 use borrow.Author.Tests.{eq-eqb, ne_eqb}
 use Rattle.marks.specs.Converting.{is_byte_set}
@@ -6,8 +6,8 @@ use Rattle.marks.proofs.converting.is_byte_set.Goals as goal
 
 pub returns-then-bytes-count : goal.returns-then-bytes-count
 unfolding is_byte_set
-returns-then-bytes-count c = sym (rw (ne_eqb _ _ (λ e. c.if-bytes-count.true (e ∙ sym c.count.ensures))))
+returns-then-bytes-count c = c.bytes_are_marks.ensures ∙ sym (rw (eq-eqb _ _ (c.if-bytes-count.true ∙ c.count.ensures)))
 
-pub returns : goal.returns
+pub returns-else-bytes-count : goal.returns-else-bytes-count
 unfolding is_byte_set
-returns c = c.bytes_are_marks.ensures ∙ sym (rw (eq-eqb _ _ (c.if-bytes-count.false ∙ c.count.ensures)))
+returns-else-bytes-count c = rw (c.count.ensures, is_byte_set, ne_eqb _ _ (λ e. c.if-bytes-count.false (e ∙ sym c.count.ensures)))

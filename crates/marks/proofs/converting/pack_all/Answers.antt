@@ -2,18 +2,12 @@
 -- Assumes nothing.
 use native.Mathlib.Omega.{arith}
 use Rattle.marks.specs.Packed.{packed_bytes}
-use Rattle.marks.proofs.Packing.{none_filled, one_filled, all_packed}
+use Rattle.marks.proofs.Packing.{all_packed}
 use Rattle.marks.proofs.converting.pack_all.Goals as goal
-
-pub loop-k-init : goal.loop-k-init
-loop-k-init c = none_filled _ _
 
 pub packed_byte-requires : goal.packed_byte-requires
 unfolding packed_bytes
 packed_byte-requires c = let a = c.requires in record { marks = a.marks; inside = omega (arith, a.room, c.loop-k.invariant.kept, c.loop-k-test.true) }
-
-pub loop-k-preserved : goal.loop-k-preserved
-loop-k-preserved c = one_filled c.loop-k.invariant c.loop-k-test.true c.packed_byte.ensures
 
 pub returns : goal.returns
 returns c = all_packed _ c.loop-k.invariant c.requires.room c.loop-k-test.false

@@ -1,13 +1,8 @@
 -- `marks::converting::pack_all` meets its contract: at the loop's head the first k bytes are those of the packed set.
 -- Assumes nothing.
-use Prim.Native.Nat.{◌-◌}
-use lib.ListN.{length}
 use Rattle.marks.specs.asks.Converting.{byte_at}
 use Rattle.marks.proofs.Packing.{Filling}
 use Rattle.marks.proofs.converting.pack_all.Given as goal
 
 abbrev pub invariant-loop-k : goal.invariant-loop-k
 invariant-loop-k l = Filling (byte_at l.bytes) l.initial.set l.set l.k
-
-abbrev pub decreases-loop-k : goal.decreases-loop-k
-decreases-loop-k l = length l.initial.set - l.k

@@ -1,19 +1,9 @@
 -- `marks::converting::unpack_all` meets its contract: at the loop's head the first i marks are those of the set.
 -- Assumes nothing.
 use mathlib.Core.Path.{sym, ◌∙◌}
-use native.Mathlib.Omega.{arith}
 use Rattle.marks.proofs.PackedSets.{quarters_at}
-use Rattle.marks.proofs.Packing.{none_filled, one_filled, all_unpacked}
+use Rattle.marks.proofs.Packing.{one_filled, all_unpacked}
 use Rattle.marks.proofs.converting.unpack_all.Goals as goal
-
-pub loop-i-init : goal.loop-i-init
-loop-i-init c = none_filled _ _
-
-pub bounds-set-i : goal.bounds-set-i
-bounds-set-i c = omega (arith, c.requires, c.loop-i.invariant.kept, c.loop-i-test.true)
-
-pub quarter-requires : goal.quarter-requires
-quarter-requires c = omega arith
 
 pub loop-i-preserved : goal.loop-i-preserved
 loop-i-preserved c = one_filled c.loop-i.invariant c.loop-i-test.true (c.quarter.ensures ∙ sym (quarters_at _ _))

@@ -1,7 +1,6 @@
 -- `marks::fresh::open_all` meets its contract: at the loop's head the first i bytes are those of open edges.
 -- Assumes nothing.
-use Prim.Native.Nat.{◌-◌}
-use lib.ListN.{length, replicate}
+use lib.ListN.{replicate}
 use Rattle.marks.specs.Mark.{open_mark}
 use Rattle.marks.specs.asks.Converting.{byte_at}
 use Rattle.marks.proofs.Packing.{Filling}
@@ -9,6 +8,3 @@ use Rattle.marks.proofs.fresh.open_all.Given as goal
 
 abbrev pub invariant-loop-i : goal.invariant-loop-i
 invariant-loop-i l = Filling (byte_at (replicate l.edges open_mark)) l.initial.set l.set l.i
-
-abbrev pub decreases-loop-i : goal.decreases-loop-i
-decreases-loop-i l = length l.initial.set - l.i

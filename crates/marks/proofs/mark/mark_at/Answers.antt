@@ -1,12 +1,8 @@
 -- `marks::mark::mark_at` meets its contract: the mark stands in its two bits. Assumes nothing.
 use mathlib.Core.Path.{sym, ◌∙◌}
-use native.Mathlib.Omega.{arith}
 use Rattle.marks.specs.Mark.{mark_at}
 use Rattle.marks.proofs.PackedSets.{quarters_at}
 use Rattle.marks.proofs.mark.mark_at.Goals as goal
-
-pub bounds-set-at : goal.bounds-set-at
-bounds-set-at c = omega (arith, c.requires)
 
 pub returns : goal.returns
 unfolding mark_at

@@ -2,9 +2,6 @@
 use Rattle.marks.proofs.PackedMarks.{edge_inside, edge_marked}
 use Rattle.marks.proofs.mark.set_mark.Goals as goal
 
-pub place-requires : goal.place-requires
-place-requires c = c.requires.asked.is-edge
-
 pub set_mark_at-requires : goal.set_mark_at-requires
 set_mark_at-requires c =
     let p = c.requires in

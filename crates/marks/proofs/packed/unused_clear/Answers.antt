@@ -20,9 +20,6 @@ overflow_sub-used c = omega (arith, last_few c.requires, c.count.ensures)
 pub bounds-set-last : goal.bounds-set-last
 bounds-set-last c = last_inside c.requires
 
-pub overflow_cast-result : goal.overflow_cast-result
-overflow_cast-result c = record { fits = omega (arith, c.requires.bytes (length c.args.set.now - 1)) }
-
 pub overflow_mul-result : goal.overflow_mul-result
 overflow_mul-result c = record { fits = omega (arith, used_few c.requires, c.count.ensures) }
 

@@ -5,8 +5,5 @@ use borrow.Author.Tests.{ne_eqb}
 use Rattle.marks.proofs.PackedSets.{quarter_small}
 use Rattle.marks.proofs.pending.resolve_quarter.Goals as goal
 
-pub returns-then-mark-eq-PENDING : goal.returns-then-mark-eq-PENDING
-returns-then-mark-eq-PENDING c = record { resolved = sym (rw (sym c.quarter-mark.ensures, c.if-mark-eq-PENDING.true)); two_bits = c.requires.two_bits }
-
-pub returns : goal.returns
-returns c = record { resolved = c.quarter-mark.ensures ∙ sym (rw (ne_eqb _ _ (λ e. c.if-mark-eq-PENDING.false (c.quarter-mark.ensures ∙ e)))); two_bits = omega (arith, c.quarter-mark.ensures, quarter_small c.args.byte c.args.j) }
+pub returns-else-mark-eq-PENDING : goal.returns-else-mark-eq-PENDING
+returns-else-mark-eq-PENDING c = record { resolved = c.quarter-mark.ensures ∙ sym (rw (ne_eqb _ _ (λ e. c.if-mark-eq-PENDING.false (c.quarter-mark.ensures ∙ e)))); two_bits = omega (arith, c.quarter-mark.ensures, quarter_small c.args.byte c.args.j) }

@@ -1,11 +1,7 @@
 -- `or_opt::degree_two::take_in_points` meets its contract: the invariant is `TakingIn`, that the first i edges are
 -- taken in. Assumes nothing.
-use Prim.Native.Nat.{◌-◌}
 use Rattle.or_opt.proofs.PointLegs.{TakingIn}
 use Rattle.or_opt.proofs.degree_two.take_in_points.Given as goal
 
 abbrev pub invariant-loop-i : goal.invariant-loop-i
-invariant-loop-i l = TakingIn l.n l.out l.put (record { from = l.from; to = l.to; count = l.count }) l.c l.initial.legs l.legs l.i
-
-abbrev pub decreases-loop-i : goal.decreases-loop-i
-decreases-loop-i l = l.count - l.i
+invariant-loop-i l = TakingIn l.rows l.k l.c l.initial.legs l.legs l.i

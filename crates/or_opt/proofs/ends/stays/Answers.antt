@@ -3,12 +3,13 @@ use mathlib.Core.Path.{refl}
 use native.Mathlib.Omega.{arith}
 use Rattle.or_opt.proofs.EndMoves.{onto_from, onto_to, room_u, room_v, room_uv, small_u, small_new, small_old, onto_compared}
 use Rattle.or_opt.proofs.ends.stays.Goals as goal
+use Rattle.or_opt.proofs.ends.stays.Goals.{then-u-w-via-then-u-w, then-u-w-via-else-u-w+then-v-w}
 
 pub returns-then-u-w : goal.returns-then-u-w
-returns-then-u-w c = onto_from c.requires c.if-u-w.true
-
-pub returns-then-v-w : goal.returns-then-v-w
-returns-then-v-w c = onto_to c.requires c.if-u-w.false c.if-v-w.true
+returns-then-u-w c = elim c.then-u-w.branch [
+  | then-u-w-via-then-u-w w ↦ onto_from c.requires w.if-u-w.true
+  | then-u-w-via-else-u-w+then-v-w w ↦ onto_to c.requires w.if-u-w.false w.if-v-w.true
+]
 
 pub length_in-requires : goal.length_in-requires
 length_in-requires c = room_u c.requires c.row_start-at.ensures refl

@@ -2,14 +2,14 @@
 use Rattle.pages.proofs.PageParts.{walk_start, walk_edge, walk_on, walk_done}
 use Rattle.pages.proofs.page.edge_at.Goals as goal
 
-pub loop-i-init : goal.loop-i-init
-loop-i-init c = walk_start c.requires
+pub loop-init : goal.loop-init
+loop-init c = walk_start c.requires
 
-pub following-next-requires : goal.following-next-requires
-following-next-requires c = walk_edge c.requires c.loop-i.invariant c.loop-i-test.true
+pub following-edge-requires : goal.following-edge-requires
+following-edge-requires c = walk_edge c.requires c.loop.invariant c.loop-test.true
 
-pub loop-i-preserved : goal.loop-i-preserved
-loop-i-preserved c = walk_on c.requires c.loop-i.invariant c.loop-i-test.true c.following-next.ensures
+pub loop-preserved : goal.loop-preserved
+loop-preserved c = walk_on c.requires c.loop.invariant c.loop-test.true c.following-edge.ensures
 
 pub returns : goal.returns
-returns c = walk_done c.requires c.loop-i.invariant c.loop-i-test.false
+returns c = walk_done c.requires c.loop.invariant c.loop-test.false

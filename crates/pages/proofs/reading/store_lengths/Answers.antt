@@ -24,12 +24,12 @@ slice_bounds-length_read-end c = omega (arith, c.requires.whole, c.loop-i-test.t
 pub length_read-requires : goal.length_read-requires
 length_read-requires c = stored_line c.requires c.loop-i-test.true
 
-pub put32-requires : goal.put32-requires
-put32-requires c = entry_there c.requires c.loop-i.invariant c.loop-i-test.true
+pub put-requires : goal.put-requires
+put-requires c = entry_there c.requires c.loop-i.invariant c.loop-i-test.true
 
 pub loop-i-preserved : goal.loop-i-preserved
 loop-i-preserved c =
-    lengths_on c.requires c.loop-i.invariant c.loop-i-test.true (c.length_read.ensures ∙ ap length_read (line_part _ _)) c.put32.ensures
+    lengths_on c.requires c.loop-i.invariant c.loop-i-test.true (c.length_read.ensures ∙ ap length_read (line_part _ _)) c.put.ensures
 
 pub shape_of-table : goal.shape_of-table
 shape_of-table c = c.loop-i.invariant.kept

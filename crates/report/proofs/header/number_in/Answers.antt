@@ -5,12 +5,12 @@ use Rattle.report.proofs.Headers.{header_two}
 use Rattle.report.proofs.Reports.{part_length}
 use Rattle.report.proofs.header.number_in.Goals as goal
 
-pub slice_bounds-number32-end : goal.slice_bounds-number32-end
-slice_bounds-number32-end c = part_length header_bytes c.args.file.now c.requires.long
+pub slice_bounds-number-end : goal.slice_bounds-number-end
+slice_bounds-number-end c = part_length header_bytes c.args.file.now c.requires.long
 
-pub number32-requires : goal.number32-requires
-number32-requires c = omega (arith, c.requires.first_two, header_two c.args.file.now c.requires.long)
+pub number-requires : goal.number-requires
+number-requires c = omega (arith, c.requires.first_two, header_two c.args.file.now c.requires.long)
 
 pub returns : goal.returns
 unfolding number_in
-returns c = c.number32.ensures
+returns c = c.number.ensures

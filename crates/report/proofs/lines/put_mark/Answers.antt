@@ -3,11 +3,11 @@
 use Rattle.report.proofs.Striking.{struck_room, struck_wrote, open_wrote}
 use Rattle.report.proofs.lines.put_mark.Goals as goal
 
-pub returns-then-not-opened : goal.returns-then-not-opened
-returns-then-not-opened c = struck_wrote c.args.a c.args.b c.if-not-opened.true c.put_struck.ensures
+pub returns-then-opened : goal.returns-then-opened
+returns-then-opened c = open_wrote c.args.a c.args.b c.if-opened.true
 
-pub returns : goal.returns
-returns c = open_wrote c.args.a c.args.b c.if-not-opened.false
+pub returns-else-opened : goal.returns-else-opened
+returns-else-opened c = struck_wrote c.args.a c.args.b c.if-opened.false c.put_struck.ensures
 
 pub put_struck-requires : goal.put_struck-requires
-put_struck-requires c = struck_room c.args.a c.args.b c.if-not-opened.true c.requires
+put_struck-requires c = struck_room c.args.a c.args.b c.if-opened.false c.requires

@@ -1,12 +1,8 @@
 -- `report::lines::put_strikes` meets its contract: `Striking` holds at the loop's head, over the marks that the packed
 -- set holds. Assumes nothing.
-use Prim.Native.Nat.{◌-◌}
 use Rattle.marks.specs.Packed.{marks_of}
 use Rattle.report.proofs.Striking.{Striking}
 use Rattle.report.proofs.lines.put_strikes.Given as goal
 
 abbrev pub invariant-loop-i : goal.invariant-loop-i
-invariant-loop-i l = Striking l.n (marks_of l.n l.marks) l.initial.out l.at l.out l.a l.b l.i l.next
-
-abbrev pub decreases-loop-i : goal.decreases-loop-i
-decreases-loop-i l = l.edges - l.i
+invariant-loop-i l = Striking l.n (marks_of l.n l.marks) l.initial.out l.at l.out l.edge.low l.edge.high l.i l.next

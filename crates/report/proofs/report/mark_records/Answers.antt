@@ -1,15 +1,19 @@
 -- `report::report::mark_records` meets its contract: fresh marks, and the marking of the records. Assumes nothing.
-use mathlib.Core.Path.{◌≡◌, ◌∙◌}
+use mathlib.Core.Path.{◌≡◌, ◌∙◌, ap}
+use Rattle.std.specs.Prelude.{is_ok}
 use Rattle.endian.specs.Bytes.{whole16, whole32}
 use Rattle.marks.specs.Fresh.{fresh_marks}
 use Rattle.marks.specs.Packed.{packed}
 use Rattle.marks.proofs.FreshMarks.{fresh-set-left}
-use Rattle.report.proofs.Sheets.{marked_size, marked_wrote}
+use Rattle.report.proofs.Sheets.{fresh_done, marked_size, marked_wrote}
 use Rattle.report.proofs.Reports.{lines_asked}
 use Rattle.report.proofs.report.mark_records.Goals as goal
 
-pub put_marked-requires : goal.put_marked-requires
-put_marked-requires c =
+pub unwrap-requires : goal.unwrap-requires
+unwrap-requires c = ap is_ok (c.fresh_marks.ensures.answered ∙ fresh_done c.args.n c.args.marks.now c.requires.range c.requires.marked)
+
+pub put_all-requires : goal.put_all-requires
+put_all-requires c =
     let fresh : c.fresh_marks.new.set ≡ packed (fresh_marks c.args.n) = c.fresh_marks.ensures.set-left ∙ fresh-set-left c.args.n c.args.marks.now c.requires.range c.requires.marked in
     lines_asked c.requires
     (marked_size c.args.n (whole32 c.args.table.now) (whole16 c.args.records.now) c.mark_sheet-verdict.result c.mark_sheet-verdict.new.marks c.mark_sheet-verdict.ensures fresh)
@@ -18,4 +22,4 @@ pub returns : goal.returns
 returns c =
     let fresh : c.fresh_marks.new.set ≡ packed (fresh_marks c.args.n) = c.fresh_marks.ensures.set-left ∙ fresh-set-left c.args.n c.args.marks.now c.requires.range c.requires.marked in
     marked_wrote c.args.n (whole32 c.args.table.now) (whole16 c.args.records.now) c.mark_sheet-verdict.result c.mark_sheet-verdict.new.marks c.mark_sheet-verdict.ensures fresh
-    c.put_marked.ensures
+    c.put_all.ensures

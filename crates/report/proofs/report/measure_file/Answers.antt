@@ -10,14 +10,14 @@ use Rattle.report.proofs.report.measure_file.Goals as goal
 pub mark_records-requires : goal.mark_records-requires
 mark_records-requires c = marking_asked c.requires.instance_asked c.requires.places
 
-pub returns-in-Refused : goal.returns-in-Refused
-returns-in-Refused c =
+pub returns-in-Err : goal.returns-in-Err
+returns-in-Err c =
     wrote_refused c.args.n c.args.rule c.args.file.now c.requires.instance_asked.range
     (coordinates_read c.args.n c.args.file.now) (ap length (coordinates_read c.args.n c.args.file.now) ∙ coordinates_size c.args.n c.args.file.now c.requires.instance_asked.whole)
-    c.requires.places.measured c.measure.ensures c.in-Refused.is c.put_refusal.ensures
+    c.requires.places.measured c.measure.ensures c.in-Err.is c.put_refusal.ensures
 
-pub returns-in-Done : goal.returns-in-Done
-returns-in-Done c =
+pub returns-in-Ok : goal.returns-in-Ok
+returns-in-Ok c =
     wrote_done c.args.n c.args.rule c.args.file.now c.requires.instance_asked.range
     (coordinates_read c.args.n c.args.file.now) (ap length (coordinates_read c.args.n c.args.file.now) ∙ coordinates_size c.args.n c.args.file.now c.requires.instance_asked.whole)
-    c.requires.places.measured c.measure.ensures c.in-Done.is c.mark_records.ensures
+    c.requires.places.measured c.measure.ensures c.in-Ok.is c.mark_records.ensures

@@ -6,10 +6,10 @@ use borrow.Author.Rules.{rules}
 use Rattle.report.proofs.report.report.Goals as goal
 
 pub report_instance-requires : goal.report_instance-requires
-report_instance-requires c = header_asked (sym c.read.ensures ∙ c.in-Read.is) (search rules)
+report_instance-requires c = header_asked (sym c.read.ensures ∙ c.in-Ok.is) (search rules)
 
-pub returns-in-Refused : goal.returns-in-Refused
-returns-in-Refused c = reported c.args.file.now (sym c.read.ensures ∙ c.in-Refused.is) c.put_refusal.ensures
+pub returns-in-Err : goal.returns-in-Err
+returns-in-Err c = reported c.args.file.now (sym c.read.ensures ∙ c.in-Err.is) c.put_refusal.ensures
 
-pub returns-in-Read : goal.returns-in-Read
-returns-in-Read c = reported c.args.file.now (sym c.read.ensures ∙ c.in-Read.is) c.report_instance.ensures
+pub returns-in-Ok : goal.returns-in-Ok
+returns-in-Ok c = reported c.args.file.now (sym c.read.ensures ∙ c.in-Ok.is) c.report_instance.ensures

@@ -1,11 +1,8 @@
 -- `rules::legs::narrow` meets its contract: the invariant is `Narrowing`, that the legs below x have taken in the edge
 -- and the others are as they were. Assumes nothing.
 use native.Mathlib.Omega.{arith}
-use Rattle.rules.proofs.LegLoops.{narrowing_start, narrowing_both, narrowing_one, narrowing_other, narrowing_on, narrowing_end}
+use Rattle.rules.proofs.LegLoops.{narrowing_both, narrowing_one, narrowing_other, narrowing_on, narrowing_end}
 use Rattle.rules.proofs.legs.narrow.Goals as goal
-
-pub loop-x-init : goal.loop-x-init
-loop-x-init c = narrowing_start c.requires
 
 pub overflow_add-leg : goal.overflow_add-leg
 overflow_add-leg c = omega (arith, narrowing_both c.requires c.loop-x.invariant c.loop-x-test.true)

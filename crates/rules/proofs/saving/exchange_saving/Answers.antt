@@ -7,4 +7,4 @@ use Rattle.rules.proofs.saving.exchange_saving.Goals as goal
 pub returns : goal.returns
 returns c =
     kept c.saving.type_inv ∙ exchange_made _ _ _ _ _ _ c.length_of_two-straight.ensures.at c.length_of_two-crossed.ensures.at
-    c.length_of_two.ensures.at c.longer.ensures c.saving.ensures
+    c.length_of_two.ensures.at c.max.ensures c.saving.ensures

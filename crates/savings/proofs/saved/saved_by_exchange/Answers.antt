@@ -1,43 +1,42 @@
--- `savings::saved::saved_by_exchange` meets its contract: each way out has its lemma in `SavedAnswers`. Assumes
--- nothing.
+-- `savings::saved::saved_by_exchange` meets its contract: each way out has its lemma in `SavedAnswers`. Assumes nothing.
 use Prim.Native.Nat.{ℕ}
-use mathlib.Core.Path.{◌≡◌, sym, ◌∙◌}
-use borrow.Author.Tests.{not-true, not-false}
+use mathlib.Core.Path.{sym, ◌∙◌}
+use Rattle.std.proofs.lemmas.Result.{err_from_is_err_and}
 use Rattle.endian.specs.Bytes.{whole32}
 use Rattle.lengths.specs.Table.{length_of}
 use Rattle.lengths.proofs.SignedSavings.{kept}
 use Rattle.lengths.proofs.Tables.{length_small}
 use Rattle.admission.proofs.Passed.{table_passed, table_lengths}
-use Rattle.admission.specs.Tests.{tested_table}
-use Rattle.admission.specs.declared.tested.Tested.TheVariants as tests
 use Rattle.rules.specs.Pair.{exchange_saving}
+use Rattle.rules.specs.PairTest.{every}
 use Rattle.savings.specs.Saved.{exchange_saved}
 use Rattle.savings.proofs.EdgeSpans.{two_spans}
 use Rattle.savings.proofs.SavedAnswers.{refused_tests, refused_edges, tells, exchange_small}
 use Rattle.savings.proofs.saved.saved_by_exchange.Goals as goal
 
-pub returns-in-Refused : goal.returns-in-Refused
+pub returns-in_err-points : goal.returns-in_err-points
 unfolding exchange_saved
-returns-in-Refused c = refused_tests _ _ _ _ (sym c.test_table-tested.ensures ∙ c.in-Refused.is)
+returns-in_err-points c =
+    let p = err_from_is_err_and c.from_residual.result c.from_residual.ensures.1 in
+    rw (p.1, p.2) (refused_tests _ _ _ _ (sym c.test_table.ensures ∙ c.in_err-points.was))
 
-pub returns-then-not-two_edges : goal.returns-then-not-two_edges
-unfolding exchange_saved
-returns-then-not-two_edges c =
-    let told : tested_table c.args.n (whole32 c.args.table.now) ≡ tests.Points c.in-Points.points = sym c.test_table-tested.ensures ∙ c.in-Points.is in
-    refused_edges _ _ _ _ told (sym c.two_edges.ensures ∙ not-true _ c.if-not-two_edges.true-raw)
+pub returns-then-not-all_edges : goal.returns-then-not-all_edges
+unfolding exchange_saved every
+returns-then-not-all_edges c =
+    rw c.from.ensures (refused_edges _ _ _ _ (sym c.test_table.ensures ∙ c.in_ok-points.was) (sym c.all_edges.ensures ∙ c.if-not-all_edges.true))
 
 pub exchange_saving-requires : goal.exchange_saving-requires
+unfolding every
 exchange_saving-requires c =
-    let told : tested_table c.args.n (whole32 c.args.table.now) ≡ tests.Points c.in-Points.points = sym c.test_table-tested.ensures ∙ c.in-Points.is in
-    let s = two_spans (table_lengths (table_passed told)).whole _ _ _ _ (sym c.two_edges.ensures ∙ not-false _ c.if-not-two_edges.false-raw) in (s, s)
+    let lengths = table_lengths (table_passed (sym c.test_table.ensures ∙ c.in_ok-points.was)) in
+    let s = two_spans lengths.whole _ _ _ _ (sym c.all_edges.ensures ∙ c.if-not-all_edges.false) in (s, s)
 
 pub returns : goal.returns
-unfolding exchange_saved
+unfolding exchange_saved every
 returns c =
-    let told : tested_table c.args.n (whole32 c.args.table.now) ≡ tests.Points c.in-Points.points = sym c.test_table-tested.ensures ∙ c.in-Points.is in
     let a = c.args in
-    let m = c.in-Points.points in
-    let l = length_of m (whole32 a.table.now) in
+    let told = sym c.test_table.ensures ∙ c.in_ok-points.was in
+    let l = length_of c.in_ok-points.points (whole32 a.table.now) in
     tells _ _ _ (λ (k : ℕ). exchange_saving (length_of k (whole32 a.table.now)) (length_of k (whole32 a.table.now)) a.p a.q a.x a.y) told
-    (sym c.two_edges.ensures ∙ not-false _ c.if-not-two_edges.false-raw) (kept c.exchange_saving.type_inv ∙ c.exchange_saving.ensures)
+    (sym c.all_edges.ensures ∙ c.if-not-all_edges.false) (kept c.exchange_saving.type_inv ∙ c.exchange_saving.ensures)
     (exchange_small l (length_small (table_lengths (table_passed told))) a.p a.q a.x a.y)

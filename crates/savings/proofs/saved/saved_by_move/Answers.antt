@@ -1,42 +1,42 @@
 -- `savings::saved::saved_by_move` meets its contract: each way out has its lemma in `SavedAnswers`. Assumes nothing.
 use Prim.Native.Nat.{ℕ}
-use mathlib.Core.Path.{◌≡◌, sym, ◌∙◌}
-use borrow.Author.Tests.{not-true, not-false}
+use mathlib.Core.Path.{sym, ◌∙◌}
+use Rattle.std.proofs.lemmas.Result.{err_from_is_err_and}
 use Rattle.endian.specs.Bytes.{whole32}
 use Rattle.lengths.specs.Table.{length_of}
 use Rattle.lengths.proofs.SignedSavings.{kept}
 use Rattle.lengths.proofs.Tables.{length_small}
 use Rattle.admission.proofs.Passed.{table_passed, table_lengths}
-use Rattle.admission.specs.Tests.{tested_table}
-use Rattle.admission.specs.declared.tested.Tested.TheVariants as tests
 use Rattle.rules.specs.Pair.{move_saving}
+use Rattle.rules.specs.PairTest.{every}
 use Rattle.savings.specs.Saved.{move_saved}
 use Rattle.savings.proofs.EdgeSpans.{three_spans}
 use Rattle.savings.proofs.SavedAnswers.{refused_tests, refused_edges, tells, move_small}
 use Rattle.savings.proofs.saved.saved_by_move.Goals as goal
 
-pub returns-in-Refused : goal.returns-in-Refused
+pub returns-in_err-points : goal.returns-in_err-points
 unfolding move_saved
-returns-in-Refused c = refused_tests _ _ _ _ (sym c.test_table-tested.ensures ∙ c.in-Refused.is)
+returns-in_err-points c =
+    let p = err_from_is_err_and c.from_residual.result c.from_residual.ensures.1 in
+    rw (p.1, p.2) (refused_tests _ _ _ _ (sym c.test_table.ensures ∙ c.in_err-points.was))
 
-pub returns-then-not-three_edges : goal.returns-then-not-three_edges
-unfolding move_saved
-returns-then-not-three_edges c =
-    let told : tested_table c.args.n (whole32 c.args.table.now) ≡ tests.Points c.in-Points.points = sym c.test_table-tested.ensures ∙ c.in-Points.is in
-    refused_edges _ _ _ _ told (sym c.three_edges.ensures ∙ not-true _ c.if-not-three_edges.true-raw)
+pub returns-then-not-all_edges : goal.returns-then-not-all_edges
+unfolding move_saved every
+returns-then-not-all_edges c =
+    rw c.from.ensures (refused_edges _ _ _ _ (sym c.test_table.ensures ∙ c.in_ok-points.was) (sym c.all_edges.ensures ∙ c.if-not-all_edges.true))
 
 pub move_saving-requires : goal.move_saving-requires
+unfolding every
 move_saving-requires c =
-    let told : tested_table c.args.n (whole32 c.args.table.now) ≡ tests.Points c.in-Points.points = sym c.test_table-tested.ensures ∙ c.in-Points.is in
-    let s = three_spans (table_lengths (table_passed told)).whole _ _ _ _ _ (sym c.three_edges.ensures ∙ not-false _ c.if-not-three_edges.false-raw) in (s, s)
+    let lengths = table_lengths (table_passed (sym c.test_table.ensures ∙ c.in_ok-points.was)) in
+    let s = three_spans lengths.whole _ _ _ _ _ (sym c.all_edges.ensures ∙ c.if-not-all_edges.false) in (s, s)
 
 pub returns : goal.returns
-unfolding move_saved
+unfolding move_saved every
 returns c =
-    let told : tested_table c.args.n (whole32 c.args.table.now) ≡ tests.Points c.in-Points.points = sym c.test_table-tested.ensures ∙ c.in-Points.is in
     let a = c.args in
-    let m = c.in-Points.points in
-    let l = length_of m (whole32 a.table.now) in
+    let told = sym c.test_table.ensures ∙ c.in_ok-points.was in
+    let l = length_of c.in_ok-points.points (whole32 a.table.now) in
     tells _ _ _ (λ (k : ℕ). move_saving (length_of k (whole32 a.table.now)) (length_of k (whole32 a.table.now)) a.c a.x a.y a.u a.v) told
-    (sym c.three_edges.ensures ∙ not-false _ c.if-not-three_edges.false-raw) (kept c.move_saving.type_inv ∙ c.move_saving.ensures)
+    (sym c.all_edges.ensures ∙ c.if-not-all_edges.false) (kept c.move_saving.type_inv ∙ c.move_saving.ensures)
     (move_small l (length_small (table_lengths (table_passed told))) a.c a.x a.y a.u a.v)

@@ -1,43 +1,42 @@
--- `savings::saved::saved_by_three_opt` meets its contract: each way out has its lemma in `SavedAnswers`. Assumes
--- nothing.
+-- `savings::saved::saved_by_three_opt` meets its contract: each way out has its lemma in `SavedAnswers`. Assumes nothing.
 use Prim.Native.Nat.{ℕ}
-use mathlib.Core.Path.{◌≡◌, sym, ◌∙◌}
-use borrow.Author.Tests.{not-true, not-false}
+use mathlib.Core.Path.{sym, ◌∙◌}
+use Rattle.std.proofs.lemmas.Result.{err_from_is_err_and}
 use Rattle.endian.specs.Bytes.{whole32}
 use Rattle.lengths.specs.Table.{length_of}
 use Rattle.lengths.proofs.SignedSavings.{kept}
 use Rattle.lengths.proofs.Tables.{length_small}
 use Rattle.admission.proofs.Passed.{table_passed, table_lengths}
-use Rattle.admission.specs.Tests.{tested_table}
-use Rattle.admission.specs.declared.tested.Tested.TheVariants as tests
 use Rattle.closings.specs.Closing.{three_opt_saving}
+use Rattle.rules.specs.PairTest.{every}
 use Rattle.savings.specs.Saved.{three_opt_saved}
 use Rattle.savings.proofs.EdgeSpans.{labelled_spans}
 use Rattle.savings.proofs.SavedAnswers.{refused_tests, refused_edges, tells, three_opt_small}
 use Rattle.savings.proofs.saved.saved_by_three_opt.Goals as goal
 
-pub returns-in-Refused : goal.returns-in-Refused
+pub returns-in_err-points : goal.returns-in_err-points
 unfolding three_opt_saved
-returns-in-Refused c = refused_tests _ _ _ _ (sym c.test_table-tested.ensures ∙ c.in-Refused.is)
+returns-in_err-points c =
+    let p = err_from_is_err_and c.from_residual.result c.from_residual.ensures.1 in
+    rw (p.1, p.2) (refused_tests _ _ _ _ (sym c.test_table.ensures ∙ c.in_err-points.was))
 
-pub returns-then-not-three_opt_edges : goal.returns-then-not-three_opt_edges
-unfolding three_opt_saved
-returns-then-not-three_opt_edges c =
-    let told : tested_table c.args.n (whole32 c.args.table.now) ≡ tests.Points c.in-Points.points = sym c.test_table-tested.ensures ∙ c.in-Points.is in
-    refused_edges _ _ _ _ told (sym c.three_opt_edges.ensures ∙ not-true _ c.if-not-three_opt_edges.true-raw)
+pub returns-then-not-all_edges : goal.returns-then-not-all_edges
+unfolding three_opt_saved every
+returns-then-not-all_edges c =
+    rw c.from.ensures (refused_edges _ _ _ _ (sym c.test_table.ensures ∙ c.in_ok-points.was) (sym c.all_edges.ensures ∙ c.if-not-all_edges.true))
 
 pub three_opt_saving-requires : goal.three_opt_saving-requires
+unfolding every
 three_opt_saving-requires c =
-    let told : tested_table c.args.n (whole32 c.args.table.now) ≡ tests.Points c.in-Points.points = sym c.test_table-tested.ensures ∙ c.in-Points.is in
-    let s = labelled_spans (table_lengths (table_passed told)).whole _ _ _ _ _ _ _ _ (sym c.three_opt_edges.ensures ∙ not-false _ c.if-not-three_opt_edges.false-raw) in (s, s)
+    let lengths = table_lengths (table_passed (sym c.test_table.ensures ∙ c.in_ok-points.was)) in
+    let s = labelled_spans lengths.whole _ _ _ _ _ _ _ _ (sym c.all_edges.ensures ∙ c.if-not-all_edges.false) in (s, s)
 
 pub returns : goal.returns
-unfolding three_opt_saved
+unfolding three_opt_saved every
 returns c =
-    let told : tested_table c.args.n (whole32 c.args.table.now) ≡ tests.Points c.in-Points.points = sym c.test_table-tested.ensures ∙ c.in-Points.is in
     let a = c.args in
-    let m = c.in-Points.points in
-    let l = length_of m (whole32 a.table.now) in
+    let told = sym c.test_table.ensures ∙ c.in_ok-points.was in
+    let l = length_of c.in_ok-points.points (whole32 a.table.now) in
     tells _ _ _ (λ (k : ℕ). three_opt_saving (length_of k (whole32 a.table.now)) (length_of k (whole32 a.table.now)) a.p a.q a.r a.s a.x a.y a.z a.w) told
-    (sym c.three_opt_edges.ensures ∙ not-false _ c.if-not-three_opt_edges.false-raw) (kept c.three_opt_saving.type_inv ∙ c.three_opt_saving.ensures)
+    (sym c.all_edges.ensures ∙ c.if-not-all_edges.false) (kept c.three_opt_saving.type_inv ∙ c.three_opt_saving.ensures)
     (three_opt_small l (length_small (table_lengths (table_passed told))) a.p a.q a.r a.s a.x a.y a.z a.w)

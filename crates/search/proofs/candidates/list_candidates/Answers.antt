@@ -1,5 +1,7 @@
 -- `search::candidates::list_candidates` meets its contract: the loop's invariant is `Ranked`, of the two lists with
 -- what the next step writes to them. Assumes nothing.
+use Prim.Native.Nat.{◌+◌}
+use mathlib.Core.Path.{◌≡◌}
 use lib.Dec.{eqb}
 use lib.ListN.{get_or}
 use native.Mathlib.Omega.{arith}
@@ -16,7 +18,9 @@ overflow_add-count c =
     omega (arith, c.loop-x.invariant.fewer, c.loop-x.invariant.high)
 
 pub loop-x-preserved : goal.loop-x-preserved
-loop-x-preserved c = ranked_on c.loop-x.invariant c.loop-x-test.true c.one_if_candidate-count.ensures
+loop-x-preserved c = ranked_on c.loop-x.invariant (omega (arith, c.loop-x-test.true)) c.one_if_candidate-count.ensures
 
 pub returns : goal.returns
-returns c = ranked_end c.loop-x.invariant c.loop-x-test.false
+returns c =
+    let e : c.loop-x.x ≡ c.args.n + 1 = omega (arith, c.loop-x.invariant.high, c.loop-x-test.false) in
+    rw e at (ranked_end c.loop-x.invariant (omega (arith, c.loop-x-test.false)))

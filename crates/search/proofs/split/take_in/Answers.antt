@@ -3,12 +3,13 @@
 use mathlib.Core.Logic.{inl, inr}
 use Rattle.search.proofs.Preparing.{taken_touching, take_asks, take_short, take_narrow, taken_in}
 use Rattle.search.proofs.split.take_in.Goals as goal
+use Rattle.search.proofs.split.take_in.Goals.{then-u-c-via-then-u-c, then-u-c-via-else-u-c+then-v-c}
 
 pub returns-then-u-c : goal.returns-then-u-c
-returns-then-u-c c = taken_touching c.requires (inl c.if-u-c.true)
-
-pub returns-then-v-c : goal.returns-then-v-c
-returns-then-v-c c = taken_touching c.requires (inr c.if-v-c.true)
+returns-then-u-c c = taken_touching c.requires (elim c.then-u-c.branch [
+  | then-u-c-via-then-u-c w ↦ inl w.if-u-c.true
+  | then-u-c-via-else-u-c+then-v-c w ↦ inr w.if-v-c.true
+])
 
 pub triangle_of-t-requires : goal.triangle_of-t-requires
 triangle_of-t-requires c = take_asks c.requires

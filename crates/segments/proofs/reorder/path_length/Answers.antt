@@ -1,19 +1,12 @@
 -- `segments::reorder::path_length` meets its contract. The invariant: the sum so far and the path from here on are the
--- whole path; the measure is how many places are left. Assumes nothing.
-use borrow.Author.Rules.{rules}
+-- whole path. Assumes nothing.
 use Rattle.segments.proofs.PointLists.{walked_on, walked_all}
 use Rattle.segments.proofs.reorder.path_length.Goals as goal
 
-pub length_between-sum-requires : goal.length_between-sum-requires
-length_between-sum-requires c =
-    record { first = search rules; second = c.requires.listed.point _ c.loop-i-test.true; whole = search rules }
-
-pub loop-i-preserved : goal.loop-i-preserved
-loop-i-preserved c =
-    walked_on _ c.loop-i.invariant c.requires.listed c.loop-i-test.true
+pub loop-next-preserved : goal.loop-next-preserved
+loop-next-preserved c =
+    walked_on c.loop-next.invariant _ c.requires.listed c.loop-next-test.true
     c.length_between-sum.ensures.at c.length_between-sum.ensures.bits
 
 pub returns : goal.returns
-returns c =
-    walked_all _ c.loop-i.invariant c.requires.listed c.loop-i-test.false
-    c.length_between.ensures.at
+returns c = walked_all c.loop-next.invariant _ c.loop-next-test.false c.length_between.ensures.at

@@ -1,23 +1,30 @@
--- `sets::beyond::look_beyond` meets its contract: the invariant is `Gathering`, that the first i edges are looked at.
+-- `sets::beyond::look_beyond` meets its contract. The invariant: `met` is what v has in the first i edges.
 -- Assumes nothing.
-use Rattle.sets.proofs.BeyondNumbers.{gather_start, gather_on, gather_fork, gather_end}
+use Prim.Native.Nat.{◌+◌}
+use native.Mathlib.Omega.{arith}
+use mathlib.Core.Path.{◌≡◌, refl, sym, ◌∙◌}
+use borrow.Author.Rules.{rules}
+use Rattle.sets.specs.Neighbours.{neighbours_of}
+use Rattle.sets.specs.asks.Stored.{edges_of, edge_list}
+use Rattle.sets.specs.declared.neighbours.PathStep.TheVariants.{Fork}
+use Rattle.sets.proofs.Laws.Beyond.{gather_on, fork_stays}
 use Rattle.sets.proofs.beyond.look_beyond.Goals as goal
 
 pub loop-i-init : goal.loop-i-init
-loop-i-init c = gather_start _ _ c.requires
-
-pub pass-met-requires : goal.pass-met-requires
-pass-met-requires c =
-    let p = c.requires in
-    let i = c.loop-i.i in
-    let more = c.loop-i-test.true in
-    record { from = p.from_named i more; to = p.to_named i more }
-
-pub returns-then-met : goal.returns-then-met
-returns-then-met c = gather_fork (gather_on c.loop-i.invariant c.loop-i-test.true c.pass-met.ensures) c.if-met.true
+unfolding neighbours_of edges_of
+loop-i-init c = refl
 
 pub loop-i-preserved : goal.loop-i-preserved
-loop-i-preserved c = gather_on c.loop-i.invariant c.loop-i-test.true c.pass-met.ensures
+loop-i-preserved c = let k = c.args.k in c.pass-met.ensures ∙ gather_on k.from k.to c.args.v c.args.c c.loop-i.i c.loop-i.invariant
+
+pub returns-then-eq : goal.returns-then-eq
+unfolding edge_list
+returns-then-eq c =
+    let k = c.args.k in
+    let f : c.pass-met.result ≡ Fork = search rules in
+    let on = c.pass-met.ensures ∙ gather_on k.from k.to c.args.v c.args.c c.loop-i.i c.loop-i.invariant in
+    f ∙ sym (fork_stays k.from k.to c.args.v c.args.c (c.loop-i.i + 1) k.count (omega (arith, c.loop-i-test.true)) (sym on ∙ f))
 
 pub returns : goal.returns
-returns c = gather_end c.loop-i.invariant c.loop-i-test.false
+unfolding edge_list
+returns c = let e : c.loop-i.i ≡ c.args.k.count = omega arith in c.loop-i.invariant ∙ rw e

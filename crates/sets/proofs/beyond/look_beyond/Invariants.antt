@@ -1,11 +1,9 @@
--- `sets::beyond::look_beyond` meets its contract: the invariant is `Gathering`, that the first i edges are looked at.
+-- `sets::beyond::look_beyond` meets its contract. The invariant: `met` is what v has in the first i edges.
 -- Assumes nothing.
-use Prim.Native.Nat.{◌-◌}
-use Rattle.sets.proofs.BeyondNumbers.{Gathering}
+use mathlib.Core.Path.{◌≡◌}
+use Rattle.sets.specs.Neighbours.{neighbours_of, beyond}
+use Rattle.sets.specs.asks.Stored.{edges_of}
 use Rattle.sets.proofs.beyond.look_beyond.Given as goal
 
 abbrev pub invariant-loop-i : goal.invariant-loop-i
-invariant-loop-i l = Gathering l.k.from l.k.to l.count l.v l.c l.met l.i
-
-abbrev pub decreases-loop-i : goal.decreases-loop-i
-decreases-loop-i l = l.count - l.i
+invariant-loop-i l = l.met ≡ beyond (neighbours_of (edges_of l.k.from l.k.to l.i) l.v) l.c

@@ -1,23 +1,30 @@
 -- `sheet_lines::line::mark_line` meets its contract: each return is a way out of `line_step`, and only the one that
 -- strikes changes a mark. Assumes nothing.
-use Rattle.sheets.proofs.Looking.{above_all, not_above, entered}
-use Rattle.sheet_lines.proofs.Lining.{mark_over, mark_above, mark_low, mark_marked, mark_strikes, mark_stops}
+use mathlib.Core.Path.{sym, ◌∙◌}
+use Rattle.lengths.proofs.Refusals.{told}
+use Rattle.sheets.proofs.Records.{index_entered}
+use Rattle.sheet_lines.proofs.Lining.{mark_over, mark_untested, mark_marked, mark_strikes, mark_stops, line_asked}
 use Rattle.sheet_lines.proofs.line.mark_line.Goals as goal
 
 pub returns-then-index-eq0 : goal.returns-then-index-eq0
 returns-then-index-eq0 c = mark_over _ _ _ _ _ _ _ _ _ c.if-index-eq0.true
 
-pub returns-then-count-index : goal.returns-then-count-index
-returns-then-count-index c = mark_above _ _ _ _ _ _ _ _ _ (above_all c.requires.tried.admitted.whole c.if-count-index.true)
+pub returns-in_err-test_index : goal.returns-in_err-test_index
+returns-in_err-test_index c =
+    rw (told c.from_residual.ensures.1) (mark_untested _ _ _ _ _ _ _ _ _ c.requires.tried.admitted.whole c.if-index-eq0.false (sym c.test_index.ensures ∙ c.in_err-test_index.was))
 
-pub returns-then-index-high : goal.returns-then-index-high
-returns-then-index-high c = mark_low _ _ _ _ _ _ _ _ _ c.if-index-eq0.false (not_above c.requires.tried.admitted.whole c.if-count-index.false) c.if-index-high.true
+pub judge-requires : goal.judge-requires
+judge-requires c =
+    line_asked c.requires (index_entered c.requires.tried.admitted.whole _ _ _ (sym c.test_index.ensures ∙ c.in_ok-test_index.was))
+
+pub returns-in_err-strike : goal.returns-in_err-strike
+returns-in_err-strike c =
+    rw (told c.from_residual-in_err-strike.ensures.1)
+    (mark_stops _ _ _ _ _ _ _ _ _ (index_entered c.requires.tried.admitted.whole _ _ _ (sym c.test_index.ensures ∙ c.in_ok-test_index.was)) c.judge.ensures c.in_err-strike.was)
 
 pub set_mark-requires : goal.set_mark-requires
-set_mark-requires c = mark_marked c.requires _ c.judge.ensures c.in-Strikes.is
+set_mark-requires c = mark_marked c.requires _ c.judge.ensures c.in_ok-strike.was
 
-pub returns-in-Strikes : goal.returns-in-Strikes
-returns-in-Strikes c = mark_strikes _ _ _ _ _ _ _ _ _ (entered c.requires.tried.admitted.whole c.if-count-index.false c.if-index-high.false) c.judge.ensures c.in-Strikes.is c.set_mark.ensures
-
-pub returns-in-Refused : goal.returns-in-Refused
-returns-in-Refused c = mark_stops _ _ _ _ _ _ _ _ _ (entered c.requires.tried.admitted.whole c.if-count-index.false c.if-index-high.false) c.judge.ensures c.in-Refused.is
+pub returns : goal.returns
+returns c =
+    mark_strikes _ _ _ _ _ _ _ _ _ (index_entered c.requires.tried.admitted.whole _ _ _ (sym c.test_index.ensures ∙ c.in_ok-test_index.was)) c.judge.ensures c.in_ok-strike.was c.set_mark.ensures

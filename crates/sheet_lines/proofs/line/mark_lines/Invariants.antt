@@ -9,9 +9,9 @@ use Rattle.marks.specs.Packed.{marks_of}
 use Rattle.sheet_lines.proofs.Lining.{Proceeding}
 use Rattle.sheet_lines.proofs.line.mark_lines.Given as goal
 
-abbrev pub invariant-loop-number : goal.invariant-loop-number
-invariant-loop-number l =
-    Proceeding l.mark l.n (whole32 l.out) (whole32 l.put) l.outrows l.putrows (marks_of l.n l.initial.marks) (whole16 l.sheet) l.count (marks_of l.n l.marks) l.lines l.last l.index l.high × (length l.marks ≡ length l.initial.marks)
+abbrev pub invariant-loop-strike : goal.invariant-loop-strike
+invariant-loop-strike l =
+    Proceeding l.mark l.board.tables.n (whole32 l.board.tables.out.now) (whole32 l.board.tables.put.now) l.board.rows.out.now l.board.rows.put.now (marks_of l.board.tables.n l.initial.marks) (whole16 l.board.sheet.now) l.board.count (marks_of l.board.tables.n l.marks) l.lines l.last l.index l.high × (length l.marks ≡ length l.initial.marks)
 
-abbrev pub decreases-loop-number : goal.decreases-loop-number
-decreases-loop-number l = records (whole16 l.sheet) - l.high
+abbrev pub decreases-loop-strike : goal.decreases-loop-strike
+decreases-loop-strike l = records (whole16 l.board.sheet.now) - l.high

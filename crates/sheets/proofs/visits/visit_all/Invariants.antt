@@ -6,8 +6,8 @@ use Rattle.argument.specs.Record.{records}
 use Rattle.sheets.proofs.Visiting.{Visiting}
 use Rattle.sheets.proofs.visits.visit_all.Given as goal
 
-abbrev pub invariant-loop-number : goal.invariant-loop-number
-invariant-loop-number l = Visiting l.n (whole16 l.sheet) l.i l.first l.order l.high l.index
+abbrev pub invariant-loop-visit : goal.invariant-loop-visit
+invariant-loop-visit l = Visiting l.board.tables.n (whole16 l.board.sheet.now) l.i l.first l.order l.high l.index
 
-abbrev pub decreases-loop-number : goal.decreases-loop-number
-decreases-loop-number l = records (whole16 l.sheet) - l.high
+abbrev pub decreases-loop-visit : goal.decreases-loop-visit
+decreases-loop-visit l = records (whole16 l.board.sheet.now) - l.high

@@ -10,5 +10,5 @@ write_numbers-requires c = room_same c.args.skip (sym (line_numbers_some c.args.
 pub returns-in-Some : goal.returns-in-Some
 returns-in-Some c = wrote_same c.args.skip (line_numbers_some c.args.line.now (sym c.numbers_of.ensures ∙ c.in-Some.is)) c.write_numbers.ensures
 
-pub returns-in-Nothing : goal.returns-in-Nothing
-returns-in-Nothing c = wrote_nothing_of _ _ c.args.skip (line_numbers_none c.args.line.now (sym c.numbers_of.ensures ∙ c.in-Nothing.is))
+pub returns-in-None : goal.returns-in-None
+returns-in-None c = wrote_nothing_of _ _ c.args.skip (line_numbers_none c.args.line.now (sym c.numbers_of.ensures ∙ c.in-None.is))

@@ -1,12 +1,9 @@
 -- `tsplib::gathering::write_number` meets its contract. Assumes nothing.
-use Rattle.tsplib.proofs.Entries.{left_out, entry_room, put_in}
+use Rattle.tsplib.proofs.Entries.{left_out, put_in}
 use Rattle.tsplib.proofs.gathering.write_number.Goals as goal
 
 pub returns-then-spot-gt0 : goal.returns-then-spot-gt0
 returns-then-spot-gt0 c = left_out _ _ _ c.if-spot-gt0.true
 
-pub put32-requires : goal.put32-requires
-put32-requires c = entry_room _ _ _ c.if-spot-gt0.false c.requires
-
 pub returns : goal.returns
-returns c = put_in _ _ _ c.if-spot-gt0.false c.requires c.put32.ensures
+returns c = put_in _ _ _ c.if-spot-gt0.false c.requires c.put.ensures

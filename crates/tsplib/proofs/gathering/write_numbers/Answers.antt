@@ -1,22 +1,18 @@
 -- `tsplib::gathering::write_numbers` meets its contract: `Writing` holds at the loop's head. Assumes nothing.
-use mathlib.Core.Path.{◌∙◌}
 use Rattle.tsplib.proofs.NumbersGathered.{writing_start, ended_room, writing_on, begun_room, writing_done}
 use Rattle.tsplib.proofs.gathering.write_numbers.Goals as goal
 
-pub loop-i-init : goal.loop-i-init
-loop-i-init c = writing_start _ _ _ _
+pub loop-b-init : goal.loop-b-init
+loop-b-init c = writing_start _ _ _ _
 
 pub write_ended-spot-requires : goal.write_ended-spot-requires
-write_ended-spot-requires c = ended_room c.loop-i.invariant c.loop-i-test.true c.requires
+write_ended-spot-requires c = ended_room c.loop-b.invariant c.loop-b-test.true c.requires
 
-pub loop-i-preserved : goal.loop-i-preserved
-loop-i-preserved c = writing_on c.loop-i.invariant c.loop-i-test.true c.write_ended-spot.ensures c.place_behind-place.ensures
+pub loop-b-preserved : goal.loop-b-preserved
+loop-b-preserved c = writing_on c.loop-b.invariant c.loop-b-test.true c.write_ended-spot.ensures c.begun_behind-begun.ensures
 
-pub write_begun-last-requires : goal.write_begun-last-requires
-write_begun-last-requires c = begun_room c.loop-i.invariant c.loop-i-test.false c.requires
-
-pub shape_of-out : goal.shape_of-out
-shape_of-out c = c.write_begun-last.ensures.wrote.wrote.kept ∙ c.loop-i.invariant.wrote.wrote.kept
+pub write_begun-requires : goal.write_begun-requires
+write_begun-requires c = begun_room c.loop-b.invariant c.loop-b-test.false c.requires
 
 pub returns : goal.returns
-returns c = writing_done c.loop-i.invariant c.loop-i-test.false c.write_begun-last.ensures
+returns c = writing_done c.loop-b.invariant c.loop-b-test.false c.write_begun.ensures

@@ -1,53 +1,37 @@
 -- `tsplib::judging::judge` meets its contract: `Judging` holds at the loop's head. Assumes nothing.
 use mathlib.Core.Path.{sym, ◌∙◌, ap}
 use Prim.Native.Nat.{max}
-use native.Mathlib.Omega.{arith}
+use Rattle.std.specs.Prelude.{Result, Err}
+use Rattle.std.proofs.lemmas.Result.{err_from_is_err_and}
+use Rattle.tsplib_lines.specs.Words.{newline}
+use Rattle.tsplib_lines.proofs.LineReading.{part_end}
+use Rattle.tsplib_lines.proofs.SoleWords.{found_at}
 use Rattle.tsplib.specs.State.{step_of}
 use Rattle.tsplib.specs.Judging.{maximum_of}
-use Rattle.tsplib.proofs.Judgement.{judging_start, judging_on, judging_fault, judging_unfinished, judging_ends}
+use Rattle.tsplib.specs.declared.judging.Described.{Described}
+use Rattle.tsplib.specs.declared.judging.Fault.{Fault}
+use Rattle.tsplib.proofs.Judgement.{judging_start, judging_on, judging_fault, judging_ends, step_none, step_some}
 use Rattle.tsplib.proofs.judging.judge.Goals as goal
 
-pub loop-at-init : goal.loop-at-init
-loop-at-init c = judging_start _
+pub loop-end-init : goal.loop-end-init
+loop-end-init c = judging_start _
 
-pub find-end-requires : goal.find-end-requires
-find-end-requires c = c.loop-at.invariant.inside
+pub returns-in_err-state : goal.returns-in_err-state
+returns-in_err-state c =
+    let p = err_from_is_err_and c.from_residual.result c.from_residual.ensures.1 in
+    let s = step_none c.step.result (sym c.ok_or.ensures.value ∙ c.in_err-state.was) in
+    let f = found_at newline c.loop-end.rest.now (sym c.find.ensures ∙ c.in-Some.is) in
+    p.1
+    ∙ ap {B = Result Described Fault} Err (p.2 ∙ s.1)
+    ∙ judging_fault c.loop-end.invariant f (ap (step_of _) (sym c.read_line-line.ensures) ∙ sym c.step.ensures ∙ s.0)
 
-pub overflow_add-result : goal.overflow_add-result
-overflow_add-result c = omega (arith, c.loop-at.invariant.few, c.loop-at.invariant.inside)
-
-pub returns-then-end-text : goal.returns-then-end-text
-returns-then-end-text c = judging_unfinished c.loop-at.invariant c.find-end.ensures c.loop-at-test.true c.if-end-text.true
-
-pub slice_bounds-read_line-count : goal.slice_bounds-read_line-count
-slice_bounds-read_line-count c = c.find-end.ensures.low
-
-pub slice_bounds-read_line-start : goal.slice_bounds-read_line-start
-slice_bounds-read_line-start c = omega (arith, c.find-end.ensures.low, c.find-end.ensures.high)
-
-pub slice_bounds-read_line-end : goal.slice_bounds-read_line-end
-slice_bounds-read_line-end c = omega (arith, c.find-end.ensures.low, c.find-end.ensures.high)
-
-pub overflow_add-result-in_default : goal.overflow_add-result-in_default
-overflow_add-result-in_default c = omega (arith, c.loop-at.invariant.few, c.loop-at.invariant.inside)
-
-pub returns-in_default : goal.returns-in_default
-returns-in_default c = judging_fault c.loop-at.invariant c.find-end.ensures c.if-end-text.false (ap (step_of _) (sym c.read_line-line.ensures) ∙ sym c.step.ensures ∙ c.in_default.is)
-
-pub overflow_add-at : goal.overflow_add-at
-overflow_add-at c = omega (arith, c.find-end.ensures.high)
-
-pub overflow_add-passed : goal.overflow_add-passed
-overflow_add-passed c = omega (arith, c.loop-at.invariant.few, c.loop-at.invariant.inside)
-
-pub loop-at-smaller : goal.loop-at-smaller
-loop-at-smaller c = omega (arith, c.find-end.ensures.low, c.loop-at-test.true)
-
-pub loop-at-preserved : goal.loop-at-preserved
-loop-at-preserved c = judging_on c.loop-at.invariant c.find-end.ensures c.if-end-text.false (ap (step_of _) (sym c.read_line-line.ensures) ∙ sym c.step.ensures ∙ c.in-To.is) (c.larger-maximum.ensures ∙ ap (max _) (c.maximum_of.ensures ∙ ap maximum_of c.read_line-line.ensures))
-
-pub judge_end-requires : goal.judge_end-requires
-judge_end-requires c = omega (arith, c.loop-at.invariant.few, c.loop-at.invariant.inside)
+pub loop-end-preserved : goal.loop-end-preserved
+loop-end-preserved c =
+    let s = step_some c.step.result _ (sym c.ok_or.ensures.value ∙ c.in_ok-state.was) in
+    let f = found_at newline c.loop-end.rest.now (sym c.find.ensures ∙ c.in-Some.is) in
+    rw part_end
+    (judging_on c.loop-end.invariant f (ap (step_of _) (sym c.read_line-line.ensures) ∙ sym c.step.ensures ∙ s)
+    (c.max-maximum.ensures ∙ ap (max _) (c.maximum_of.ensures ∙ ap maximum_of c.read_line-line.ensures)))
 
 pub returns : goal.returns
-returns c = judging_ends c.loop-at.invariant c.loop-at-test.false c.judge_end.ensures
+returns c = judging_ends c.loop-end.invariant (sym c.find.ensures ∙ c.in_default.is) c.judge_end.ensures

@@ -1,11 +1,10 @@
 -- `tsplib::judging::judge` meets its contract: `Judging` holds at the loop's head. Assumes nothing.
-use Prim.Native.Nat.{◌-◌}
 use lib.ListN.{length}
 use Rattle.tsplib.proofs.Judgement.{Judging}
 use Rattle.tsplib.proofs.judging.judge.Given as goal
 
-abbrev pub invariant-loop-at : goal.invariant-loop-at
-invariant-loop-at l = Judging l.text l.state l.at l.passed l.maximum
+abbrev pub invariant-loop-end : goal.invariant-loop-end
+invariant-loop-end l = Judging l.fn.text l.state l.passed l.maximum l.rest
 
-abbrev pub decreases-loop-at : goal.decreases-loop-at
-decreases-loop-at l = length l.text - l.at
+abbrev pub decreases-loop-end : goal.decreases-loop-end
+decreases-loop-end l = length l.rest

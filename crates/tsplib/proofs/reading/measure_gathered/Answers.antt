@@ -1,12 +1,9 @@
 -- `tsplib::reading::measure_gathered` meets its contract. Assumes nothing.
-use Rattle.tsplib.proofs.TextsRead.{measured_done, measured_refused, buffer_room, buffer_holds}
+use Rattle.tsplib.proofs.TextsRead.{measured_done, measured_refused, buffer_holds}
 use Rattle.tsplib.proofs.reading.measure_gathered.Goals as goal
 
-pub gather-requires : goal.gather-requires
-gather-requires c = buffer_room _ c.requires
+pub returns-in-Ok : goal.returns-in-Ok
+returns-in-Ok c = measured_done _ _ c.requires.coordinates (buffer_holds _ c.requires c.gather.ensures) c.measure.ensures c.in-Ok.is
 
-pub returns-in-Done : goal.returns-in-Done
-returns-in-Done c = measured_done _ _ c.requires.coordinates (buffer_holds _ c.requires c.gather.ensures) c.measure.ensures c.in-Done.is
-
-pub returns-in-Refused : goal.returns-in-Refused
-returns-in-Refused c = measured_refused _ _ c.requires.coordinates (buffer_holds _ c.requires c.gather.ensures) c.measure.ensures c.in-Refused.is
+pub returns-in-Err : goal.returns-in-Err
+returns-in-Err c = rw c.from.ensures (measured_refused _ _ c.requires.coordinates (buffer_holds _ c.requires c.gather.ensures) c.measure.ensures c.in-Err.is)

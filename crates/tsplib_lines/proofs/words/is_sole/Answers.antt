@@ -1,18 +1,27 @@
--- `tsplib_lines::words::is_sole` meets its contract: `Matching` holds at the loop's head. Assumes nothing.
-use Rattle.tsplib_lines.proofs.SoleWords.{match_start, match_short, match_not, match_on, match_end}
+-- `tsplib_lines::words::is_sole` meets its contract: behind the blanks stands the word, and then blanks. Assumes nothing.
+use mathlib.Core.Path.{◌≡◌, sym, ◌∙◌, ap}
+use mathlib.Core.List.{List, ◌++◌}
+use lib.ListN.{length}
+use lib.Dec.{eqb}
+use Prim.Native.Nat.{ℕ}
+use Rattle.std.proofs.lemmas.Bool.Decides.{Decides-eqb}
+use Rattle.std.proofs.lemmas.Option.{MatchOption-at_some, MatchOption-at_none}
+use Rattle.std.proofs.lemmas.Slice.Eq.{strip_prefix_is}
+use Rattle.tsplib_lines.proofs.SoleWords.{sole_some, sole_none}
 use Rattle.tsplib_lines.proofs.words.is_sole.Goals as goal
 
-pub loop-i-init : goal.loop-i-init
-loop-i-init c = match_start c.after_blanks-at.ensures
+pub returns-in-Some : goal.returns-in-Some
+returns-in-Some c =
+    let s = c.past_blanks.result.now in
+    let k = strip_prefix_is Decides-eqb s c.args.word.now c.strip_prefix.result c.strip_prefix.ensures.cases in
+    let e : s ≡ c.args.word.now ++ c.in-Some.rest.now = MatchOption-at_some _ (λ x. s ≡ c.args.word.now ++ x.now) c.in-Some.rest c.in-Some.is k in
+    c.is_empty.ensures
+    ∙ ap (λ (t : List ℕ). eqb (length t) 0) c.past_blanks-in-Some.ensures
+    ∙ sole_some c.args.word.now c.args.text.now c.in-Some.rest.now (sym c.past_blanks.ensures ∙ e)
 
-pub returns-then-text-at : goal.returns-then-text-at
-returns-then-text-at c = match_short c.loop-i.invariant c.loop-i-test.true c.if-text-at.true
-
-pub returns-then-text-at-2 : goal.returns-then-text-at-2
-returns-then-text-at-2 c = match_not c.loop-i.invariant c.loop-i-test.true c.if-text-at.false c.if-text-at-2.true
-
-pub loop-i-preserved : goal.loop-i-preserved
-loop-i-preserved c = match_on c.loop-i.invariant c.loop-i-test.true c.if-text-at.false c.if-text-at-2.false
-
-pub returns : goal.returns
-returns c = match_end c.loop-i.invariant c.loop-i-test.false c.after_blanks.ensures
+pub returns-in-None : goal.returns-in-None
+returns-in-None c =
+    let s = c.past_blanks.result.now in
+    let k = strip_prefix_is Decides-eqb s c.args.word.now c.strip_prefix.result c.strip_prefix.ensures.cases in
+    let n : (rest : List ℕ) → s ≡ c.args.word.now ++ rest → ⊥ = MatchOption-at_none ((rest : List ℕ) → s ≡ c.args.word.now ++ rest → ⊥) _ c.in-None.is k in
+    sole_none c.args.word.now c.args.text.now (λ rest f. n rest (c.past_blanks.ensures ∙ f))

@@ -4,4 +4,4 @@ use Rattle.sets.proofs.Laws.Stored.{single}
 use Rattle.sets.proofs.edge_set.EdgeSet.single.Goals as goal
 
 pub returns : goal.returns
-returns c = single c.args.a c.args.b
+returns c = single c.args.a c.args.b _

@@ -1,7 +1,0 @@
--- `revosti::pending::revosti_withdraw` meets its contract: the answer's number, and the marks that are left. Assumes
--- nothing.
-use Rattle.revosti.proofs.OutcomeAnswers.{resolved_in_c}
-use Rattle.revosti.proofs.pending.revosti_withdraw.Goals as goal
-
-pub returns : goal.returns
-returns c = resolved_in_c c.outcome_number.ensures c.withdraw.ensures

@@ -1,9 +1,0 @@
--- `rules::saving::longer` meets its contract. Assumes nothing.
-use native.Mathlib.Omega.{arith}
-use Rattle.rules.proofs.saving.longer.Goals as goal
-
-pub returns-then-a-b : goal.returns-then-a-b
-returns-then-a-b c = omega (arith, c.if-a-b.true)
-
-pub returns : goal.returns
-returns c = omega (arith, c.if-a-b.false)
