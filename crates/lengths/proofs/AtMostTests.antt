@@ -12,7 +12,7 @@ use lib.ListN.{length, get_or, drop, drop_of_length-le}
 use lib.Seq.{drop-cons}
 use borrow.Author.Tests.{le-leb, lt-leb, leb-true}
 use Rattle.lists.specs.Test.{all_at_most, AtMost, each_at_most}
-use Rattle.lists.proofs.Bools.{and_left, and_right, and_both}
+use Rattle.lists.proofs.Bools.{and_left, and_right, and_both, and_assoc}
 
 -- the loop of the test, at number i: `within` and the numbers that are left say what the test of all says
 pub record AtMostLoop (limit : ℕ) (xs : List ℕ) (within : Bool) (i : ℕ) : Type 0 where
@@ -57,17 +57,13 @@ pub record Ordering (lows highs : List ℕ) (within : Bool) (i : ℕ) : Type 0 w
   pub same : (within && each_at_most (drop i lows) (drop i highs)) ≡ each_at_most lows highs
 
 module _ {lows highs : List ℕ} {within : Bool} {i : ℕ} (at : Ordering lows highs within i) where
-  -- one turn, by the way that its branch went: A, a number above its own limit decides; B, any other changes nothing
-  pub ordering_on : {next : Bool} {v w : ℕ} {A B : Type 0} → length lows ≡ length highs → i < length lows → v ≡ get_or lows i 0 → w ≡ get_or highs i 0
-      → (A → w < v) → (B → v ≤ w) → (A × (next ≡ false)) ⊎ (B × (next ≡ within)) → Ordering lows highs next (i + 1)
+  -- one turn: a number above its own limit decides, any other changes nothing
+  pub ordering_on : {v w : ℕ} → length lows ≡ length highs → i < length lows → v ≡ get_or lows i 0 → w ≡ get_or highs i 0
+      → Ordering lows highs (within && leb v w) (i + 1)
   unfolding each_at_most
-  ordering_on {v = v} {w} z h low high above below (inl (a, e)) = record {
+  ordering_on {v} {w} z h low high = record {
     inside = omega arith;
-    same = rw e (rw (drop-cons lows i 0 h, drop-cons highs i 0 (omega arith), lt-leb (get_or lows i 0) (get_or highs i 0) (omega (arith, low, high, above a)), and-false) at at.same);
-  }
-  ordering_on {v = v} {w} z h low high above below (inr (b, e)) = record {
-    inside = omega arith;
-    same = rw (e, add-one) (rw (drop-cons lows i 0 h, drop-cons highs i 0 (omega arith), le-leb (get_or lows i 0) (get_or highs i 0) (omega (arith, low, high, below b))) at at.same);
+    same = rw (low, high, add-one, ← and_assoc) (rw (drop-cons lows i 0 h, drop-cons highs i 0 (omega arith)) at at.same);
   }
 
   pub ordering_done : length lows ≤ i → within ≡ each_at_most lows highs

@@ -58,19 +58,20 @@ module _ {n at v low high : ℕ} {table rows r : List ℕ} (p : RowPart n table 
 
 -- the points below v
 
--- `from` is the place of xv, plus 1, where x is below v
-pub record Below (n : ℕ) (table rows : List ℕ) (at v : ℕ) (r : List ℕ) (from x : ℕ) : Type 0 where
+-- `from` is the place of xv, plus 1, where x is below v, and `step` is n - x
+pub record Below (n : ℕ) (table rows : List ℕ) (at v : ℕ) (r : List ℕ) (from step x : ℕ) : Type 0 where
   pub part : RowPart n table rows at v 1 x r
   pub low : 1 ≤ x
   pub high : x ≤ v
   pub here : from + tri (n + 1 - x) ≡ tri n + (v - x)
+  pub left : step + x ≡ n
 
-pub below_start : {n at v : ℕ} {table rows : List ℕ} → RowFillable n table rows at v → Below n table rows at v rows (v - 1) 1
+pub below_start : {n at v : ℕ} {table rows : List ℕ} → RowFillable n table rows at v → Below n table rows at v rows (v - 1) (n - 1) 1
 below_start {n} {at} {v} f =
     let e : n + 1 - 1 ≡ n = omega arith in
-    record { part = no_part n _ _ at v 1; low = omega arith; high = f.point.low; here = omega (arith, ap tri e) }
+    record { part = no_part n _ _ at v 1; low = omega arith; high = f.point.low; here = omega (arith, ap tri e); left = omega (arith, f.point) }
 
-module _ {n at v from x : ℕ} {table rows r : List ℕ} (f : RowFillable n table rows at v) (b : Below n table rows at v r from x) (h : x < v) where
+module _ {n at v from step x : ℕ} {table rows r : List ℕ} (f : RowFillable n table rows at v) (b : Below n table rows at v r from step x) (h : x < v) where
   below_edge : IsEdgeUp n x v
   below_edge = record { low = b.low; up = h; high = f.point.high }
 
@@ -83,7 +84,7 @@ module _ {n at v from x : ℕ} {table rows r : List ℕ} (f : RowFillable n tabl
   pub below_room : at + x < length r
   below_room = omega (arith, b.part.size, f.room, f.point)
 
-  pub below_more : {d : ℕ} → d ≡ get_or table (from - 1) 0 → Below n table rows at v (set r (at + x) d) (from + (n - x - 1)) (x + 1)
+  pub below_more : {d : ℕ} → d ≡ get_or table (from - 1) 0 → Below n table rows at v (set r (at + x) d) (from + (step - 1)) (step - 1) (x + 1)
   below_more is =
       let t : n + 1 - (x + 1) ≡ n - x = omega arith in
       let i : from - 1 ≡ place_up n x v = omega (arith, below_place) in
@@ -91,7 +92,8 @@ module _ {n at v from x : ℕ} {table rows r : List ℕ} (f : RowFillable n tabl
         part = part_more b.part b.low below_room (is ∙ ap (λ (j : ℕ). get_or table j 0) i ∙ sym (length_up n table x v h) ∙ length_symmetric n table x v);
         low = omega arith;
         high = omega arith;
-        here = omega (arith, b.here, ap tri t, tri_row n x (omega (arith, f.point)), f.point);
+        here = omega (arith, b.here, b.left, ap tri t, tri_row n x (omega (arith, f.point)), f.point);
+        left = omega (arith, b.left, f.point);
       }
 
 -- the points above v

