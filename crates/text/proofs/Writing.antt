@@ -1,11 +1,12 @@
 -- Texts written to a buffer one after another. Assumes nothing.
-use Prim.Native.Nat.{ℕ, ◌+◌}
-use mathlib.Core.Path.{◌≡◌, refl, sym, ◌∙◌, ap}
-use mathlib.Core.List.{List, [], ◌++◌, append_assoc, append-nil}
-use native.Mathlib.Nat.{add-zero}
+use Prim.Native.Nat.{ℕ, ◌+◌, ◌≤◌, ◌<◌}
+use mathlib.Core.Path.{◌≡◌, refl, sym, ◌∙◌, ap, subst}
+use mathlib.Core.List.{List, [], ◌∷◌, ◌++◌, append_assoc, append-nil}
+use native.Mathlib.Nat.{add-zero, add_assoc}
+use native.Mathlib.Numerals.{add-one}
 use native.Mathlib.Omega.{arith}
-use lib.ListN.{length, take, drop, length-append}
-use lib.Seq.{drop-drop, length-paste}
+use lib.ListN.{length, take, drop, get_or, set, length-append, length-set}
+use lib.Seq.{take-suc, take-suc-set, take-length, drop-set-lt, drop-drop, length-paste}
 use borrow.Rule.Slice.PartMut.{put_mid}
 use Rattle.std.proofs.lemmas.Slice.{take-put_mid, drop-put_mid, put_mid-paste}
 use Rattle.text.specs.Words.{Room, Wrote}
@@ -51,6 +52,36 @@ wrote_part {out} {at} {k} {r} {t} {ys} p e h n =
       rest = drop-put_mid at k out ys r (omega arith) (omega (arith, p.room)) (omega (arith, ap length h));
       kept = whole ∙ length-paste out at t (length t) (omega (arith, p.room)) (omega arith);
     }
+
+-- one byte
+pub wrote_one : (out : List ℕ) (at b : ℕ) → at < length out → Wrote out at (b ∷ []) (at + 1) (set out at b)
+wrote_one out at b h = record { next = refl; front = rw add-one (take-suc-set out at b h); rest = drop-set-lt (at + 1) out at b (omega arith); kept = length-set out at b }
+
+-- the loop over a word: i bytes of it are written
+pub record Copying (out : List ℕ) (at : ℕ) (word : List ℕ) (i : ℕ) (left : List ℕ) : Type 0 where
+  pub inside : i ≤ length word
+  pub wrote : Wrote out at (take i word) (at + i) left
+
+pub copy_none : (out : List ℕ) (at : ℕ) (word : List ℕ) → Copying out at word 0 out
+copy_none out at word = record {
+  inside = omega arith;
+  wrote = rw add-zero (wrote_none out at);
+}
+
+pub copy_more : {out : List ℕ} {at : ℕ} {word : List ℕ} {i : ℕ} {left : List ℕ} → Room out at word → Copying out at word i left → i < length word
+    → Copying out at word (i + 1) (set left (at + i) (get_or word i 0))
+copy_more {out} {at} {word} {i} {left} p c h =
+    let k : at + i < length left = omega (arith, p.room, c.wrote.kept) in
+    record {
+      inside = omega arith;
+      wrote = rw (add-one i, take-suc word i 0, ← add-one i, ← add_assoc) (wrote_both c.wrote (wrote_one left (at + i) (get_or word i 0) k));
+    }
+
+pub copy_done : {out : List ℕ} {at : ℕ} {word : List ℕ} {i : ℕ} {left : List ℕ} → Copying out at word i left → length word ≤ i → Wrote out at word (at + length word) left
+copy_done {out} {at} {word} {i} {left} c h =
+    let e : i ≡ length word = omega (arith, c.inside) in
+    let t : take i word ≡ word = ap (λ (j : ℕ). take j word) e ∙ take-length word in
+    subst (λ (j : ℕ). Wrote out at word (at + j) left) e (rw t at c.wrote)
 
 -- three texts in a row
 pub length_three : (t u v : List ℕ) → length (t ++ u ++ v) ≡ length t + length u + length v
