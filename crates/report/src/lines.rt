@@ -1,19 +1,17 @@
 // The program's lines, each into a buffer at a place; each answers the next place.
-ghost use Rattle.std.specs.Prelude.{◌≡◌, ◌≤◌};
+ghost use Rattle.std.specs.Prelude.{◌≤◌};
 ghost use Rattle.lengths.specs.Instance.{most_points};
-ghost use Rattle.lengths.specs.Refusal.{refusal_number};
 ghost use Rattle.marks.specs.Packed.{marks_of};
 ghost use Rattle.text.specs.Words.{Room, Wrote};
 ghost use Rattle.report.specs.Lines.{points_line, struck_line, mark_line, struck_lines, verdict_line, last_line, all_lines};
-ghost use Rattle.report.specs.asks.Lines.{told, Large, StrikesAsked, LinesAsked};
+ghost use Rattle.report.specs.asks.Lines.{Large, StrikesAsked, LinesAsked};
 
 use lengths::edge;
 use lengths::edge::{NextEdge, following};
-use lengths::refusal::{NO_RECORD, Refusal};
+use lengths::refusal::NO_RECORD;
 use marks::counting::open_edges;
 use marks::mark;
 use marks::mark::open_at;
-use sheets::verdict::Verdict;
 use text::decimal::put_field;
 use text::words::put_word;
 
@@ -66,16 +64,6 @@ fn put_strikes(n: u16, marks: &[u8], out: &mut [u8], at: usize) -> usize
     next
 }
 
-// What the last line tells of a verdict: the number of the refusal and its record, 0 and 0 where all was accepted.
-fn told(verdict: Verdict) -> (u8, u16)
-    ensures { result ≡ told verdict }
-{
-    match verdict {
-        Ok(_) => (0, NO_RECORD),
-        Err(stopped) => (stopped.refused.refusal.number(), stopped.refused.at),
-    }
-}
-
 // The last line: refusal number or 0, its record or 0, edges open.
 fn put_verdict(number: u8, rec: u16, opens: u16, out: &mut [u8], at: usize) -> usize
     requires { Room out.old at (verdict_line number rec opens) }
@@ -87,20 +75,19 @@ fn put_verdict(number: u8, rec: u16, opens: u16, out: &mut [u8], at: usize) -> u
     put_word(b"\n", out, next)
 }
 
-// Only the last line, with open 0.
-pub fn put_refusal(refusal: Refusal, out: &mut [u8]) -> usize
+// Only the last line, with open 0. The number is any byte.
+pub fn put_refusal(number: u8, out: &mut [u8]) -> usize
     requires { Large out.old }
-    ensures { Wrote out.old 0 (last_line (refusal_number refusal)) result out.new }
+    ensures { Wrote out.old 0 (last_line number) result out.new }
 {
-    put_verdict(refusal.number(), NO_RECORD, 0, out, 0)
+    put_verdict(number, NO_RECORD, 0, out, 0)
 }
 
-// All lines.
-pub fn put_all(n: u16, verdict: Verdict, marks: &[u8], out: &mut [u8]) -> usize
+// All lines, the last with any number and any record.
+pub fn put_all(n: u16, number: u8, rec: u16, marks: &[u8], out: &mut [u8]) -> usize
     requires { LinesAsked n (marks_of n marks.now) out.old }
-    ensures { Wrote out.old 0 (all_lines n (told verdict).0 (told verdict).1 (marks_of n marks.now)) result out.new }
+    ensures { Wrote out.old 0 (all_lines n number rec (marks_of n marks.now)) result out.new }
 {
-    let (number, rec) = told(verdict);
     let opens = open_edges(n, marks);
     let mut next = put_points(n, out, 0);
     next = put_strikes(n, marks, out, next);

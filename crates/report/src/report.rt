@@ -1,4 +1,5 @@
 // The whole text for an input: the file's tests, measuring, marking, and the lines.
+ghost use Rattle.std.specs.Prelude.{◌≡◌};
 ghost use Rattle.endian.specs.Bytes.{whole16, whole32};
 ghost use Rattle.marks.specs.Fresh.{fresh_marks};
 ghost use Rattle.marks.specs.Packed.{marks_of};
@@ -6,6 +7,7 @@ ghost use Rattle.marking.specs.Mark.{mark_sheet};
 ghost use Rattle.text.specs.Words.{Wrote};
 ghost use Rattle.report.specs.Header.{coordinates_in, records_in};
 ghost use Rattle.report.specs.Report.{marked_text, measured_text, Reported};
+ghost use Rattle.report.specs.asks.Lines.{told};
 ghost use Rattle.report.specs.asks.Report.{MarkingAsked, InstanceAsked, Places};
 
 use crate::header::Header;
@@ -13,16 +15,28 @@ use crate::lines::{put_all, put_refusal};
 use lengths::edge;
 use lengths::instance::Instance;
 use lengths::measure::measure;
+use lengths::refusal::NO_RECORD;
 use marking::mark::mark_sheet;
 use marks::fresh::fresh_marks;
 use marks::packed;
 use marks::packed::PER_BYTE;
+use sheets::verdict::Verdict;
 
 // Room for every text: MOST_EDGES lines of at most 15 bytes, and two more.
 pub const TEXT: usize = 262_144;
 
 // The bytes of the packed set of most points.
 const MOST_SET: usize = (Instance::MOST_EDGES + 3) / PER_BYTE;
+
+// What the last line tells of a verdict: the number of the refusal and its record, 0 and 0 where all was accepted.
+fn told(verdict: Verdict) -> (u8, u16)
+    ensures { result ≡ told verdict }
+{
+    match verdict {
+        Ok(_) => (0, NO_RECORD),
+        Err(stopped) => (stopped.refused.refusal.number(), stopped.refused.at),
+    }
+}
 
 // The text of the records: marks them from fresh marks on, which a set of the right size is never refused, and writes
 // all lines.
@@ -34,7 +48,8 @@ fn mark_records(n: u16, table: &[u8], records: &[u8], marks: &mut [u8], out: &mu
 {
     fresh_marks(n as u32, marks).unwrap();
     let verdict = mark_sheet(n as u32, table, marks, records);
-    put_all(n, verdict, marks, out)
+    let (number, rec) = told(verdict);
+    put_all(n, number, rec, marks, out)
 }
 
 // The text of an instance whose header was read: measures it, and goes on with its records.
@@ -54,7 +69,7 @@ fn measure_file(
     let body = Header::BYTES + Header::POINT_BYTES * (n as usize);
     match measure(n as u32, rule, &file[Header::BYTES..body], table) {
         Ok(()) => mark_records(n, table, &file[body..], marks, out),
-        Err(refused) => put_refusal(refused.refusal, out),
+        Err(refused) => put_refusal(refused.refusal.number(), out),
     }
 }
 
@@ -77,6 +92,6 @@ pub fn report(file: &[u8], out: &mut [u8; TEXT]) -> usize
 {
     match Header::read(file) {
         Ok(header) => report_instance(header.rule, header.points, file, out),
-        Err(refusal) => put_refusal(refusal, out),
+        Err(refusal) => put_refusal(refusal.number(), out),
     }
 }

@@ -1,6 +1,6 @@
 -- `report::report::measure_file` meets its contract: each answer of measuring has its lemma in `Measurings`.
 -- Assumes nothing.
-use mathlib.Core.Path.{◌∙◌, ap}
+use mathlib.Core.Path.{◌∙◌, ap, sym}
 use lib.ListN.{length}
 use Rattle.report.proofs.Measurings.{wrote_refused, wrote_done}
 use Rattle.report.proofs.Sheets.{coordinates_read, coordinates_size}
@@ -14,7 +14,7 @@ pub returns-in-Err : goal.returns-in-Err
 returns-in-Err c =
     wrote_refused c.args.n c.args.rule c.args.file.now c.requires.instance_asked.range
     (coordinates_read c.args.n c.args.file.now) (ap length (coordinates_read c.args.n c.args.file.now) ∙ coordinates_size c.args.n c.args.file.now c.requires.instance_asked.whole)
-    c.requires.places.measured c.measure.ensures c.in-Err.is c.put_refusal.ensures
+    c.requires.places.measured c.measure.ensures c.in-Err.is (rw (sym c.number.ensures) c.put_refusal.ensures)
 
 pub returns-in-Ok : goal.returns-in-Ok
 returns-in-Ok c =

@@ -9,7 +9,7 @@ pub report_instance-requires : goal.report_instance-requires
 report_instance-requires c = header_asked (sym c.read.ensures ∙ c.in-Ok.is) (search rules)
 
 pub returns-in-Err : goal.returns-in-Err
-returns-in-Err c = reported c.args.file.now (sym c.read.ensures ∙ c.in-Err.is) c.put_refusal.ensures
+returns-in-Err c = reported c.args.file.now (sym c.read.ensures ∙ c.in-Err.is) (rw (sym c.number.ensures) c.put_refusal.ensures)
 
 pub returns-in-Ok : goal.returns-in-Ok
 returns-in-Ok c = reported c.args.file.now (sym c.read.ensures ∙ c.in-Ok.is) c.report_instance.ensures
