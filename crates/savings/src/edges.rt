@@ -6,7 +6,7 @@ ghost use Rattle.savings.specs.Edges.{is_edge};
 use lengths::instance::is_point;
 
 // Is ab an edge of n points?
-fn is_edge(n: u16, a: u16, b: u16) -> bool
+pub fn is_edge(n: u16, a: u16, b: u16) -> bool
     ensures { result ≡ is_edge n a b }
 {
     is_point(n, a) && is_point(n, b) && a != b
