@@ -46,10 +46,12 @@ impl Buffer {
     }
 
     // Adds a text, up to the closing quote; behind a backslash, n is a newline, and a backslash and a quote are
-    // themselves. Answers what stands behind the quote.
+    // themselves. Answers what stands behind the quote. A text that fills the buffer is none.
     fn quoted<'a>(&mut self, text: &'a [u8]) -> Option<&'a [u8]> {
         let mut rest = text;
-        while let [first, behind @ ..] = rest {
+        while self.size < MOST
+            && let [first, behind @ ..] = rest
+        {
             rest = behind;
             match (*first, behind) {
                 (b'"', _) => return Some(behind),

@@ -3,7 +3,6 @@ use crate::tally::{Fault, Tally};
 use example_calls::calls::{Answer, call};
 use example_text::arguments::{Slots, expected, given};
 use example_text::signatures::find;
-use std::io;
 
 // Runs an example. A buffer that is not named behind the answer should be as it is.
 fn example(line: &[u8], slots: &mut Slots) -> Result<(), Fault> {
@@ -27,7 +26,7 @@ fn example(line: &[u8], slots: &mut Slots) -> Result<(), Fault> {
 }
 
 // Runs the examples, a line at a time, and counts them. A line that is empty or begins with # has no example.
-pub fn run(rt: &impl Print, input: &[u8]) -> io::Result<()> {
+pub fn run(rt: &impl Print, input: &[u8]) {
     let mut slots = Slots::EMPTY;
     let mut tally = Tally::default();
     for (i, text) in input.split_inclusive(|x| *x == b'\n').enumerate() {
@@ -39,7 +38,7 @@ pub fn run(rt: &impl Print, input: &[u8]) -> io::Result<()> {
             Some(line) => example(line, &mut slots),
             None => Err(Fault::NoNewline),
         };
-        tally.count(rt, i + 1, example)?;
+        tally.count(rt, i + 1, example);
     }
-    println!(rt; "{tally}")
+    let _ = println!(rt; "{tally}");
 }

@@ -1,5 +1,5 @@
 // What came of the lines: told where it is not what it should be, and counted.
-use std::{fmt, io};
+use std::fmt;
 
 // What is wrong with a line: another answer; another buffer; or what of it cannot be read.
 #[derive(Clone, Copy)]
@@ -35,19 +35,14 @@ pub struct Tally {
 }
 
 impl Tally {
-    // Counts an example, the one of a line, and tells what is wrong with it.
-    pub fn count(
-        &mut self,
-        rt: &impl Print,
-        line: usize,
-        example: Result<(), Fault>,
-    ) -> io::Result<()> {
+    // Counts an example, the one of a line, and tells what is wrong with it. Where that cannot be written the others
+    // are counted all the same.
+    pub fn count(&mut self, rt: &impl Print, line: usize, example: Result<(), Fault>) {
         self.examples = self.examples.saturating_add(1);
         if let Err(fault) = example {
             self.wrong = self.wrong.saturating_add(1);
-            println!(rt; "line {line}: {fault}")?;
+            let _ = println!(rt; "line {line}: {fault}");
         }
-        Ok(())
     }
 }
 

@@ -2,8 +2,8 @@
 use Rattle.std.proofs.Common.{length}
 use Rattle.example_text.proofs.values.Buffer.quoted.Given as goal
 
-abbrev pub invariant-loop-rest : goal.invariant-loop-rest
-invariant-loop-rest l = Unit {0}
+abbrev pub invariant-loop-self : goal.invariant-loop-self
+invariant-loop-self l = Unit {0}
 
-abbrev pub decreases-loop-rest : goal.decreases-loop-rest
-decreases-loop-rest l = length l.rest
+abbrev pub decreases-loop-self : goal.decreases-loop-self
+decreases-loop-self l = length l.rest
